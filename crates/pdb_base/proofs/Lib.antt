@@ -1,0 +1,11 @@
+pub mod Passing
+pub mod Numbers
+pub mod Places
+pub mod Variants
+pub mod Tilings
+pub mod Ranges
+pub mod PageLemmas
+pub mod Views
+pub mod Nums
+pub mod HeadLemmas
+pub mod OpenLemmas

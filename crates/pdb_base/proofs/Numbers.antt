@@ -1,0 +1,67 @@
+-- Numbers by their bytes.
+use Rattle.std.proofs.Common.{◌≡◌, min, ℕ, ◌+◌, ◌*◌, ◌^◌, ◌<◌, ◌≤◌, List, length, get_or, take, drop, Some, None, position, ap, sym, ◌∙◌, Ok, Err, refl, inl, inr, arith, rules, length-take, length-drop}
+use Rattle.std.proofs.lemmas.Bool.Decides.{nat_tests}
+use Rattle.std.specs.Prelude.{◌==◌}
+use Rattle.std.proofs.lemmas.List.{drop_all}
+use Rattle.std.proofs.lemmas.Bool.{cases_lt}
+use Rattle.pdb_base.specs.declared.error.Error.TheVariants.{UnexpectedEof}
+use Rattle.pdb_base.specs.Fields.{number, number_at, bytes_at, cut_at, cstring_at}
+
+pub number_there : (b : List ℕ) (p w n : ℕ) → p + w ≤ length b → n ≡ number b p w → number_at b p w ≡ Ok n
+unfolding number_at
+number_there b p w n h e = grind (arith, nat_tests)
+
+pub number_not : (b : List ℕ) (p w : ℕ) → length b < p + w → number_at b p w ≡ Err UnexpectedEof
+unfolding number_at
+number_not b p w h = grind (arith, nat_tests)
+
+pub bytes_there : (b : List ℕ) (p n : ℕ) → p + n ≤ length b → bytes_at b p n ≡ Ok (take n (drop p b))
+unfolding bytes_at
+bytes_there b p n h = grind (arith, nat_tests)
+
+pub bytes_not : (b : List ℕ) (p n : ℕ) → length b < p + n → bytes_at b p n ≡ Err UnexpectedEof
+unfolding bytes_at
+bytes_not b p n h = grind (arith, nat_tests)
+
+pub number_1 : (b : List ℕ) (p : ℕ) → get_or b p 0 ≡ number b p 1
+unfolding number
+number_1 b p = grind arith
+
+pub number_2 : (b : List ℕ) (p : ℕ) → get_or b p 0 + get_or b (p + 1) 0 * 256 ≡ number b p 2
+unfolding number
+number_2 b p = grind arith
+
+pub number_4 : (b : List ℕ) (p : ℕ) → get_or b p 0 + get_or b (p + 1) 0 * 256 + get_or b (p + 2) 0 * 65536 + get_or b (p + 3) 0 * 16777216 ≡ number b p 4
+unfolding number
+number_4 b p = grind arith
+
+pub number_8 : (b : List ℕ) (p : ℕ) → get_or b p 0 + get_or b (p + 1) 0 * 256 + get_or b (p + 2) 0 * 65536 + get_or b (p + 3) 0 * 16777216
+    + get_or b (p + 4) 0 * 256 ^ 4 + get_or b (p + 5) 0 * 256 ^ 5 + get_or b (p + 6) 0 * 256 ^ 6 + get_or b (p + 7) 0 * 256 ^ 7 ≡ number b p 8
+unfolding number
+number_8 b p = grind arith
+
+pub cstring_there : (b rest name : List ℕ) (p n : ℕ) → rest ≡ drop p b → position (λ x. x == 0) rest ≡ Some n → n < length rest → name ≡ take n rest → (cstring_at b p ≡ Ok name) × (length name ≡ n)
+unfolding cstring_at
+cstring_there b rest name p n r e h q =
+    let k = ap (cut_at (drop p b)) (rw r at e) in
+    (k ∙ ap Ok (rw (← r) (sym q)), rw q (simp length-take (omega arith)))
+
+pub cstring_not : (b rest : List ℕ) (p : ℕ) → rest ≡ drop p b → position (λ x. x == 0) rest ≡ None → cstring_at b p ≡ Err UnexpectedEof
+unfolding cstring_at
+cstring_not b rest p r e = ap (cut_at (drop p b)) (rw r at e)
+
+-- what is read has as many bytes as were asked for
+pub length_bytes : (b : List ℕ) (p n : ℕ) (s : List ℕ) → bytes_at b p n ≡ Ok s → length s ≡ n
+unfolding bytes_at
+length_bytes b p n s e = elim (cases_lt (length b) (p + n)) [
+  | inl h ↦ (let k = bytes_not b p n h in cc)
+  | inr h ↦ (let k = bytes_there b p n h in let q : take n (drop p b) ≡ s = cc in rw (← q) (simp (length-take, length-drop) (omega arith)))
+]
+
+-- past the end stands what stands at the end: nothing
+pub cstring_within : (b : List ℕ) (p q : ℕ) → q ≡ min p (length b) → cstring_at b q ≡ cstring_at b p
+unfolding cstring_at
+cstring_within b p q e = elim (cases_lt (length b) p) [
+  | inl h ↦ (let f : q ≡ length b = omega arith in rw (f, drop_all (length b) b (omega arith), drop_all p b (omega arith)) refl)
+  | inr h ↦ (let f : q ≡ p = omega arith in rw f refl)
+]

@@ -1,0 +1,45 @@
+use Rattle.std.proofs.Common.{arith, ap, refl, length}
+use Rattle.std.proofs.lemmas.Result.{err_from_is_err_and}
+use Rattle.pdb_base.specs.Heads.{head}
+use Rattle.pdb_base.proofs.Passing.{unsteady_before}
+use Rattle.pdb_base.proofs.OpenLemmas.{list-length, open-head_fails, open-list_fails, open-directory_fails, open-done, opens-done}
+use Rattle.pdb_base.proofs.msf.Msf.open.Goals as goal
+
+pub returns-in_err-head-clause-opened : goal.returns-in_err-head-clause-opened
+returns-in_err-head-clause-opened g c =
+    let p = err_from_is_err_and c.from_residual.result c.from_residual.ensures.1 in
+    rw (p.1, p.2) (open-head_fails _ _ c.in_err-head.field-0.0 (g.S.Meaning.state c.args.source).file (λ m. m.unsteady) c.in_err-head.ensures.head)
+
+pub returns-in_err-list-clause-opened : goal.returns-in_err-list-clause-opened
+returns-in_err-list-clause-opened g c =
+    let p = err_from_is_err_and c.from_residual-in_err-list.result c.from_residual-in_err-list.ensures.1 in
+    rw (p.1, p.2) (open-list_fails _ _ c.in_err-list.field-0.0 (g.S.Meaning.state c.args.source).file (head c.in_ok-head.head) c.in_ok-head.ensures.head (λ m. unsteady_before _ _ c.in_ok-head.ensures.continues m.unsteady) (rw c.in_ok-head.ensures.continues.file at c.in_err-list.ensures.list))
+
+pub view_pages-requires : goal.view_pages-requires
+view_pages-requires g c κs =
+    let n = list-length _ (head c.in_ok-head.head) _ c.in_ok-list.ensures.list in
+    ((refl, tt), (omega (arith, c.in_ok-head.ensures.size.0), (omega arith, omega (arith, n, ap length c.as_slice.ensures))))
+
+pub returns-in_err-directory-clause-opened : goal.returns-in_err-directory-clause-opened
+returns-in_err-directory-clause-opened g c =
+    let p = err_from_is_err_and c.from_residual-in_err-directory.result c.from_residual-in_err-directory.ensures.1 in
+    let f1 = c.in_ok-head.ensures.continues.file in
+    let f2 = c.in_ok-list.ensures.continues.file in
+    rw (p.1, p.2) (open-directory_fails _ _ c.in_err-directory.field-0.0 (g.S.Meaning.state c.args.source).file (head c.in_ok-head.head) _ c.in_ok-head.ensures.head (rw f1 at c.in_ok-list.ensures.list)
+    (λ m. unsteady_before _ _ c.in_ok-head.ensures.continues (unsteady_before _ _ c.in_ok-list.ensures.continues m.unsteady)) (rw (c.as_slice.ensures, f2, f1) at c.in_err-directory.ensures.bytes))
+
+pub invariant_of-result : goal.invariant_of-result
+invariant_of-result g c =
+    let f1 = c.in_ok-head.ensures.continues.file in
+    let f2 = c.in_ok-list.ensures.continues.file in
+    let f3 = c.in_ok-directory.ensures.continues.file in
+    record {
+      opened = rw (f3, f2, f1) (open-done (g.S.Meaning.state c.args.source).file (head c.in_ok-head.head) _ _ c.in_ok-head.ensures.head (rw f1 at c.in_ok-list.ensures.list) (rw (c.as_slice.ensures, f2, f1) at c.in_ok-directory.ensures.bytes));
+      large = c.in_ok-head.ensures.size.0;
+    }
+
+pub returns-clause-opened : goal.returns-clause-opened
+returns-clause-opened g c =
+    let f1 = c.in_ok-head.ensures.continues.file in
+    let f2 = c.in_ok-list.ensures.continues.file in
+    opens-done _ _ (open-done (g.S.Meaning.state c.args.source).file (head c.in_ok-head.head) _ _ c.in_ok-head.ensures.head (rw f1 at c.in_ok-list.ensures.list) (rw (c.as_slice.ensures, f2, f1) at c.in_ok-directory.ensures.bytes))

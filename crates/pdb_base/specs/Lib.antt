@@ -1,0 +1,14 @@
+pub mod Refusal
+pub mod Fields
+pub mod Places
+pub mod Cursor
+pub mod Text
+pub mod Index
+pub mod Left
+pub mod Tiling
+pub mod Source
+pub mod Container
+pub mod Joined
+pub mod Heads
+pub mod StringTable
+pub mod SectionHeader

@@ -1,0 +1,30 @@
+-- The header of a section of an image: 40 bytes.
+use Rattle.std.specs.Prelude.{ℕ, ◌+◌, List, length, take, drop, Result, Ok, Err, nat_le, ◌==◌, position, if◌then◌else◌}
+use Rattle.std.specs.Option.{unwrap_or}
+use Rattle.pdb_base.specs.declared.error.Error.{Error}
+use Rattle.pdb_base.specs.declared.error.Error.TheVariants.{UnexpectedEof}
+use Rattle.pdb_base.specs.declared.section_header.ImageSectionHeader.{ImageSectionHeader}
+use Rattle.pdb_base.specs.Fields.{number}
+
+-- the fields of the header of which the bytes are h
+abbrev pub header_of : List ℕ → ImageSectionHeader
+header_of h = record {
+  name = take 8 h;
+  virtual_size = number h 8 4;
+  virtual_address = number h 12 4;
+  size_of_raw_data = number h 16 4;
+  pointer_to_raw_data = number h 20 4;
+  pointer_to_relocations = number h 24 4;
+  pointer_to_line_numbers = number h 28 4;
+  number_of_relocations = number h 32 2;
+  number_of_line_numbers = number h 34 2;
+  characteristics = record { 0 = number h 36 4 };
+}
+
+-- the header that stands at p
+unfoldable pub header_at : List ℕ → ℕ → Result ImageSectionHeader Error
+header_at b p = if nat_le (p + 40) (length b) then Ok (header_of (take 40 (drop p b))) else Err UnexpectedEof
+
+-- the bytes of a header's name before the first zero byte, or all eight
+abbrev pub name_of : ImageSectionHeader → List ℕ
+name_of h = take (unwrap_or (position (λ x. x == 0) h.name) 8) h.name

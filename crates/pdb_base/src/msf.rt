@@ -1,0 +1,103 @@
+//! An opened file.
+
+ghost use Rattle.std.specs.Prelude.{◌≡◌, ℕ, ◌+◌, ◌*◌, ◌<◌, ◌≤◌, ◌^◌, List, length, true, false, IfOk};
+ghost use Rattle.pdb_base.specs.Refusal.{Gives};
+ghost use Rattle.pdb_base.specs.Source.{State, Continues, MayFail, view_bytes};
+ghost use Rattle.pdb_base.specs.Container.{opens, stream_of, limited as limited_size};
+
+use crate::directory::{pages_at, read_head, read_list, size_of};
+use crate::error::Result;
+use crate::pages::view_pages;
+use crate::source::{Meaning, Source, View};
+use crate::stream::Stream;
+use std::alloc::Global;
+use std::marker::Model;
+
+/// The container of an opened file.
+#[derive(Drop)]
+pub struct Msf<'s, S: Meaning> {
+    alloc: Global,
+    source: S,
+    page_size: u32,
+    pages_used: u32,
+    directory: View<'s>,
+}
+
+impl<'s, S: Meaning> Model for Msf<'s, S> {
+    ghost use Rattle.pdb_base.specs.Source.{State, view_bytes};
+    ghost use Rattle.pdb_base.specs.Container.{IsOpened};
+
+    ghost Value = { State };
+
+    ghost view = { λ m. S.state m.source };
+
+    ghost invariant = { λ m. IsOpened (S.state m.source).file m.page_size m.pages_used (view_bytes m.directory) };
+}
+
+fn limited(limit: Option<u32>, size: u32) -> u32
+    ensures { result ≡ limited_size limit size }
+{
+    match limit {
+        None => size,
+        Some(limit) => limit.min(size),
+    }
+}
+
+impl<'s, S: Source<'s>> Msf<'s, S> {
+    /// Opens a file.
+    pub fn open(alloc: Global, source: S) -> Result<Self>
+        ensures continues { IfOk result (λ m. Continues (S.state source) m) }
+        ensures opened { Gives (λ _. tt) ((S.state source).steady ≡ false) result (opens (S.state source).file) }
+    {
+        let mut source = source;
+        let head = read_head(alloc, &mut source)?;
+        let list = read_list(alloc, &mut source, head)?;
+        let directory = view_pages(
+            alloc,
+            &mut source,
+            list.as_slice(),
+            head.page_size,
+            head.pages_used,
+            head.directory_size as usize,
+        )?;
+        Ok(Msf {
+            alloc,
+            source,
+            page_size: head.page_size,
+            pages_used: head.pages_used,
+            directory,
+        })
+    }
+
+    /// The first bytes of a stream, as many as the limit says, or all.
+    pub fn get(&mut self, number: u32, limit: Option<u32>) -> Result<Stream<'s>>
+        ensures continues { Continues self.old self.new }
+        ensures bytes { Gives (λ s. s) (MayFail self.old self.new) result (stream_of self.old.file number limit) }
+    {
+        let directory = self.directory.as_slice();
+        let size = size_of(directory, number)?;
+        let size = limited(limit, size);
+        let list = pages_at(directory, self.page_size, number, size)?;
+        let view = view_pages(
+            self.alloc,
+            &mut self.source,
+            list,
+            self.page_size,
+            self.pages_used,
+            size as usize,
+        )?;
+        Ok(Stream::of(view))
+    }
+
+    pub fn failures(&self) -> u64
+        ensures { result ≡ self.now.failures }
+    {
+        self.source.failures()
+    }
+
+    pub fn steady(&self) -> bool
+        ensures { result ≡ self.now.steady }
+    {
+        self.source.steady()
+    }
+}
