@@ -9,3 +9,4 @@ pub mod Views
 pub mod Nums
 pub mod HeadLemmas
 pub mod OpenLemmas
+pub mod Fronts

@@ -130,3 +130,7 @@ opens file = open_of file >>= λ o. Ok tt
 pub record IsOpened (file : List ℕ) (page_size used : ℕ) (directory : List ℕ) : Type 0 where
   pub opened : open_of file ≡ Ok (record { page_size = page_size; pages_used = used; directory = directory })
   pub large : 256 ≤ page_size
+
+-- all page numbers of stream n, where they are there
+unfoldable pub page_numbers_of : List ℕ → ℕ → Result (List ℕ) Error
+page_numbers_of file n = open_of file >>= λ o. size_of o.directory n >>= λ size. pages_at o.directory o.page_size n size

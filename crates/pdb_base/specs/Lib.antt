@@ -4,6 +4,7 @@ pub mod Places
 pub mod Cursor
 pub mod Text
 pub mod Index
+pub mod SectionOrder
 pub mod Left
 pub mod Tiling
 pub mod Source

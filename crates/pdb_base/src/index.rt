@@ -3,7 +3,8 @@
 ghost use Rattle.std.specs.Prelude.{◌≡◌, ◌+◌, ◌%◌, ◌^◌, ◌≤◌, ◌<◌, ◌↔◌, ℕ, IsTrue, Some, None, refl};
 ghost use Rattle.std.specs.Option.{SomeIff};
 ghost use Rattle.std.proofs.Common.{rules};
-ghost use Rattle.pdb_base.specs.Index.{hex_of};
+ghost use Rattle.pdb_base.specs.SectionOrder.{section_laws};
+ghost use Rattle.pdb_base.specs.Index.{hex_of, by_section};
 
 use std::cmp::Ordering;
 use std::fmt;
@@ -176,5 +177,20 @@ impl Default for PdbInternalSectionOffset {
 
     fn default() -> Self {
         PdbInternalSectionOffset::new(0, 0)
+    }
+}
+
+/// Offsets compare only within one section.
+impl PartialOrd for PdbInternalSectionOffset {
+    ghost partial_cmp = { by_section };
+
+    ghost laws = { section_laws };
+
+    fn partial_cmp(&self, other: &PdbInternalSectionOffset) -> Option<Ordering> {
+        if self.section == other.section {
+            Some(self.offset.cmp(&other.offset))
+        } else {
+            None
+        }
     }
 }

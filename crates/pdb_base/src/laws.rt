@@ -1,11 +1,32 @@
 //! Laws of the definitions. Each is the contract of a function that does nothing.
 
-ghost use Rattle.std.specs.Prelude.{◌≡◌, ℕ, List};
+ghost use Rattle.std.specs.Prelude.{◌≡◌, ◌↔◌, ℕ, List, take, Some, None, Ok, Err};
 ghost use Rattle.pdb_base.specs.Left.{Left};
 ghost use Rattle.pdb_base.specs.Tiling.{Row, IsInside, IsListing, listing};
+ghost use Rattle.pdb_base.specs.Fields.{number_at, bytes_at, cstring_at, pascal_at};
+ghost use Rattle.pdb_base.specs.Places.{IsNumber, IsSlice, IsCString, IsPascal};
+ghost use Rattle.pdb_base.specs.Container.{stream_of, page_numbers_of};
+
+use crate::error::Error;
 
 /// Bytes have one list of each kind from each place on, and it is the one that the contracts name.
 pub fn one_listing()
     ensures is { (row : Row ℕ) (b : List ℕ) (p : ℕ) → IsInside row → IsListing row b p (listing row b p) }
     ensures only { (row : Row ℕ) (b : List ℕ) (p : ℕ) (left : Left ℕ) → IsInside row → IsListing row b p left → left ≡ listing row b p }
+{}
+
+/// What a read gives is what stands at the place: the number of so many bytes, that slice, the bytes before the
+/// least place of a zero byte, or as many bytes as the byte there says.
+pub fn fields_stand_at_their_places()
+    ensures number { (b : List ℕ) (p w n : ℕ) → (number_at b p w ≡ Ok n) ↔ IsNumber b p w n }
+    ensures slice { (b : List ℕ) (p n : ℕ) (s : List ℕ) → (bytes_at b p n ≡ Ok s) ↔ IsSlice b p n s }
+    ensures cstring { (b : List ℕ) (p : ℕ) (s : List ℕ) → (cstring_at b p ≡ Ok s) ↔ IsCString b p s }
+    ensures pascal { (b : List ℕ) (p : ℕ) (s : List ℕ) → (pascal_at b p ≡ Ok s) ↔ IsPascal b p s }
+{}
+
+/// Where a stream can be had whole, its front is its first bytes. Where all its page numbers are there, a number in
+/// the front that is no page's refuses both alike.
+pub fn front_is_the_beginning()
+    ensures beginning { (file : List ℕ) (n limit : ℕ) (bytes : List ℕ) → stream_of file n None ≡ Ok bytes → stream_of file n (Some limit) ≡ Ok (take limit bytes) }
+    ensures refusal { (file : List ℕ) (n limit page : ℕ) (pages : List ℕ) → page_numbers_of file n ≡ Ok pages → stream_of file n (Some limit) ≡ Err (Error.PageReferenceOutOfRange page) → stream_of file n None ≡ Err (Error.PageReferenceOutOfRange page) }
 {}

@@ -1,0 +1,14 @@
+use Rattle.pdb_base.proofs.Places.{number_is, is_number, slice_is, is_slice, cstring_is, is_cstring, pascal_is, is_pascal}
+use Rattle.pdb_base.proofs.laws.fields_stand_at_their_places.Goals as goal
+
+pub returns-clause-number : goal.returns-clause-number
+returns-clause-number c b p w n = (number_is b p w n, is_number b p w n)
+
+pub returns-clause-slice : goal.returns-clause-slice
+returns-clause-slice c b p n s = (slice_is b p n s, is_slice b p n s)
+
+pub returns-clause-cstring : goal.returns-clause-cstring
+returns-clause-cstring c b p s = (cstring_is b p s, is_cstring b p s)
+
+pub returns-clause-pascal : goal.returns-clause-pascal
+returns-clause-pascal c b p s = (pascal_is b p s, is_pascal b p s)
