@@ -83,9 +83,9 @@ open-positive file o e =
 
 ceil_mono : (e s P : ℕ) → 0 < P → e ≤ s → div_ceil e P ≤ div_ceil s P
 ceil_mono e s P pos le = elim (cases_lt (div_ceil s P) (div_ceil e P)) [
-    inl h ↦ (let b = before_ceil (div_ceil s P) e P pos h in let c = ceil_holds s P pos in absurd (omega arith))
+  | inl h ↦ (let b = before_ceil (div_ceil s P) e P pos h in let c = ceil_holds s P pos in absurd (omega arith))
   | inr h ↦ h
-  ]
+]
 
 guard_mono : (len at c d : ℕ) → c ≤ d → (nat_lt 0 d && nat_lt len (at + 4 * d)) ≡ false → (nat_lt 0 c && nat_lt len (at + 4 * c)) ≡ false
 guard_mono len at c d le h = grind (arith, nat_tests)
@@ -177,9 +177,9 @@ paged_front file P used pages e s bytes pos le h =
 
 take_min : (limit s : ℕ) (bytes : List ℕ) → length bytes ≡ s → take (min limit s) bytes ≡ take limit bytes
 take_min limit s bytes e = elim (cases_lt s limit) [
-    inl h ↦ (let m : min limit s ≡ s = omega arith in rw (m, take_all s bytes (omega arith), take_all limit bytes (omega arith)) refl)
+  | inl h ↦ (let m : min limit s ≡ s = omega arith in rw (m, take_all s bytes (omega arith), take_all limit bytes (omega arith)) refl)
   | inr h ↦ (let m : min limit s ≡ limit = omega arith in rw m refl)
-  ]
+]
 
 pub front_begins : (file : List ℕ) (n limit : ℕ) (bytes : List ℕ) → stream_of file n None ≡ Ok bytes → stream_of file n (Some limit) ≡ Ok (take limit bytes)
 unfolding stream_of front_of

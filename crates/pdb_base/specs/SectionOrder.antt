@@ -42,18 +42,18 @@ pub section_laws : IsPartialOrder same by_section
 section_laws = record {
   antisymm = λ x y. ap (λ b. cond b (Some (nat_cmp x.offset y.offset)) None) (nat_eq_equiv.symm x.section y.section) ∙ reversed (y.section == x.section) _ _ (nat_cmp_total.antisymm x.offset y.offset);
   trans = λ x y z p q.
-  let a = was_some (x.section == y.section) _ _ p in
-  let b = was_some (y.section == z.section) _ _ q in
-  let s : x.section ≡ z.section = eqb-true _ _ a.0 ∙ eqb-true _ _ b.0 in
-  let t : (x.section == z.section) ≡ true = eq-eqb x.section z.section s in
-  rw t (ap Some (nat_cmp_total.trans x.offset y.offset z.offset a.1 b.1));
+      let a = was_some (x.section == y.section) _ _ p in
+      let b = was_some (y.section == z.section) _ _ q in
+      let s : x.section ≡ z.section = eqb-true _ _ a.0 ∙ eqb-true _ _ b.0 in
+      let t : (x.section == z.section) ≡ true = eq-eqb x.section z.section s in
+      rw t (ap Some (nat_cmp_total.trans x.offset y.offset z.offset a.1 b.1));
   matches_eq = λ x y. (
     λ e. let b = both (x.offset == y.offset) (x.section == y.section) e in
-    rw b.1 (ap Some (is_equal x.offset y.offset (eqb-true _ _ b.0))),
+        rw b.1 (ap Some (is_equal x.offset y.offset (eqb-true _ _ b.0))),
     λ e. let w = was_some (x.section == y.section) _ _ e in
-    both_true _ _ (eq-eqb x.offset y.offset (equal_is x.offset y.offset w.1)) w.0,
+        both_true _ _ (eq-eqb x.offset y.offset (equal_is x.offset y.offset w.1)) w.0,
   );
   congr = λ x y z e. let b = both (x.offset == y.offset) (x.section == y.section) e in
-  let o : x.offset ≡ y.offset = eqb-true _ _ b.0 in let s : x.section ≡ y.section = eqb-true _ _ b.1 in
-  rw (o, s) refl;
+      let o : x.offset ≡ y.offset = eqb-true _ _ b.0 in let s : x.section ≡ y.section = eqb-true _ _ b.1 in
+      rw (o, s) refl;
 }

@@ -51,7 +51,7 @@ impl<'b> ParseBuffer<'b> {
     pub fn len(&self) -> usize
         ensures { result + self.now.place ≡ length self.now.bytes }
     {
-        self.buf.len() - self.at
+        self.buf[self.at..].len()
     }
 
     /// Whether no byte is left.
@@ -65,7 +65,7 @@ impl<'b> ParseBuffer<'b> {
     pub fn pos(&self) -> usize
         ensures { result ≡ self.now.place }
     {
-        self.at
+        self.buf.len() - self.len()
     }
 
     /// Reads a `u8`.

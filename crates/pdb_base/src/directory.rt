@@ -107,11 +107,9 @@ fn pages_of(directory: &[u8], page_size: u32, stream: u32) -> usize
     ensures pages { result ≡ page_count directory.now page_size stream }
     ensures small { result ≤ 2 ^ 25 }
 {
-    let size = u32_at(directory, 4 + 4 * stream as usize);
-    if size == ABSENT {
-        0
-    } else {
-        size.div_ceil(page_size) as usize
+    match u32_at(directory, 4 + 4 * stream as usize) {
+        ABSENT => 0,
+        size => size.div_ceil(page_size) as usize,
     }
 }
 

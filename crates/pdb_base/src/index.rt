@@ -24,7 +24,10 @@ pub trait ItemIndex: Copy + From<u32> {
 
     /// Whether the index refers to another module: whether its top bit is set.
     fn is_cross_module(self) -> bool
-        ensures { IsTrue result ↔ (2 ^ 31 ≤ index_number self) };
+        ensures { IsTrue result ↔ (2 ^ 31 ≤ index_number self) }
+    {
+        self.number() >= 0x8000_0000
+    }
 }
 
 /// The index of a type record.
@@ -35,7 +38,7 @@ impl From<u32> for TypeIndex {
     ghost from_gives = { λ n i. i.0 ≡ n };
 
     fn from(n: u32) -> Self {
-        TypeIndex(n)
+        TypeIndex::from_number(n)
     }
 }
 
@@ -49,10 +52,6 @@ impl ItemIndex for TypeIndex {
     fn number(self) -> u32 {
         self.0
     }
-
-    fn is_cross_module(self) -> bool {
-        self.0 >= 0x8000_0000
-    }
 }
 
 /// The index of an id record.
@@ -63,7 +62,7 @@ impl From<u32> for IdIndex {
     ghost from_gives = { λ n i. i.0 ≡ n };
 
     fn from(n: u32) -> Self {
-        IdIndex(n)
+        IdIndex::from_number(n)
     }
 }
 
@@ -76,10 +75,6 @@ impl ItemIndex for IdIndex {
 
     fn number(self) -> u32 {
         self.0
-    }
-
-    fn is_cross_module(self) -> bool {
-        self.0 >= 0x8000_0000
     }
 }
 

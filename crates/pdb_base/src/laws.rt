@@ -10,9 +10,9 @@ ghost use Rattle.pdb_base.specs.Container.{stream_of, page_numbers_of};
 use crate::error::Error;
 
 /// Bytes have one list of each kind from each place on, and it is the one that the contracts name.
-pub fn one_listing()
-    ensures is { (row : Row ℕ) (b : List ℕ) (p : ℕ) → IsInside row → IsListing row b p (listing row b p) }
-    ensures only { (row : Row ℕ) (b : List ℕ) (p : ℕ) (left : Left ℕ) → IsInside row → IsListing row b p left → left ≡ listing row b p }
+pub fn one_listing<A>()
+    ensures is { (row : Row A) (b : List ℕ) (p : ℕ) → IsInside row → IsListing row b p (listing row b p) }
+    ensures only { (row : Row A) (b : List ℕ) (p : ℕ) (left : Left A) → IsInside row → IsListing row b p left → left ≡ listing row b p }
 {}
 
 /// What a read gives is what stands at the place: the number of so many bytes, that slice, the bytes before the

@@ -38,7 +38,7 @@ impl<'b> RawString<'b> {
         ensures lent { IsUtf8 (name_bytes self.now) → IfOk result (λ text. IsOwnedStr text → ⊥) }
         ensures memory { IfErr result (λ e. e ≡ Error.OutOfMemory) }
     {
-        Ok(self.bytes.to_str_lossy(alloc)?)
+        Ok(self.as_bytes().to_str_lossy(alloc)?)
     }
 }
 
