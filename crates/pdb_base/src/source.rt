@@ -1,6 +1,6 @@
 //! Where a file's bytes come from.
 
-ghost use Rattle.std.specs.Prelude.{◌≡◌, ℕ, ◌+◌, ◌^◌, ◌<◌, ◌≤◌, IsErrOf, List, length, true, false, IfOk};
+ghost use Rattle.std.specs.Prelude.{◌≡◌, ℕ, ◌+◌, ◌^◌, ◌<◌, ◌≤◌, ◌↔◌, IsErrOf, List, length, true, false, IfOk};
 ghost use Rattle.std.specs.List.{list_all, flat_map};
 ghost use Rattle.pdb_base.specs.Refusal.{Gives};
 ghost use Rattle.pdb_base.specs.Source.{State, Continues, MayFail, view_bytes, viewed, is_inside, slice_bytes};
@@ -19,7 +19,7 @@ pub struct SourceSlice {
 }
 
 /// Bytes of the file, lent or copied.
-#[derive(Debug, Drop)]
+#[derive(Drop)]
 pub enum View<'s> {
     /// Bytes that the source lends.
     Borrowed(&'s [u8]),
@@ -55,7 +55,7 @@ pub trait Source<'s>: Meaning {
         ensures continues { Continues (Self.state self.old) (Self.state self.new) }
         ensures most { (Self.state self.new).failures < 2 ^ 64 }
         ensures bytes { Gives view_bytes (MayFail (Self.state self.old) (Self.state self.new)) result (viewed (Self.state self.old).file slices.now) }
-        ensures past { list_all (is_inside (Self.state self.old).file) slices.now ≡ false → IsErrOf result Error.UnexpectedEof }
+        ensures past { IsErrOf result Error.UnexpectedEof ↔ (list_all (is_inside (Self.state self.old).file) slices.now ≡ false) }
         ensures spent { (Self.state self.old).failures + 1 ≡ 2 ^ 64 → list_all (is_inside (Self.state self.old).file) slices.now ≡ true → IsErrOf result Error.IoError };
 
     /// How many views failed so far; it never falls, and stays at `u64::MAX`.
@@ -68,7 +68,7 @@ pub trait Source<'s>: Meaning {
 }
 
 /// A file in memory. It lends one slice as it is, and copies several; its views never fail.
-#[derive(Debug, Drop)]
+#[derive(Drop)]
 pub struct MemorySource<'s> {
     bytes: &'s [u8],
 }

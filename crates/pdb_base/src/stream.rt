@@ -8,7 +8,7 @@ use crate::source::View;
 use std::marker::Model;
 
 /// The bytes of a stream of the container, fewer than 4294967295. A contract sees it as the list of its bytes.
-#[derive(Debug, Drop)]
+#[derive(Drop)]
 pub struct Stream<'s> {
     view: View<'s>,
 }

@@ -16,7 +16,7 @@ use std::marker::Model;
 
 /// The names of the stream `/names`: each ends with a zero byte, and is named by its place among their bytes. A
 /// contract sees it as these bytes.
-#[derive(Debug, Drop)]
+#[derive(Drop)]
 pub struct StringTable<'s> {
     stream: Stream<'s>,
     size: u32,

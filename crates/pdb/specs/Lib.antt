@@ -1,0 +1,12 @@
+pub mod Answers
+pub use Rattle.pdb_base.specs.Refusal
+pub use Rattle.pdb_base.specs.Source
+pub use Rattle.pdb_base.specs.Container
+pub use Rattle.pdb_base.specs.Left
+pub use Rattle.pdb_base.specs.Text
+pub use Rattle.pdb_base.specs.declared.error.Error
+pub use Rattle.pdb_base.specs.declared.error.Part
+pub use Rattle.pdb_symbols.specs.Data
+pub use Rattle.pdb_symbols.specs.Forms
+pub use Rattle.pdb_symbols.specs.SymbolList
+pub use Rattle.pdb_symbols.specs.Views

@@ -1,0 +1,21 @@
+//! A reader of Microsoft's program database (PDB) files: `PDB` opens one, and its accessors give its streams.
+#![tactic(auto)]
+
+pub mod laws;
+mod pdb;
+
+pub use pdb::{PDB, StreamIndexExt};
+pub use pdb_base::{
+    Error, FallibleIterator, Feature, FileIndex, IdIndex, ImageSectionHeader, ItemIndex, Local,
+    Meaning, MemorySource, Msf, ParseBuffer, Part, PdbInternalSectionOffset, RawString, Register,
+    Result, SectionCharacteristics, Source, SourceSlice, Steps, Stream, StreamIndex, StringRef,
+    StringTable, SymbolIndex, TypeIndex, Variant, View,
+};
+pub use pdb_dbi::{DBIHeader, DebugInformation, HeaderVersion, MachineType};
+pub use pdb_symbols::{
+    ConstantSymbol, DataSymbol, ProcedureReferenceSymbol, PublicSymbol, Symbol, SymbolData,
+    SymbolIter, SymbolKind, SymbolTable, ThreadStorageSymbol, UserDefinedTypeSymbol,
+};
+
+#[cfg(test)]
+mod tests;

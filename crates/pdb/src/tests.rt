@@ -1,0 +1,157 @@
+//! Tests of what no clause says: values from outside, and that calls succeed with ample memory.
+
+use crate::*;
+use std::alloc::Global;
+use std::test::Fail;
+
+fn put(bytes: &mut Vec<u8>, at: usize, part: &[u8]) {
+    for (i, byte) in part.iter().enumerate() {
+        if at < bytes.len() && i < bytes.len() - at {
+            bytes[at + i] = *byte;
+        }
+    }
+}
+
+fn put_numbers(bytes: &mut Vec<u8>, at: usize, numbers: &[u32]) {
+    for (i, number) in numbers.iter().enumerate() {
+        if i < 64 && at < 65536 {
+            put(bytes, at + 4 * i, &number.to_le_bytes());
+        }
+    }
+}
+
+const SYMBOLS: &[u8; 12] = b"\x02\0\x4e\x11\x06\0\x08\x11\x07\0\0\0";
+
+/// Six pages of 1024 bytes: 1 has the directory's list, 2 the directory, 3 and 4 the first pages of the DBI stream,
+/// whose third page number is given, and 5 the symbol records. The DBI stream is stream 3, of 3000 bytes; stream 0 is
+/// empty, 1, 2 and 4 are absent, and stream 5 has the symbol records.
+fn file(alloc: Global, third_page: u32, symbol_records: u16) -> Result<Vec<u8>> {
+    let mut bytes = vec![in alloc; 0u8; 6144]?;
+    put(&mut bytes, 0, b"Microsoft C/C++ MSF 7.00\r\n\x1aDS\0\0\0");
+    put_numbers(&mut bytes, 32, &[1024, 1, 6, 44, 0, 1]);
+    put_numbers(&mut bytes, 1024, &[2]);
+    let absent = 0xffff_ffff;
+    put_numbers(
+        &mut bytes,
+        2048,
+        &[6, 0, absent, absent, 3000, absent, 12, 3, 4, third_page, 5],
+    );
+    put(
+        &mut bytes,
+        3072,
+        b"\xff\xff\xff\xff\x77\x09\x31\x01\x02\0\0\0\xff\xff\0\0\xff\xff\0\0",
+    );
+    put(&mut bytes, 3072 + 20, &symbol_records.to_le_bytes());
+    put(&mut bytes, 3072 + 58, b"\x64\x86");
+    put(&mut bytes, 5120, SYMBOLS);
+    Ok(bytes)
+}
+
+#[test]
+fn the_front_answers_where_the_whole_is_refused(rt: HostRuntime) -> Result<()> {
+    let bytes = file(rt.alloc(), 6, 5)?;
+    let mut pdb = PDB::open(rt.alloc(), MemorySource::new(&bytes))?;
+    let refused = Some(Error::PageReferenceOutOfRange(6));
+    for _ in 0..3 {
+        assert_eq!(rt; pdb.debug_information().err(), refused);
+        let symbols = pdb.global_symbols()?;
+        assert_eq!(rt;
+            symbols.iter().next()?.map(|symbol| symbol.raw_kind()),
+            Some(0x114e)
+        );
+    }
+    let mut pdb = PDB::open(rt.alloc(), MemorySource::new(&bytes))?;
+    for _ in 0..3 {
+        assert_eq!(rt; pdb.global_symbols()?.iter().count()?, 2);
+        assert_eq!(rt; pdb.debug_information().err(), refused);
+    }
+    assert_eq!(rt; pdb.failures(), 0);
+    assert!(rt; pdb.steady());
+    Ok(())
+}
+
+#[test]
+fn debug_information_is_read_whole(rt: HostRuntime) -> Result<()> {
+    let bytes = file(rt.alloc(), 1, 5)?;
+    let mut pdb = PDB::open(rt.alloc(), MemorySource::new(&bytes))?;
+    let information = pdb.debug_information()?;
+    assert_eq!(rt; information.age(), Some(2));
+    assert_eq!(rt; information.machine_type()?, MachineType::Amd64);
+    assert_eq!(rt; pdb.global_symbols()?.iter().count()?, 2);
+    Ok(())
+}
+
+#[test]
+fn no_stream_of_symbol_records_is_told(rt: HostRuntime) -> Result<()> {
+    let bytes = file(rt.alloc(), 1, 0xffff)?;
+    let mut pdb = PDB::open(rt.alloc(), MemorySource::new(&bytes))?;
+    assert_eq!(rt;
+        pdb.global_symbols().err(),
+        Some(Error::GlobalSymbolsNotFound)
+    );
+    assert_eq!(rt; pdb.debug_information()?.age(), Some(2));
+    assert_eq!(rt;
+        pdb.global_symbols().err(),
+        Some(Error::GlobalSymbolsNotFound)
+    );
+    Ok(())
+}
+
+#[test]
+fn an_ancient_header_is_not_kept(rt: HostRuntime) -> Result<()> {
+    let mut bytes = file(rt.alloc(), 1, 5)?;
+    put(&mut bytes, 3072, b"\0");
+    let mut pdb = PDB::open(rt.alloc(), MemorySource::new(&bytes))?;
+    let ancient = Some(Error::UnimplementedFeature(Feature::AncientDbiHeader));
+    for _ in 0..2 {
+        assert_eq!(rt; pdb.global_symbols().err(), ancient);
+        assert_eq!(rt; pdb.debug_information().err(), ancient);
+    }
+    Ok(())
+}
+
+#[test]
+fn streams_are_had_by_their_indices(rt: HostRuntime) -> Result<()> {
+    let bytes = file(rt.alloc(), 1, 5)?;
+    let mut pdb = PDB::open(rt.alloc(), MemorySource::new(&bytes))?;
+    let empty = pdb.raw_stream(StreamIndex(0))?;
+    assert_eq!(rt; empty.map(|stream| stream.as_slice().len()), Some(0));
+    assert_eq!(rt;
+        pdb.raw_stream(StreamIndex(9)).err(),
+        Some(Error::StreamNotFound(9))
+    );
+    assert!(rt; pdb.raw_stream(StreamIndex(65535))?.is_none());
+    assert!(rt; StreamIndex::none().get(&mut pdb)?.is_none());
+    let symbols = StreamIndex(5).get(&mut pdb)?;
+    assert_eq!(rt; symbols.map(|stream| stream.as_slice().len()), Some(12));
+    assert_eq!(rt;
+        StreamIndex(1).get(&mut pdb).err(),
+        Some(Error::StreamNotFound(1))
+    );
+    Ok(())
+}
+
+#[test]
+fn a_file_of_another_format_is_refused(rt: HostRuntime) -> std::result::Result<(), Fail> {
+    let refused = PDB::open(rt.alloc(), MemorySource::new(b"")).err();
+    assert_eq!(rt; refused, Some(Error::UnrecognizedFileFormat));
+    Ok(())
+}
+
+#[test]
+fn an_error_of_the_closure_leaves_the_rest(rt: HostRuntime) -> Result<()> {
+    let bytes = file(rt.alloc(), 1, 5)?;
+    let mut pdb = PDB::open(rt.alloc(), MemorySource::new(&bytes))?;
+    let table = pdb.global_symbols()?;
+    let mut symbols = table.iter();
+    let refused = symbols.find(|_| Err(Error::StreamNameNotFound)).err();
+    assert_eq!(rt; refused, Some(Error::StreamNameNotFound));
+    assert_eq!(rt;
+        symbols
+            .find(|symbol| Ok(symbol.raw_kind() == 0x1108))?
+            .map(|symbol| symbol.index()),
+        Some(SymbolIndex(4))
+    );
+    assert_eq!(rt; table.iter().collect(rt.alloc())?.len(), 2);
+    Ok(())
+}

@@ -1,0 +1,4 @@
+pub mod Refused
+pub mod Written
+pub mod Spelling
+pub mod SampleFacts

@@ -1,0 +1,37 @@
+-- What the program says and answers where it fails.
+use Rattle.std.specs.Prelude.{ℕ, List, ◌++◌, codes}
+use Rattle.std.specs.Fmt.{decimal}
+use Rattle.pdb_list.specs.declared.report.Fault.{Fault}
+use Rattle.pdb_list.specs.declared.report.Fault.TheVariants.{Usage, Read, Open, Memory, Write}
+use Rattle.pdb_list.specs.declared.engine.RunError.{RunError}
+use Rattle.pdb_list.specs.declared.engine.RunError.TheVariants as run
+use Rattle.pdb_list.specs.declared.command.WordsError.{WordsError}
+use Rattle.pdb_list.specs.declared.command.WordsError.TheVariants as words
+use Rattle.pdb.specs.Refusal.{number_of}
+
+-- what a stopped run is to the program
+abbrev pub fault_of_run : RunError → Fault
+fault_of_run run.OutOfMemory = Memory
+fault_of_run (run.Open e) = Open (number_of e)
+fault_of_run run.Write = Write
+
+-- what words are that spell no commands
+abbrev pub fault_of_words : WordsError → Fault
+fault_of_words (words.BadWord place) = Usage
+fault_of_words words.OutOfMemory = Memory
+
+-- the line on standard error
+abbrev pub fault_line : Fault → List ℕ
+fault_line Usage = codes "usage: pdb_list FILE COMMAND..\n"
+fault_line Read = codes "cannot read file\n"
+fault_line (Open n) = codes "cannot open: " ++ decimal n ++ codes "\n"
+fault_line Memory = codes "out of memory\n"
+fault_line Write = codes "cannot write\n"
+
+-- the exit status
+abbrev pub status_of : Fault → ℕ
+status_of Usage = 2
+status_of Read = 3
+status_of (Open n) = 4
+status_of Memory = 5
+status_of Write = 6

@@ -1,0 +1,174 @@
+//! Texts written to a writer.
+
+ghost use Rattle.std.specs.Prelude.{◌≡◌, ◌≢◌, ◌++◌, true, OnOk, OnErr, IfOk, IsErrOf, Ok, Err};
+ghost use Rattle.std.specs.Io.KnownBytes.{Appends, Keeps};
+ghost use Rattle.pdb.specs.Error.{Error};
+ghost use Rattle.pdb.specs.Error.TheVariants.{OutOfMemory};
+ghost use Rattle.pdb.specs.Source.{State, Continues};
+ghost use Rattle.pdb.specs.Container.{opens};
+ghost use Rattle.pdb_list.specs.Written.{WroteFirst, WroteFront};
+ghost use Rattle.pdb_list.specs.Texts.{command_text, error_text, run_error_of, texts};
+
+use crate::command::Command;
+use crate::symbols::put_symbols;
+use crate::text::put_error;
+use pdb::{Error, PDB, Source};
+use std::alloc::{AllocError, Global};
+use std::io::Write;
+
+/// Why a run stopped.
+#[derive(Clone, Copy, Debug, PartialEq, Eq)]
+pub enum RunError {
+    /// Memory was refused.
+    OutOfMemory,
+    /// The file is no container that can be opened.
+    Open(Error),
+    /// The writer failed, or took nothing.
+    Write,
+}
+
+impl From<AllocError> for RunError {
+    ghost use Rattle.pdb_list.specs.declared.engine.RunError.TheVariants.{OutOfMemory};
+
+    ghost from_gives = { λ _ e. e ≡ OutOfMemory };
+
+    fn from(_e: AllocError) -> RunError {
+        RunError::OutOfMemory
+    }
+}
+
+/// The writer failed, or took nothing.
+#[derive(Clone, Copy, Debug, PartialEq, Eq)]
+pub struct WriteFailed;
+
+impl From<WriteFailed> for RunError {
+    ghost use Rattle.pdb_list.specs.declared.engine.RunError.TheVariants.{Write};
+
+    ghost from_gives = { λ _ e. e ≡ Write };
+
+    fn from(_e: WriteFailed) -> RunError {
+        RunError::Write
+    }
+}
+
+/// Writes all of the bytes. Where the writer fails or takes nothing, a beginning of them was written.
+pub fn write_out<W: Write>(out: &mut W, bytes: &[u8]) -> Result<(), WriteFailed>
+    ensures ok { OnOk result (Appends (W.contents out.old) (W.contents out.new) bytes.now) }
+    ensures err { OnErr result (WroteFront (W.contents out.old) (W.contents out.new) bytes.now) }
+{
+    let mut at = 0;
+    while at < bytes.len() {
+        match out.write(&bytes[at..]) {
+            Ok(0) | Err(_) => return Err(WriteFailed),
+            Ok(n) => at += n,
+        }
+    }
+    Ok(())
+}
+
+/// A file that can't be opened stops a run; want of memory is told as such.
+fn open_error(e: Error) -> RunError
+    ensures { result ≡ run_error_of e }
+{
+    match e {
+        Error::OutOfMemory => RunError::OutOfMemory,
+        e => RunError::Open(e),
+    }
+}
+
+/// The line of an accessor's refusal, but for want of memory.
+fn put_refusal(out: &mut Vec<u8>, e: Error) -> Result<(), AllocError>
+    ensures { OnOk result ((e ≢ Error.OutOfMemory) × (out.new.items ≡ out.old.items ++ error_text e)) }
+{
+    match e {
+        Error::OutOfMemory => Err(AllocError),
+        e => put_error(out, e.number()),
+    }
+}
+
+/// The text of a command over an opened file.
+#[tactic(auto, unfolding(crate::specs::Texts::command_text))]
+fn text_of<'s, S: Source<'s>>(
+    alloc: Global,
+    pdb: &mut PDB<'s, S>,
+    command: Command,
+) -> Result<Vec<u8>, AllocError>
+    ensures continues { Continues pdb.old pdb.new }
+    ensures text { pdb.old.steady ≡ true → IfOk result (λ v. v.items ≡ command_text pdb.old.file command) }
+{
+    let mut out = Vec::new(alloc);
+    match command {
+        Command::Globals => match pdb.global_symbols() {
+            Ok(table) => put_symbols(alloc, &mut out, table.iter())?,
+            Err(e) => put_refusal(&mut out, e)?,
+        },
+    }
+    Ok(out)
+}
+
+/// Opens the file of a source, and writes the commands' texts over it, one after the other. Each text is composed and
+/// then written. A command that is refused has its items before the fault and then the line `error N`, and the next
+/// command follows. The promises on the texts are made for a source that is steady.
+pub fn run<'s, S: Source<'s>, W: Write>(
+    alloc: Global,
+    source: S,
+    commands: &[Command],
+    out: &mut W,
+) -> Result<(), RunError>
+    // All texts were written.
+    ensures ok { (S.state source).steady ≡ true → OnOk result ((opens (S.state source).file ≡ Ok tt)
+        × Appends (W.contents out.old) (W.contents out.new) (texts (S.state source).file commands.now)) }
+    // The texts of some first commands were written, whole.
+    ensures memory { (S.state source).steady ≡ true → IsErrOf result RunError.OutOfMemory
+        → WroteFirst (command_text (S.state source).file) (W.contents out.old) (W.contents out.new) commands.now }
+    // The file can't be opened, and nothing was written.
+    ensures open { (e : Error) → IsErrOf result (RunError.Open e) → (e ≢ OutOfMemory) × Keeps (W.contents out.old) (W.contents out.new) }
+    ensures refused { (S.state source).steady ≡ true → (e : Error) → IsErrOf result (RunError.Open e) → opens (S.state source).file ≡ Err e }
+    // A beginning of the texts was written.
+    ensures write { (S.state source).steady ≡ true → IsErrOf result RunError.Write
+        → WroteFront (W.contents out.old) (W.contents out.new) (texts (S.state source).file commands.now) }
+{
+    let mut pdb = match PDB::open(alloc, source) {
+        Ok(pdb) => pdb,
+        Err(e) => return Err(open_error(e)),
+    };
+    for command in commands {
+        let text = text_of(alloc, &mut pdb, *command)?;
+        write_out(out, &text)?;
+    }
+    Ok(())
+}
+
+#[cfg(test)]
+mod tests {
+    use super::*;
+    use crate::fakes::Slow;
+
+    #[test]
+    fn writes_all_or_a_beginning(rt: HostRuntime) {
+        let line = b"symbol 00000000";
+        let mut whole = Slow::new(rt.alloc(), 64, 64);
+        assert_eq!(rt; write_out(&mut whole, line), Ok(()));
+        assert_eq!(rt; whole.taken(), line.as_slice());
+        let mut bytewise = Slow::new(rt.alloc(), 1, 64);
+        assert_eq!(rt; write_out(&mut bytewise, line), Ok(()));
+        assert_eq!(rt; bytewise.taken(), line.as_slice());
+        let mut fourth_fails = Slow::new(rt.alloc(), 3, 3);
+        assert_eq!(rt; write_out(&mut fourth_fails, line), Err(WriteFailed));
+        assert_eq!(rt; fourth_fails.taken(), b"symbol 00".as_slice());
+        let mut takes_nothing = Slow::new(rt.alloc(), 0, 64);
+        assert_eq!(rt; write_out(&mut takes_nothing, line), Err(WriteFailed));
+        assert!(rt; takes_nothing.taken().is_empty());
+        assert_eq!(rt; write_out(&mut takes_nothing, b""), Ok(()));
+    }
+
+    #[test]
+    fn fails_after_each_count_of_calls(rt: HostRuntime) {
+        for calls in 0..7u32 {
+            let mut out = Slow::new(rt.alloc(), 1, calls);
+            let written = write_out(&mut out, b"error\n");
+            assert_eq!(rt; written.is_ok(), calls == 6);
+            assert_eq!(rt; out.taken(), b"error\n".split_at(calls.min(6) as usize).0);
+        }
+    }
+}

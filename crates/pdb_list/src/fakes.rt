@@ -1,0 +1,76 @@
+//! Readers and writers that fail, for tests.
+
+use std::alloc::Global;
+use std::io::{self, ErrorKind, Read, Write};
+
+/// A writer that takes at most `step` bytes a call, and fails from the call of number `calls` on, counted from 0.
+#[derive(Drop)]
+pub struct Slow {
+    taken: Vec<u8>,
+    step: usize,
+    calls: u32,
+}
+
+impl Slow {
+    pub fn new(alloc: Global, step: usize, calls: u32) -> Self {
+        Slow {
+            taken: Vec::new(alloc),
+            step,
+            calls,
+        }
+    }
+
+    pub fn taken(&self) -> &[u8] {
+        self.taken.as_slice()
+    }
+}
+
+impl Write for Slow {
+    fn write(&mut self, buf: &[u8]) -> io::Result<usize> {
+        if self.calls == 0 {
+            return Err(io::Error::from(ErrorKind::Other));
+        }
+        self.calls -= 1;
+        let count = self.step.min(buf.len());
+        self.taken.extend_from_slice(&buf[..count])?;
+        Ok(count)
+    }
+
+    fn flush(&mut self) -> io::Result<()> {
+        Ok(())
+    }
+}
+
+/// A reader that gives three bytes a call for some calls, and then ends or fails.
+#[derive(Drop)]
+pub struct ThreeBytes {
+    calls: u32,
+    fails: bool,
+}
+
+impl ThreeBytes {
+    pub fn ending(calls: u32) -> Self {
+        ThreeBytes {
+            calls,
+            fails: false,
+        }
+    }
+
+    pub fn failing(calls: u32) -> Self {
+        ThreeBytes { calls, fails: true }
+    }
+}
+
+impl Read for ThreeBytes {
+    fn read(&mut self, buf: &mut [u8]) -> io::Result<usize> {
+        if self.calls > 0 && buf.len() >= 3 {
+            self.calls -= 1;
+            buf[..3].copy_from_slice(b"abc");
+            return Ok(3);
+        }
+        if self.fails {
+            return Err(io::Error::from(ErrorKind::Other));
+        }
+        Ok(0)
+    }
+}

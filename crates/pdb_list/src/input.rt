@@ -1,0 +1,79 @@
+//! A file, read whole.
+
+ghost use Rattle.std.specs.Prelude.{◌≡◌, ◌≤◌, ◌⊎◌, length, IfOk, IfErr, vec_len};
+ghost use Rattle.std.specs.Io.KnownBytes.{Consumes, IsAtEnd};
+
+use crate::report::Fault;
+use std::alloc::Global;
+use std::io::Read;
+
+/// The most bytes that a file may have.
+pub const MOST_BYTES: usize = 1099511627776;
+
+/// How many bytes are asked for at a time.
+const CHUNK: usize = 65536;
+
+/// All bytes that a reader has left, if these are at most `most`.
+fn read_up_to<R: Read>(alloc: Global, most: usize, input: &mut R) -> Result<Vec<u8>, Fault>
+    ensures all { IfOk result (λ v. Consumes (R.remaining input.old) (R.remaining input.new) v.items × IsAtEnd (R.remaining input.new)) }
+    ensures most { IfOk result (λ v. vec_len v ≤ most) }
+    ensures refused { IfErr result (λ e. (e ≡ Fault.Read) ⊎ (e ≡ Fault.Memory)) }
+{
+    let mut bytes = Vec::new(alloc);
+    let mut chunk = [0u8; CHUNK];
+    loop {
+        let Ok(count) = input.read(&mut chunk) else {
+            return Err(Fault::Read);
+        };
+        if count == 0 {
+            return Ok(bytes);
+        }
+        if count > most - bytes.len() {
+            return Err(Fault::Read);
+        }
+        bytes.extend_from_slice(&chunk[..count])?;
+    }
+}
+
+/// All bytes that a reader has left. `Fault::Read` where it fails or gives more than `MOST_BYTES`, `Fault::Memory`
+/// where a growth was refused.
+pub fn read_all<R: Read>(alloc: Global, input: &mut R) -> Result<Vec<u8>, Fault>
+    ensures all { IfOk result (λ v. Consumes (R.remaining input.old) (R.remaining input.new) v.items × IsAtEnd (R.remaining input.new)) }
+    ensures most { IfOk result (λ v. vec_len v ≤ MOST_BYTES) }
+    ensures refused { IfErr result (λ e. (e ≡ Fault.Read) ⊎ (e ≡ Fault.Memory)) }
+{
+    read_up_to(alloc, MOST_BYTES, input)
+}
+
+#[cfg(test)]
+mod tests {
+    use super::*;
+    use crate::fakes::ThreeBytes;
+
+    #[test]
+    fn reads_to_the_end(rt: HostRuntime) {
+        let alloc = rt.alloc();
+        let read = read_all(alloc, &mut ThreeBytes::ending(1)).expect(&rt, "one read");
+        assert_eq!(rt; read.as_slice(), b"abc".as_slice());
+        let read = read_all(alloc, &mut ThreeBytes::ending(40000)).expect(&rt, "many reads");
+        assert_eq!(rt; read.len(), 120000);
+        assert_eq!(rt; read[119997], b'a');
+        let read = read_all(alloc, &mut ThreeBytes::ending(0)).expect(&rt, "no byte");
+        assert!(rt; read.is_empty());
+        assert_eq!(rt;
+            read_all(alloc, &mut ThreeBytes::failing(1)).err(),
+            Some(Fault::Read)
+        );
+    }
+
+    #[test]
+    fn reads_no_more_than_allowed(rt: HostRuntime) {
+        let alloc = rt.alloc();
+        let read = read_up_to(alloc, 6, &mut ThreeBytes::ending(2)).expect(&rt, "six bytes");
+        assert_eq!(rt; read.as_slice(), b"abcabc".as_slice());
+        let refused = read_up_to(alloc, 5, &mut ThreeBytes::ending(2)).err();
+        assert_eq!(rt; refused, Some(Fault::Read));
+        let refused = read_up_to(alloc, 5, &mut ThreeBytes::ending(2_000_000_000)).err();
+        assert_eq!(rt; refused, Some(Fault::Read));
+    }
+}

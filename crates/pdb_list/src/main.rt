@@ -1,0 +1,83 @@
+//! Lists what a PDB file says: `pdb_list FILE COMMAND..`. With no words, or the one word `sample`, it lists a small
+//! file that it makes itself.
+#![tactic(auto)]
+
+mod command;
+mod engine;
+mod failing;
+#[cfg(test)]
+mod fakes;
+mod input;
+mod report;
+mod sample;
+mod streams;
+mod symbols;
+#[cfg(test)]
+mod tests;
+mod text;
+
+use command::{Command, asks_for_sample, parse_commands};
+use engine::run;
+use input::read_all;
+use pdb::MemorySource;
+use report::{Fault, report};
+use std::alloc::{AllocError, Global};
+use std::io::{self, ErrorKind};
+use std::process::ExitCode;
+use std::rt::{Env, Files};
+use std::{env, fs};
+
+/// What the stored run lists of the sample.
+const SAMPLE_COMMANDS: [Command; 1] = [Command::Globals];
+
+/// Why the program's words can't be had: one isn't UTF-8, or there is no memory for them.
+fn words_fault(e: &io::Error) -> Fault {
+    match e.kind() {
+        ErrorKind::OutOfMemory => Fault::Memory,
+        _ => Fault::Usage,
+    }
+}
+
+/// The program's words, without its own name.
+fn words_of(rt: &(impl Env + AllocGlobal)) -> Result<Vec<String>, Fault> {
+    let args = env::args(rt).map_err(|e| words_fault(&e))?;
+    let mut words = Vec::new(rt.alloc());
+    for word in args.skip(1) {
+        words.push(word).map_err(AllocError::from)?;
+    }
+    Ok(words)
+}
+
+/// Lists the sample.
+fn list_sample<W: io::Write>(alloc: Global, out: &mut W) -> Result<(), Fault> {
+    let bytes = sample::file(alloc).map_err(|_| Fault::Memory)?;
+    run(alloc, MemorySource::new(&bytes), &SAMPLE_COMMANDS, out)?;
+    Ok(())
+}
+
+/// Lists what the words ask for: their commands are taken first, then the file is read.
+fn list(rt: &(impl Env + Files + Print + AllocGlobal)) -> Result<(), Fault> {
+    let words = words_of(rt)?;
+    let mut out = io::writer(rt);
+    if asks_for_sample(&words) {
+        return list_sample(rt.alloc(), &mut out);
+    }
+    let Some((name, spelled)) = words.split_first() else {
+        return Err(Fault::Usage);
+    };
+    if spelled.is_empty() {
+        return Err(Fault::Usage);
+    }
+    let commands = parse_commands(rt.alloc(), spelled)?;
+    let mut file = fs::open(rt, name.as_str()).map_err(|_| Fault::Read)?;
+    let bytes = read_all(rt.alloc(), &mut file)?;
+    run(rt.alloc(), MemorySource::new(&bytes), &commands, &mut out)?;
+    Ok(())
+}
+
+fn main(rt: HostRuntime) -> ExitCode {
+    match list(&rt) {
+        Ok(()) => ExitCode::SUCCESS,
+        Err(fault) => ExitCode::from(report(&fault, &mut rt.stderr())),
+    }
+}

@@ -1,0 +1,92 @@
+//! The lines of symbols.
+
+ghost use Rattle.std.specs.Prelude.{◌≡◌, ◌++◌, OnOk, codes};
+ghost use Rattle.pdb.specs.Data.{shown, name_of};
+ghost use Rattle.pdb.specs.Forms.{record_at};
+ghost use Rattle.pdb.specs.Views.{symbol_of, symbols_left};
+ghost use Rattle.pdb.specs.Text.{name_bytes};
+ghost use Rattle.std.specs.Option.{option_map};
+ghost use Rattle.pdb_list.specs.Texts.{form_text, name_text, refused_text, record_text, symbol_text, symbols_text};
+
+use crate::text::{put_decimal, put_error, put_h4, put_h8, put_line_end};
+use pdb::{Error, FallibleIterator, RawString, Symbol, SymbolData, SymbolIter};
+use std::alloc::{AllocError, Global};
+
+/// The name of a record's form.
+fn form_name(record: &SymbolData<'_>) -> &'static [u8]
+    ensures { result.now ≡ form_text (shown record.now) }
+{
+    match record {
+        SymbolData::Public(_) => b"Public",
+        SymbolData::UserDefinedType(_) => b"UserDefinedType",
+        SymbolData::ProcedureReference(_) => b"ProcedureReference",
+        SymbolData::Constant(_) => b"Constant",
+        SymbolData::Data(_) => b"Data",
+        SymbolData::ThreadStorage(_) => b"ThreadStorage",
+    }
+}
+
+/// A space and the name, where there is one.
+fn put_name(out: &mut Vec<u8>, name: Option<RawString<'_>>) -> Result<(), AllocError>
+    ensures { OnOk result (out.new.items ≡ out.old.items ++ name_text (option_map name_bytes name.entry)) }
+{
+    match name {
+        Some(name) => {
+            out.push(b' ')?;
+            out.extend_from_slice(name.as_bytes())
+        }
+        None => Ok(()),
+    }
+}
+
+/// `refused`, and the refusal's number.
+fn put_refused(out: &mut Vec<u8>, e: Error) -> Result<(), AllocError>
+    ensures { OnOk result (out.new.items ≡ out.old.items ++ refused_text e) }
+{
+    out.extend_from_slice(b"refused ")?;
+    put_decimal(out, u64::from(e.number()))
+}
+
+/// What a symbol's record says: its form and name; or `refused` and the refusal's number.
+fn put_record(alloc: Global, out: &mut Vec<u8>, symbol: &Symbol<'_>) -> Result<(), AllocError>
+    ensures { OnOk result (out.new.items ≡ out.old.items ++ record_text (record_at (symbol_of symbol.now).bytes)) }
+{
+    match symbol.parse(alloc) {
+        Ok(record) => {
+            out.extend_from_slice(form_name(&record))?;
+            put_name(out, record.name())
+        }
+        Err(e) => put_refused(out, e),
+    }
+}
+
+/// The line of a symbol: its index, its kind, and what its record says.
+#[tactic(auto, unfolding(crate::specs::Texts::symbol_text))]
+fn put_symbol(alloc: Global, out: &mut Vec<u8>, symbol: &Symbol<'_>) -> Result<(), AllocError>
+    ensures { OnOk result (out.new.items ≡ out.old.items ++ symbol_text (symbol_of symbol.now)) }
+{
+    out.extend_from_slice(b"symbol ")?;
+    put_h8(out, symbol.index().0)?;
+    out.push(b' ')?;
+    put_h4(out, symbol.raw_kind())?;
+    out.push(b' ')?;
+    put_record(alloc, out, symbol)?;
+    put_line_end(out)
+}
+
+/// The lines of the symbols that an iterator has left, and then that of its fault.
+pub fn put_symbols(
+    alloc: Global,
+    out: &mut Vec<u8>,
+    mut symbols: SymbolIter<'_>,
+) -> Result<(), AllocError>
+    ensures { OnOk result (out.new.items ≡ out.old.items ++ symbols_text (symbols_left symbols.entry)) }
+{
+    loop {
+        match symbols.next() {
+            Ok(Some(symbol)) => put_symbol(alloc, out, &symbol)?,
+            Ok(None) => return Ok(()),
+            Err(e) => return put_error(out, e.number()),
+        }
+    }
+}

@@ -1,0 +1,259 @@
+//! Runs of the program over files made by hand: texts and refusals from outside.
+
+use crate::command::Command;
+use crate::engine::{RunError, run};
+use crate::fakes::Slow;
+use crate::sample::{self, FailingSource};
+use crate::streams;
+use pdb::{Error, FallibleIterator, MemorySource, Msf, PDB, Source, StreamIndex};
+use std::alloc::Global;
+use std::test::Fail;
+
+const GLOBALS: [Command; 1] = [Command::Globals];
+
+const TEXT: &[u8] =
+    b"symbol 00000000 110e Public main\nsymbol 00000014 1108 UserDefinedType va_list\nsymbol 00000024 1125 ProcedureReference main\nsymbol 00000038 1107 Constant ONE\nsymbol 00000048 110d Data g\nsymbol 00000058 1012 refused 12\n";
+
+/// The sample with other bytes of streams 3 and 5.
+fn sample_of<'b>(alloc: Global, dbi: &'b [u8], symbols: &'b [u8]) -> Result<Vec<u8>, Error> {
+    sample::file_of(
+        alloc,
+        &[
+            Some(&[]),
+            Some(&streams::INFORMATION),
+            None,
+            Some(dbi),
+            None,
+            Some(symbols),
+        ],
+    )
+}
+
+/// How a run over a file ended, and whether it wrote this text.
+fn ran(alloc: Global, file: &[u8], commands: &[Command], text: &[u8]) -> Option<RunError> {
+    let mut out = Slow::new(alloc, 4096, 4096);
+    let refused = run(alloc, MemorySource::new(file), commands, &mut out).err();
+    if refused.is_none() && out.taken() != text {
+        return Some(RunError::Write);
+    }
+    refused
+}
+
+#[test]
+fn the_sample_has_six_symbols(rt: HostRuntime) -> Result<(), Fail> {
+    let file = sample::file(rt.alloc())?;
+    assert!(rt; ran(rt.alloc(), &file, &GLOBALS, TEXT).is_none());
+    assert!(rt; ran(rt.alloc(), &file, &[], b"").is_none());
+    let mut twice = Vec::new(rt.alloc());
+    twice.extend_from_slice(TEXT)?;
+    twice.extend_from_slice(TEXT)?;
+    assert!(rt;
+        ran(
+            rt.alloc(),
+            &file,
+            &[Command::Globals, Command::Globals],
+            &twice
+        )
+        .is_none()
+    );
+    Ok(())
+}
+
+#[test]
+fn a_file_of_another_format_is_not_opened(rt: HostRuntime) -> Result<(), Fail> {
+    let refused = ran(rt.alloc(), b"", &GLOBALS, b"");
+    assert!(rt; refused == Some(RunError::Open(Error::UnrecognizedFileFormat)));
+    let mut file = sample::file(rt.alloc())?;
+    if let Some(byte) = file.get_mut(32) {
+        *byte = 1;
+    }
+    let refused = ran(rt.alloc(), &file, &GLOBALS, b"");
+    assert!(rt; refused == Some(RunError::Open(Error::InvalidPageSize(513))));
+    Ok(())
+}
+
+#[test]
+fn a_fault_of_the_list_is_told_after_its_symbols(rt: HostRuntime) -> Result<(), Fail> {
+    let file = sample_of(rt.alloc(), &streams::DBI, b"\x02\0\x06\0\x01\0")?;
+    let text = b"symbol 00000000 0006 refused 12\nerror 11\n";
+    assert!(rt; ran(rt.alloc(), &file, &GLOBALS, text).is_none());
+    let file = sample_of(
+        rt.alloc(),
+        &streams::DBI,
+        b"\x0c\0\x0e\x11\0\0\0\0\0\0\0\0\0\0",
+    )?;
+    let text = b"symbol 00000000 110e refused 1\n";
+    assert!(rt; ran(rt.alloc(), &file, &GLOBALS, text).is_none());
+    Ok(())
+}
+
+#[test]
+fn a_refused_command_is_followed_by_the_next(rt: HostRuntime) -> Result<(), Fail> {
+    let mut dbi = streams::DBI;
+    dbi[20] = 0xff;
+    dbi[21] = 0xff;
+    let file = sample_of(rt.alloc(), &dbi, &streams::SYMBOLS)?;
+    let commands = [Command::Globals, Command::Globals];
+    assert!(rt; ran(rt.alloc(), &file, &commands, b"error 8\nerror 8\n").is_none());
+    let file = sample_of(rt.alloc(), &dbi[..63], &streams::SYMBOLS)?;
+    assert!(rt; ran(rt.alloc(), &file, &GLOBALS, b"error 1\n").is_none());
+    let file = sample_of(rt.alloc(), &[0; 64], &streams::SYMBOLS)?;
+    assert!(rt; ran(rt.alloc(), &file, &GLOBALS, b"error 2\n").is_none());
+    Ok(())
+}
+
+#[test]
+fn names_are_written_as_they_are(rt: HostRuntime) -> Result<(), Fail> {
+    let symbols = b"\x10\0\x0e\x11\x02\0\0\0\0\x01\0\0\x01\0\xff\x0a\0\0";
+    let file = sample_of(rt.alloc(), &streams::DBI, symbols)?;
+    let text = b"symbol 00000000 110e Public \xff\n\n";
+    assert!(rt; ran(rt.alloc(), &file, &GLOBALS, text).is_none());
+    Ok(())
+}
+
+/// The lines of the sample's first symbols.
+fn first_lines(count: usize) -> &'static [u8] {
+    let ends = [0, 33, 78, 123, 157, 185, 217];
+    let end = if count < 7 { ends[count] } else { 217 };
+    TEXT.get(..end).unwrap_or(TEXT)
+}
+
+#[test]
+fn symbols_cut_at_each_place(rt: HostRuntime) -> Result<(), Fail> {
+    let ends = [0usize, 20, 36, 56, 72, 88, 92];
+    for k in 0..93usize {
+        let file = sample_of(rt.alloc(), &streams::DBI, &streams::SYMBOLS[..k])?;
+        let whole = ends.iter().filter(|end| **end <= k && **end > 0).count();
+        let mut text = Vec::new(rt.alloc());
+        for _ in 0..3 {
+            text.extend_from_slice(first_lines(whole))?;
+            if !ends.contains(&k) {
+                text.extend_from_slice(b"error 1\n")?;
+            }
+        }
+        let commands = [Command::Globals, Command::Globals, Command::Globals];
+        assert!(rt;
+            ran(rt.alloc(), &file, &commands, &text).is_none(),
+            "cut to {k}"
+        );
+    }
+    Ok(())
+}
+
+#[test]
+fn files_cut_at_each_place(rt: HostRuntime) -> Result<(), Fail> {
+    let file = sample::file(rt.alloc())?;
+    for k in 0..5633usize {
+        let cut = file.get(..k).unwrap_or(&[]);
+        let refused = ran(rt.alloc(), cut, &GLOBALS, TEXT);
+        let wanted = match k {
+            0..52 => Some(RunError::Open(Error::UnrecognizedFileFormat)),
+            52..5124 => Some(RunError::Open(Error::UnexpectedEof)),
+            _ => None,
+        };
+        assert!(rt; refused == wanted, "cut to {k}");
+    }
+    let mut msf = Msf::open(
+        rt.alloc(),
+        MemorySource::new(file.get(..5124).unwrap_or(&[])),
+    )?;
+    for (number, size) in [
+        (0u32, 0usize),
+        (1, 67),
+        (3, 184),
+        (5, 92),
+        (6, 260),
+        (7, 17),
+        (8, 40),
+    ] {
+        assert!(rt;
+            msf.get(number, None)?.as_slice().len() == size,
+            "stream {number}"
+        );
+    }
+    Ok(())
+}
+
+#[test]
+fn a_failing_writer_has_a_beginning(rt: HostRuntime) -> Result<(), Fail> {
+    let file = sample::file(rt.alloc())?;
+    for (step, calls, taken) in [
+        (3usize, 3u32, 9usize),
+        (0, 9, 0),
+        (1, 0, 0),
+        (1, 100, 100),
+        (1, 216, 216),
+        (50, 4, 200),
+    ] {
+        let mut out = Slow::new(rt.alloc(), step, calls);
+        let refused = run(rt.alloc(), MemorySource::new(&file), &GLOBALS, &mut out).err();
+        assert!(rt; refused == Some(RunError::Write), "{step} bytes a call");
+        assert!(rt;
+            out.taken() == TEXT.get(..taken).unwrap_or(TEXT),
+            "{step} bytes a call"
+        );
+    }
+    let mut out = Slow::new(rt.alloc(), 1, 217);
+    assert!(rt; run(rt.alloc(), MemorySource::new(&file), &GLOBALS, &mut out).is_ok());
+    assert!(rt; out.taken() == TEXT);
+    Ok(())
+}
+
+#[test]
+fn one_failing_view_is_told_once(rt: HostRuntime) -> Result<(), Fail> {
+    let file = sample::file(rt.alloc())?;
+    let commands = [Command::Globals, Command::Globals];
+    for k in 0..9u64 {
+        let mut out = Slow::new(rt.alloc(), 4096, 4096);
+        let source = FailingSource::new(MemorySource::new(&file), k);
+        let refused = run(rt.alloc(), source, &commands, &mut out).err();
+        let mut text = Vec::new(rt.alloc());
+        if k > 3 {
+            text.extend_from_slice(if k < 6 { b"error 21\n" } else { TEXT })?;
+            text.extend_from_slice(if k == 6 { b"error 21\n" } else { TEXT })?;
+        }
+        let wanted = if k > 3 {
+            None
+        } else {
+            Some(RunError::Open(Error::IoError))
+        };
+        assert!(rt; refused == wanted, "view {k}");
+        assert!(rt; out.taken() == text.as_slice(), "view {k}");
+    }
+    let mut out = Slow::new(rt.alloc(), 4096, 4096);
+    let spent = FailingSource::spent(MemorySource::new(&file));
+    let refused = run(rt.alloc(), spent, &commands, &mut out).err();
+    assert!(rt; refused == Some(RunError::Open(Error::IoError)));
+    Ok(())
+}
+
+fn opened<'s>(
+    alloc: Global,
+    file: &'s [u8],
+    k: u64,
+) -> Result<PDB<'s, FailingSource<MemorySource<'s>>>, Error> {
+    PDB::open(alloc, FailingSource::new(MemorySource::new(file), k))
+}
+
+#[test]
+fn a_refused_view_changes_no_later_answer(rt: HostRuntime) -> Result<(), Fail> {
+    let file = sample::file(rt.alloc())?;
+    for k in 4..6u64 {
+        let mut pdb = opened(rt.alloc(), &file, k)?;
+        assert!(rt;
+            pdb.global_symbols().err() == Some(Error::IoError),
+            "view {k}"
+        );
+        assert!(rt; pdb.failures() == 1, "view {k}");
+        assert!(rt; pdb.global_symbols()?.iter().count()? == 6, "view {k}");
+    }
+    let mut pdb = opened(rt.alloc(), &file, 4)?;
+    assert!(rt; pdb.debug_information().err() == Some(Error::IoError));
+    assert!(rt; pdb.debug_information()?.age() == Some(2));
+    let mut pdb = opened(rt.alloc(), &file, 4)?;
+    assert!(rt; pdb.raw_stream(StreamIndex(7)).err() == Some(Error::IoError));
+    let stream = pdb.raw_stream(StreamIndex(7))?;
+    assert!(rt; stream.is_some_and(|stream| stream.as_slice().len() == 17));
+    assert!(rt; pdb.failures() == 1 && pdb.steady());
+    Ok(())
+}

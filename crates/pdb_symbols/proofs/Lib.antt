@@ -1,0 +1,6 @@
+pub mod Parts
+pub mod GlobalForms
+pub mod Records
+pub mod Clauses
+pub mod SymbolSteps
+pub mod SymbolLaws

@@ -1,0 +1,41 @@
+//! Laws of the definitions. Each is the contract of a function that does nothing.
+
+ghost use Rattle.std.specs.Prelude.{◌≡◌, ℕ, ◌-◌, ◌*◌, ◌≤◌, List, ◌∷◌, ◌++◌, length, Ok, Err};
+ghost use Rattle.pdb_base.specs.Left.{Left};
+ghost use Rattle.pdb_base.specs.Tiling.{IsListing};
+ghost use Rattle.pdb_base.specs.declared.error.Error.{Error};
+ghost use Rattle.pdb_symbols.specs.Data.{Data};
+ghost use Rattle.pdb_symbols.specs.Forms.{Is, Refusal, record_at};
+ghost use Rattle.pdb_symbols.specs.SymbolList.{Entry, symbols, symbols_from, StandsBehind};
+
+/// Bytes have one list of symbols from each place on, and it is the one that the contracts name.
+pub fn one_list_of_symbols()
+    ensures is { (b : List ℕ) (p : ℕ) → p ≤ length b → IsListing symbols b p (symbols_from b p) }
+    ensures only { (b : List ℕ) (p : ℕ) (left : Left Entry) → p ≤ length b → IsListing symbols b p left
+        → left ≡ symbols_from b p }
+{}
+
+/// A list of symbols that is started at the index of a symbol, which a list of the same bytes gave, begins with that
+/// symbol, and then has what the other list has behind it.
+pub fn symbols_resume_at_an_index()
+    ensures items { (b : List ℕ) (p : ℕ) (before after : List Entry) (s : Entry)
+        → (symbols_from b p).items ≡ before ++ s ∷ after → (symbols_from b s.index).items ≡ s ∷ after }
+    ensures fault { (b : List ℕ) (p : ℕ) (before after : List Entry) (s : Entry)
+        → (symbols_from b p).items ≡ before ++ s ∷ after → (symbols_from b s.index).fault ≡ (symbols_from b p).fault }
+{}
+
+/// The indices of two symbols, one given right after the other, differ by 2 for the first one's length, by its bytes,
+/// and by whole records that fill the gap between them. From each place on there is at most one symbol for every four
+/// bytes.
+pub fn symbol_spacing()
+    ensures neighbours { (b : List ℕ) (p : ℕ) (before after : List Entry) (s t : Entry)
+        → (symbols_from b p).items ≡ before ++ s ∷ t ∷ after → StandsBehind b s t }
+    ensures few { (b : List ℕ) (p : ℕ) → 4 * length (symbols_from b p).items ≤ length b - p }
+{}
+
+/// What is read of a record, or its refusal, is what its bytes say by the places of its fields, and nothing else.
+pub fn reading_is_what_the_bytes_say()
+    ensures says { (b : List ℕ) (d : Data) → record_at b ≡ Ok d → Is b d }
+    ensures reads { (b : List ℕ) (d : Data) → Is b d → record_at b ≡ Ok d }
+    ensures refused { (b : List ℕ) (e : Error) → record_at b ≡ Err e → Refusal b e }
+{}

@@ -1,0 +1,20 @@
+//! The symbol records of Microsoft's program database (PDB) files: lists of records as they stand one after another
+//! in a stream, and what each record says by its form.
+#![tactic(auto)]
+
+mod data;
+mod form;
+pub mod laws;
+mod parse;
+mod record;
+mod symbol;
+mod table;
+#[cfg(test)]
+mod tests;
+
+pub use data::{
+    ConstantSymbol, DataSymbol, ProcedureReferenceSymbol, PublicSymbol, SymbolData,
+    ThreadStorageSymbol, UserDefinedTypeSymbol,
+};
+pub use symbol::{Symbol, SymbolKind};
+pub use table::{SymbolIter, SymbolTable};
