@@ -13,10 +13,10 @@ use pdb::{Error, FallibleIterator, RawString, Symbol, SymbolData, SymbolIter};
 use std::alloc::{AllocError, Global};
 
 /// The name of a record's form.
-fn form_name(record: &SymbolData<'_>) -> &'static [u8]
-    ensures { result.now ≡ form_text (shown record.now) }
+fn form_name(parsed: &SymbolData<'_>) -> &'static [u8]
+    ensures { result.now ≡ form_text (shown parsed.now) }
 {
-    match record {
+    match parsed {
         SymbolData::Public(_) => b"Public",
         SymbolData::UserDefinedType(_) => b"UserDefinedType",
         SymbolData::ProcedureReference(_) => b"ProcedureReference",
@@ -52,9 +52,9 @@ fn put_record(alloc: Global, out: &mut Vec<u8>, symbol: &Symbol<'_>) -> Result<(
     ensures { OnOk result (out.new.items ≡ out.old.items ++ record_text (record_at (symbol_of symbol.now).bytes)) }
 {
     match symbol.parse(alloc) {
-        Ok(record) => {
-            out.extend_from_slice(form_name(&record))?;
-            put_name(out, record.name())
+        Ok(parsed) => {
+            out.extend_from_slice(form_name(&parsed))?;
+            put_name(out, parsed.name())
         }
         Err(e) => put_refused(out, e),
     }
