@@ -1,13 +1,13 @@
 -- The front of a stream is the beginning of the stream.
-use Rattle.std.proofs.Common.{◌≡◌, ℕ, zero, suc, ◌+◌, ◌*◌, ◌/◌, ◌%◌, ◌<◌, ◌≤◌, min, Bool, true, false, cond, not, ◌&&◌, List, length, get_or, map, take, drop, Option, Some, None, Result, Ok, Err, refl, sym, ap, ◌∙◌, arith, inl, inr, ltb}
+use Rattle.std.proofs.Common.{◌≡◌, ℕ, zero, suc, ◌+◌, ◌*◌, ◌/◌, ◌%◌, ◌<◌, ◌≤◌, min, Bool, true, false, cond, not, ◌&&◌, List, length, map, take, drop, Option, Some, None, Result, Ok, Err, refl, sym, ap, ◌∙◌, arith, inl, inr}
 use Rattle.std.specs.Prelude.{slice_index, nat_lt, nat_eq}
-use Rattle.std.specs.List.{range_with_len, find, list_all, starts_with}
+use Rattle.std.specs.List.{find, list_all, starts_with}
 use Rattle.std.specs.Option.{option_or}
 use Rattle.std.specs.Int.{div_ceil}
 use Rattle.std.proofs.Math.Nat.{div-lt_iff_lt-mul}
 use Rattle.std.proofs.lemmas.Bool.{cases_lt}
 use Rattle.std.proofs.lemmas.Bool.Decides.{nat_tests}
-use Rattle.std.proofs.lemmas.List.{take-append-drop, ext_get_or, get_or-take, take-map, length-take, length-map, take_all}
+use Rattle.std.proofs.lemmas.List.{take-append-drop, ext_get_or, get_or-take, take-map, take_all}
 use Rattle.std.proofs.lemmas.List.Folds.{find-append, list_all-append}
 use Rattle.std.proofs.lemmas.List.FromFn.{take-map-range_with_len, length-map-range_with_len, get_or-map-range_with_len}
 use Rattle.pdb_base.specs.declared.error.Error.{Error}
@@ -15,7 +15,7 @@ use Rattle.pdb_base.specs.declared.error.Error.TheVariants.{UnexpectedEof, PageR
 use Rattle.pdb_base.specs.declared.error.Feature.TheVariants.{SmallMsf}
 use Rattle.pdb_base.specs.Refusal.{◌>>=◌}
 use Rattle.pdb_base.specs.Fields.{number}
-use Rattle.pdb_base.specs.Container.{numbers, numbers_at, pages_at, place, places, is_page, tested, unless_refused, bytes_at, paged, head_of, Head, list_of, open_of, Opened, size_of, limited, front_of, stream_of, is_page_size, page_numbers_of, small_magic, magic}
+use Rattle.pdb_base.specs.Container.{numbers, numbers_at, pages_at, place, places, is_page, tested, unless_refused, bytes_at, paged, head_of, Head, list_of, open_of, Opened, size_of, front_of, stream_of, is_page_size, page_numbers_of, small_magic, magic}
 use Rattle.pdb_base.proofs.Ranges.{before_ceil, ceil_holds}
 use Rattle.pdb_base.proofs.OpenLemmas.{paged-length}
 

@@ -1,5 +1,5 @@
 -- Numbers by their bytes.
-use Rattle.std.proofs.Common.{◌≡◌, min, ℕ, ◌+◌, ◌*◌, ◌^◌, ◌<◌, ◌≤◌, List, length, get_or, take, drop, Some, None, position, ap, sym, ◌∙◌, Ok, Err, refl, inl, inr, arith, rules, length-take, length-drop}
+use Rattle.std.proofs.Common.{◌≡◌, min, ℕ, ◌+◌, ◌*◌, ◌^◌, ◌<◌, ◌≤◌, List, length, get_or, take, drop, Some, None, position, ap, sym, ◌∙◌, Ok, Err, refl, inl, inr, arith, length-take, length-drop}
 use Rattle.std.proofs.lemmas.Bool.Decides.{nat_tests}
 use Rattle.std.specs.Prelude.{◌==◌}
 use Rattle.std.proofs.lemmas.List.{drop_all}

@@ -1,6 +1,6 @@
 -- What is read at a place is what stands there.
-use Rattle.std.proofs.Common.{◌≡◌, ℕ, suc, ◌+◌, ◌-◌, ◌<◌, ◌≤◌, Bool, true, false, List, length, get_or, take, drop, Result, Ok, Err, Option, Some, None, position, refl, sym, ap, ◌∙◌, inl, inr, arith, rules, length-take, length-drop, get_or-drop}
-use Rattle.std.specs.Prelude.{◌==◌, nat_lt}
+use Rattle.std.proofs.Common.{◌≡◌, ℕ, ◌+◌, ◌<◌, true, false, List, length, get_or, take, drop, Result, Ok, Err, Option, Some, None, position, refl, sym, ap, ◌∙◌, inl, inr, arith, length-take, length-drop, get_or-drop}
+use Rattle.std.specs.Prelude.{◌==◌}
 use Rattle.std.specs.List.{position_or_len}
 use Rattle.std.proofs.lemmas.Bool.{cases_lt}
 use Rattle.std.proofs.lemmas.Bool.Decides.{nat_tests}

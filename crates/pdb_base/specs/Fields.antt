@@ -5,7 +5,7 @@ use Rattle.std.specs.Int.{Width, w16, w32, w64, cast_signed, byte_len}
 use Rattle.pdb_base.specs.declared.error.Error.{Error}
 use Rattle.pdb_base.specs.declared.error.Error.TheVariants.{UnexpectedEof, UnexpectedNumericPrefix}
 use Rattle.pdb_base.specs.declared.variant.Variant.{Variant}
-use Rattle.pdb_base.specs.declared.variant.Variant.TheVariants.{U8, U16, U32, U64, I8, I16, I32, I64}
+use Rattle.pdb_base.specs.declared.variant.Variant.TheVariants.{U8, U16, U32, U64, I16, I32, I64}
 use Rattle.pdb_base.specs.Refusal.{◌>>=◌}
 
 -- the sum of b[p + i] * 256 ^ i for each i below w

@@ -1,5 +1,5 @@
 -- What stands at a place of a list of bytes, as facts on places alone.
-use Rattle.std.specs.Prelude.{ℕ, ◌+◌, ◌≡◌, ◌≢◌, ◌<◌, ◌≤◌, List, length, take, drop, slice_index, nat_lt, MatchBool}
+use Rattle.std.specs.Prelude.{ℕ, ◌+◌, ◌≡◌, ◌≢◌, ◌<◌, ◌≤◌, List, length, take, drop, slice_index}
 use Rattle.pdb_base.specs.Fields.{number}
 
 -- n is the number of the w bytes at p

@@ -1,5 +1,5 @@
 -- The string table: names that other tables refer to by their places.
-use Rattle.std.specs.Prelude.{◌≡◌, ℕ, ◌+◌, List, length, take, drop, Result, Ok, Err, nat_lt, ◌==◌, not, if◌then◌else◌}
+use Rattle.std.specs.Prelude.{ℕ, ◌+◌, List, length, take, drop, Result, Ok, Err, nat_lt, ◌==◌, not, if◌then◌else◌}
 use Rattle.pdb_base.specs.declared.error.Feature.TheVariants as feature
 use Rattle.pdb_base.specs.declared.error.Error.{Error}
 use Rattle.pdb_base.specs.declared.error.Error.TheVariants.{UnexpectedEof, UnimplementedFeature}

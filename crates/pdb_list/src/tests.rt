@@ -227,6 +227,32 @@ fn one_failing_view_is_told_once(rt: HostRuntime) -> Result<(), Fail> {
     Ok(())
 }
 
+#[test]
+fn the_front_answers_where_the_whole_is_refused(rt: HostRuntime) -> Result<(), Fail> {
+    let mut dbi = Vec::new(rt.alloc());
+    dbi.extend_from_slice(&streams::DBI)?;
+    dbi.resize(3000, 0)?;
+    let mut file = sample_of(rt.alloc(), &dbi, &streams::SYMBOLS)?;
+    // Page 11 is the directory: a count, six sizes, the number of stream 1, and those of stream 3.
+    let third = 512 * 11 + 4 + 4 * 6 + 4 + 8;
+    assert!(rt; file.get(third) == Some(&6));
+    if let Some(byte) = file.get_mut(third) {
+        *byte = 16;
+    }
+    let mut pdb = PDB::open(rt.alloc(), MemorySource::new(&file))?;
+    for _ in 0..2 {
+        assert!(rt; pdb.global_symbols()?.iter().count()? == 6);
+        let refused = pdb.debug_information().err();
+        assert!(rt; refused == Some(Error::PageReferenceOutOfRange(16)));
+    }
+    let commands = [Command::Globals, Command::Globals];
+    let mut text = Vec::new(rt.alloc());
+    text.extend_from_slice(TEXT)?;
+    text.extend_from_slice(TEXT)?;
+    assert!(rt; ran(rt.alloc(), &file, &commands, &text).is_none());
+    Ok(())
+}
+
 fn opened<'s>(
     alloc: Global,
     file: &'s [u8],

@@ -1,7 +1,6 @@
-use Rattle.std.proofs.Common.{◌≡◌, List, [], ◌∷◌, false, sym}
+use Rattle.std.proofs.Common.{◌≡◌, List, [], ◌∷◌, false}
 use Rattle.std.specs.List.{AllByRecursion}
 use Rattle.std.proofs.lemmas.List.Elements.{All-from_recursion}
-use Rattle.pdb_base.specs.Refusal.{Gives}
 use Rattle.pdb_base.specs.Source.{State, Continues}
 use Rattle.pdb_base.proofs.Passing.{gives_weaken, continues_refl, continues_then, unsteady_before}
 use Rattle.pdb.specs.Answers.{answer, Made, AreMade, GoesOn, IsAnswered}

@@ -1,4 +1,4 @@
-use Rattle.std.proofs.Common.{◌≡◌, ℕ, List, None, Some, Ok, Err, Result, refl}
+use Rattle.std.proofs.Common.{◌≡◌, ℕ, List, None, Ok, Err, Result, refl}
 use Rattle.pdb_base.specs.declared.error.Error.{Error}
 use Rattle.pdb_base.specs.Refusal.{◌>>=◌}
 use Rattle.pdb_base.specs.Container.{stream_of}

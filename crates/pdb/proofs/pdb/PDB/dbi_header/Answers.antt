@@ -1,4 +1,4 @@
-use Rattle.std.proofs.Common.{Some, ap, sym}
+use Rattle.std.proofs.Common.{Some}
 use Rattle.std.proofs.lemmas.Result.{err_from_is_err_and}
 use Rattle.pdb_dbi.proofs.Prefixes.{header_in_fails}
 use Rattle.pdb.proofs.pdb.PDB.dbi_header.Goals as goal

@@ -1,4 +1,3 @@
-use Rattle.std.proofs.Common.{ap, sym}
 use Rattle.std.proofs.lemmas.Result.{err_from_is_err_and}
 use Rattle.pdb.proofs.Kept.{kept_header, information_refused}
 use Rattle.pdb.proofs.pdb.PDB.debug_information.Goals as goal

@@ -1,4 +1,4 @@
-use Rattle.std.proofs.Common.{◌≡◌, ◌+◌, List, length, Some, ap, arith, refl, ◌∙◌, sym}
+use Rattle.std.proofs.Common.{◌+◌, ap, refl, ◌∙◌, sym}
 use Rattle.pdb_base.proofs.Numbers.{cstring_there, cstring_not}
 use Rattle.pdb_base.proofs.buffer.ParseBuffer.parse_cstring.Goals as goal
 

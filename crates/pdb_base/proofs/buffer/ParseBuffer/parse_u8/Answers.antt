@@ -1,4 +1,4 @@
-use Rattle.std.proofs.Common.{arith, refl, ◌∙◌}
+use Rattle.std.proofs.Common.{arith, refl}
 use Rattle.pdb_base.proofs.Numbers.{number_there, number_not, number_1}
 use Rattle.pdb_base.proofs.buffer.ParseBuffer.parse_u8.Goals as goal
 

@@ -1,4 +1,4 @@
-use Rattle.std.proofs.Common.{arith, refl}
+use Rattle.std.proofs.Common.{arith}
 use Rattle.pdb_base.specs.Fields.{pascal_at}
 use Rattle.pdb_base.proofs.Numbers.{length_bytes}
 use Rattle.pdb_base.proofs.buffer.ParseBuffer.parse_u8_pascal_string.Goals as goal

@@ -1,4 +1,4 @@
-use Rattle.std.proofs.Common.{◌≡◌, ℕ, List, ◌∙◌, ap, arith, ◌+◌, ◌-◌, length, min, take, drop}
+use Rattle.std.proofs.Common.{◌≡◌, ℕ, List, ◌∙◌, ap, arith, ◌+◌, ◌-◌, length, min}
 use Rattle.pdb_base.specs.Cursor.{Cursor}
 use Rattle.pdb_base.specs.Fields.{cstring_at}
 use Rattle.pdb_base.proofs.Numbers.{cstring_within}
