@@ -3,6 +3,7 @@ pub mod Numbers
 pub mod Places
 pub mod Variants
 pub mod Tilings
+pub mod Readings
 pub mod Ranges
 pub mod PageLemmas
 pub mod Views

@@ -7,6 +7,7 @@ pub mod Index
 pub mod SectionOrder
 pub mod Left
 pub mod Tiling
+pub mod Reading
 pub mod Source
 pub mod Container
 pub mod Joined

@@ -1,6 +1,6 @@
 //! Why something could not be read.
 
-ghost use Rattle.std.specs.Prelude.{◌≡◌};
+ghost use Rattle.std.specs.Prelude.{◌≡◌, Some};
 ghost use Rattle.pdb_base.specs.declared.error.Error.TheVariants.{OutOfMemory};
 ghost use Rattle.pdb_base.specs.Refusal.{number_of, feature_text, part_text};
 
@@ -39,6 +39,8 @@ impl Feature {
 }
 
 impl fmt::Display for Feature {
+    ghost output = { λ feature. Some (feature_text feature) };
+
     fn fmt<W: fmt::Write>(&self, f: &mut fmt::Formatter<W>) -> fmt::Result {
         f.write_str(self.as_str())
     }
@@ -72,6 +74,8 @@ impl Part {
 }
 
 impl fmt::Display for Part {
+    ghost output = { λ part. Some (part_text part) };
+
     fn fmt<W: fmt::Write>(&self, f: &mut fmt::Formatter<W>) -> fmt::Result {
         f.write_str(self.as_str())
     }

@@ -1,1 +1,4 @@
 pub mod Prefixes
+pub mod Lists
+pub mod Rests
+pub mod NameList

@@ -1,14 +1,23 @@
 //! The DBI stream: what a file tells of the image and its modules.
 
-ghost use Rattle.std.specs.Prelude.{◌≡◌, Ok};
+ghost use Rattle.std.specs.Prelude.{◌≡◌, Ok, IfOk};
 ghost use Rattle.pdb_base.specs.Refusal.{Answers};
 ghost use Rattle.pdb_dbi.specs.Header.{header_of, debug_information_of, age_of};
+ghost use Rattle.pdb_dbi.specs.Contributions.{contribution_records_of, contributions_in};
+ghost use Rattle.pdb_dbi.specs.ExtraStreams.{extra_streams_part_of};
 ghost use Rattle.pdb_dbi.specs.Machine.{machine_of};
+ghost use Rattle.pdb_dbi.specs.Modules.{module_list_of, modules_in};
 
+use crate::contributions::DBISectionContributionIter;
 use crate::header::{DBIHeader, parse_header};
 use crate::machine::MachineType;
+use crate::modules::ModuleIter;
+use crate::numbers::part_of;
 use pdb_base::{Result, Stream};
 use std::marker::Model;
+
+/// The header's size, behind which the parts stand.
+const HEADER_SIZE: usize = 64;
 
 /// The DBI stream, whose header was read. A contract sees it as the stream's bytes.
 #[derive(Drop)]
@@ -29,6 +38,8 @@ impl<'s> Model for DebugInformation<'s> {
 }
 
 impl<'s> DebugInformation<'s> {
+    ghost use Rattle.pdb_dbi.specs.Views.{modules_left, modules_bytes, modules_steps, contributions_left, contributions_bytes, contributions_steps};
+
     /// Reads the header of the DBI stream, and keeps the stream. It is refused as `DBIHeader::parse` is.
     #[tactic(auto, unfolding(crate::specs::Header::debug_information_of))]
     pub fn parse(stream: Stream<'s>) -> Result<DebugInformation<'s>>
@@ -53,6 +64,50 @@ impl<'s> DebugInformation<'s> {
         ensures { (h : DBIHeader) → header_of self.now ≡ Ok h → result ≡ Ok (machine_of h.machine_type) }
     {
         Ok(MachineType::from(self.header().machine_type))
+    }
+
+    /// The modules, which stand behind the header: `UnexpectedEof` where their part isn't all there.
+    #[tactic(auto, unfolding(crate::specs::Modules::modules_in, crate::specs::Modules::module_list_of))]
+    pub fn modules(&self) -> Result<ModuleIter<'_>>
+        ensures left { Answers modules_left result (modules_in self.now) }
+        ensures bytes { IfOk result (λ it. module_list_of self.now ≡ Ok (modules_bytes it)) }
+        ensures steps { IfOk result (λ it. modules_steps it ≡ 0) }
+    {
+        let size = self.header().module_list_size as usize;
+        let list = part_of(self.stream.as_slice(), HEADER_SIZE, size)?;
+        Ok(ModuleIter::new(list))
+    }
+
+    /// The section contributions, whose part stands behind the modules' one: `UnexpectedEof` where it isn't all there,
+    /// and where it has no version.
+    #[tactic(auto, unfolding(crate::specs::Contributions::contributions_in, crate::specs::Contributions::contribution_records_of, crate::specs::Contributions::contribution_part_of))]
+    pub fn section_contributions(&self) -> Result<DBISectionContributionIter<'_>>
+        ensures left { Answers contributions_left result (contributions_in self.now) }
+        ensures bytes { IfOk result (λ it. contribution_records_of self.now ≡ Ok (contributions_bytes it)) }
+        ensures steps { IfOk result (λ it. contributions_steps it ≡ 0) }
+    {
+        let header = self.header();
+        let start = HEADER_SIZE + header.module_list_size as usize;
+        let size = header.section_contribution_size as usize;
+        let part = part_of(self.stream.as_slice(), start, size)?;
+        DBISectionContributionIter::new(part)
+    }
+
+    // The part with the numbers of further streams.
+    #[tactic(auto, unfolding(crate::specs::ExtraStreams::extra_streams_part_of))]
+    pub(crate) fn extra_streams_part(&self) -> Result<&[u8]>
+        ensures part { Answers (λ x. x.now) result (extra_streams_part_of self.now) }
+    {
+        let header = self.header();
+        let start = HEADER_SIZE
+            + header.module_list_size as usize
+            + header.section_contribution_size as usize
+            + header.section_map_size as usize
+            + header.file_info_size as usize
+            + header.type_server_map_size as usize
+            + header.ec_substream_size as usize;
+        let size = header.debug_header_size as usize;
+        part_of(self.stream.as_slice(), start, size)
     }
 
     /// How often the file was written, by the header; none for 0, which says nothing.

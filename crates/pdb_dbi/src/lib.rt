@@ -2,15 +2,25 @@
 //! modules.
 #![tactic(auto)]
 
+mod contributions;
 mod debug_information;
+mod extra_streams;
 mod header;
+mod information;
 pub mod laws;
 mod machine;
+mod modules;
+mod names;
 mod numbers;
 
+pub use contributions::{DBISectionContribution, DBISectionContributionIter};
 pub use debug_information::DebugInformation;
+pub use extra_streams::DBIExtraStreams;
 pub use header::{DBIHeader, HeaderVersion};
+pub use information::PDBInformation;
 pub use machine::MachineType;
+pub use modules::{Module, ModuleIter};
+pub use names::{NameIter, StreamName, StreamNames};
 
 #[cfg(test)]
 mod tests;
