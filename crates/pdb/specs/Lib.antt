@@ -10,3 +10,12 @@ pub use Rattle.pdb_symbols.specs.Data
 pub use Rattle.pdb_symbols.specs.Forms
 pub use Rattle.pdb_symbols.specs.SymbolList
 pub use Rattle.pdb_symbols.specs.Views
+pub use Rattle.pdb_dbi.specs.declared.contributions.DBISectionContribution
+pub use Rattle.pdb_dbi.specs.declared.header.HeaderVersion
+pub use Rattle.pdb_dbi.specs.declared.machine.MachineType
+pub use Rattle.pdb_dbi.specs.Header
+pub use Rattle.pdb_dbi.specs.Machine
+pub use Rattle.pdb_dbi.specs.Information
+pub use Rattle.pdb_dbi.specs.Names
+pub use Rattle.pdb_dbi.specs.Modules
+pub use Rattle.pdb_dbi.specs.Contributions

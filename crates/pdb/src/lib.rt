@@ -2,6 +2,7 @@
 #![tactic(auto)]
 
 pub mod laws;
+mod named;
 mod pdb;
 
 pub use pdb::{PDB, StreamIndexExt};
@@ -11,7 +12,11 @@ pub use pdb_base::{
     Result, SectionCharacteristics, Source, SourceSlice, Steps, Stream, StreamIndex, StringRef,
     StringTable, SymbolIndex, TypeIndex, Variant, View,
 };
-pub use pdb_dbi::{DBIHeader, DebugInformation, HeaderVersion, MachineType};
+pub use pdb_dbi::{
+    DBIExtraStreams, DBIHeader, DBISectionContribution, DBISectionContributionIter,
+    DebugInformation, HeaderVersion, MachineType, Module, ModuleIter, NameIter, PDBInformation,
+    StreamName, StreamNames,
+};
 pub use pdb_symbols::{
     ConstantSymbol, DataSymbol, ProcedureReferenceSymbol, PublicSymbol, Symbol, SymbolData,
     SymbolIter, SymbolKind, SymbolTable, ThreadStorageSymbol, UserDefinedTypeSymbol,

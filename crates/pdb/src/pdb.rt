@@ -6,13 +6,18 @@ ghost use Rattle.pdb_base.specs.Refusal.{Gives};
 ghost use Rattle.pdb_base.specs.Source.{State, Continues, MayFail};
 ghost use Rattle.pdb_base.specs.Container.{opens};
 ghost use Rattle.pdb_dbi.specs.Header.{header_in};
-ghost use Rattle.pdb.specs.Answers.{debug_information_in, global_symbols_in, raw_stream_in};
+ghost use Rattle.pdb_dbi.specs.Views.{information};
+ghost use Rattle.pdb.specs.Answers.{information_in, named_stream_in, debug_information_in, global_symbols_in, raw_stream_in};
 
+use crate::named::number_named;
 use pdb_base::{Error, Meaning, Msf, Result, Source, Stream, StreamIndex};
-use pdb_dbi::{DBIHeader, DebugInformation};
+use pdb_dbi::{DBIHeader, DebugInformation, PDBInformation};
 use pdb_symbols::SymbolTable;
 use std::alloc::Global;
 use std::marker::Model;
+
+/// The information stream.
+const INFORMATION_STREAM: u32 = 1;
 
 /// The stream of debug information.
 const DBI_STREAM: u32 = 3;
@@ -28,6 +33,7 @@ const DBI_FRONT: u32 = 1024;
 /// the source failed, and `OutOfMemory`. After a refusal the same call may be made again.
 #[derive(Drop)]
 pub struct PDB<'s, S: Meaning> {
+    alloc: Global,
     msf: Msf<'s, S>,
     header: Option<DBIHeader>,
 }
@@ -51,6 +57,7 @@ impl<'s, S: Source<'s>> PDB<'s, S> {
         ensures opened { Gives (λ _. tt) ((S.state source).steady ≡ false) result (opens (S.state source).file) }
     {
         Ok(PDB {
+            alloc,
             msf: Msf::open(alloc, source)?,
             header: None,
         })
@@ -68,6 +75,30 @@ impl<'s, S: Source<'s>> PDB<'s, S> {
         ensures { result ≡ self.now.steady }
     {
         self.msf.steady()
+    }
+
+    /// The information stream, stream 1: the numbers by which a file is matched with its image, and the names of
+    /// streams. `UnexpectedEof` below 32 bytes.
+    #[tactic(auto, unfolding(crate::specs::Answers::information_in))]
+    pub fn pdb_information(&mut self) -> Result<PDBInformation<'s>>
+        ensures continues { Continues self.old self.new }
+        ensures answer { Gives information (MayFail self.old self.new) result (information_in self.old.file) }
+    {
+        let stream = self.msf.get(INFORMATION_STREAM, None)?;
+        PDBInformation::parse(stream)
+    }
+
+    /// The stream of the first name that is this one, unparsed. `UnexpectedEof` where the names of streams aren't all
+    /// there, and `StreamNameNotFound` where none is this one, or the first that is has the index of no stream.
+    #[tactic(auto, unfolding(crate::specs::Answers::named_stream_in))]
+    pub fn named_stream(&mut self, name: &[u8]) -> Result<Stream<'s>>
+        ensures continues { Continues self.old self.new }
+        ensures answer { Gives (λ s. s) (MayFail self.old self.new) result (named_stream_in self.old.file name.now) }
+    {
+        let information = self.pdb_information()?;
+        let names = information.stream_names(self.alloc)?;
+        let number = number_named(&names, name)?;
+        self.msf.get(number, None)
     }
 
     /// The header in the front of the DBI stream; read once.
