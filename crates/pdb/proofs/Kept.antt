@@ -9,7 +9,7 @@ use Rattle.pdb_dbi.specs.Header.{header_of, header_in, debug_information_of}
 use Rattle.pdb_dbi.proofs.Prefixes.{front_header, information_same, information_fails}
 use Rattle.pdb_dbi.specs.declared.information.PDBInformation.{PDBInformation}
 use Rattle.pdb_dbi.specs.Information.{Information, fields_of, information_of}
-use Rattle.pdb_dbi.specs.Views.{information}
+use Rattle.pdb_dbi.specs.DbiViews.{information}
 use Rattle.pdb.specs.Answers.{debug_information_in, information_in}
 
 -- the header of the whole DBI stream is that of its front

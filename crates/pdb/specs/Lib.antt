@@ -19,3 +19,6 @@ pub use Rattle.pdb_dbi.specs.Information
 pub use Rattle.pdb_dbi.specs.Names
 pub use Rattle.pdb_dbi.specs.Modules
 pub use Rattle.pdb_dbi.specs.Contributions
+pub use Rattle.pdb_dbi.specs.DbiViews
+pub use Rattle.pdb_dbi.specs.declared.header.DBIHeader
+pub use Rattle.pdb_base.specs.declared.index.PdbInternalSectionOffset

@@ -5,7 +5,7 @@ ghost use Rattle.std.specs.List.{find};
 ghost use Rattle.std.specs.Option.{option_map};
 ghost use Rattle.std.specs.Str.{bytes_eq};
 ghost use Rattle.pdb_base.specs.Refusal.{Answers};
-ghost use Rattle.pdb_dbi.specs.Views.{stream_name};
+ghost use Rattle.pdb_dbi.specs.DbiViews.{stream_name};
 ghost use Rattle.pdb.specs.Answers.{listed_number, number_named};
 
 use pdb_base::{Error, Result, StreamIndex};

@@ -6,7 +6,7 @@ ghost use Rattle.pdb_base.specs.Refusal.{Gives};
 ghost use Rattle.pdb_base.specs.Source.{State, Continues, MayFail};
 ghost use Rattle.pdb_base.specs.Container.{opens};
 ghost use Rattle.pdb_dbi.specs.Header.{header_in};
-ghost use Rattle.pdb_dbi.specs.Views.{information};
+ghost use Rattle.pdb_dbi.specs.DbiViews.{information};
 ghost use Rattle.pdb.specs.Answers.{information_in, named_stream_in, debug_information_in, global_symbols_in, raw_stream_in};
 
 use crate::named::number_named;

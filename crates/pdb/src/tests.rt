@@ -155,3 +155,81 @@ fn an_error_of_the_closure_leaves_the_rest(rt: HostRuntime) -> Result<()> {
     assert_eq!(rt; table.iter().collect(rt.alloc())?.len(), 2);
     Ok(())
 }
+
+/// Five pages of 1024 bytes: 1 has the directory's list, 2 the directory, 3 the information stream, which is stream 1,
+/// and 4 the three bytes of stream 4.
+fn named_file(alloc: Global, information: &[u8]) -> Result<Vec<u8>> {
+    let mut bytes = vec![in alloc; 0u8; 5120]?;
+    put(&mut bytes, 0, b"Microsoft C/C++ MSF 7.00\r\n\x1aDS\0\0\0");
+    put_numbers(&mut bytes, 32, &[1024, 1, 5, 32, 0, 1]);
+    put_numbers(&mut bytes, 1024, &[2]);
+    let size = information.len() as u32;
+    let absent = 0xffff_ffff;
+    put_numbers(&mut bytes, 2048, &[5, 0, size, absent, absent, 3, 3, 4]);
+    put(&mut bytes, 3072, information);
+    put(&mut bytes, 4096, b"abc");
+    Ok(bytes)
+}
+
+/// Three names: `a` of stream 4, `b` of no stream, and `a` of stream 0.
+const NAMED: &[u8; 76] =
+    b"\x94\x2e\x31\x01\x07\0\0\0\x03\0\0\0\x04\x03\x02\x01\x06\x05\x08\x07\x09\x0a\x0b\x0c\x0d\x0e\x0f\x10\x04\0\0\0a\0b\0\x03\0\0\0\0\0\0\0\0\0\0\0\0\0\0\0\0\0\0\0\x04\0\0\0\x02\0\0\0\xff\xff\0\0\0\0\0\0\0\0\0\0";
+
+#[test]
+fn the_information_stream_is_read(rt: HostRuntime) -> Result<()> {
+    let bytes = named_file(rt.alloc(), NAMED)?;
+    let mut pdb = PDB::open(rt.alloc(), MemorySource::new(&bytes))?;
+    for _ in 0..2 {
+        let information = pdb.pdb_information()?;
+        assert!(rt; matches!(information.version, HeaderVersion::OtherValue(20000404)));
+        assert_eq!(rt; information.signature, 7);
+        assert_eq!(rt; information.age, 3);
+        assert_eq!(rt;
+            information.guid,
+            [1, 2, 3, 4, 5, 6, 7, 8, 9, 10, 11, 12, 13, 14, 15, 16]
+        );
+        assert_eq!(rt; information.names_offset, 32);
+        assert_eq!(rt; information.names_size, 4);
+        assert_eq!(rt; information.stream_names(rt.alloc())?.iter().count(), 3);
+        let refused = pdb.debug_information().err();
+        assert_eq!(rt; refused, Some(Error::StreamNotFound(3)));
+    }
+    Ok(())
+}
+
+#[test]
+fn a_named_stream_is_that_of_the_first_name(rt: HostRuntime) -> Result<()> {
+    let bytes = named_file(rt.alloc(), NAMED)?;
+    let mut pdb = PDB::open(rt.alloc(), MemorySource::new(&bytes))?;
+    let none = Some(Error::StreamNameNotFound);
+    for _ in 0..2 {
+        assert_eq!(rt; pdb.named_stream(b"a")?.as_slice(), b"abc".as_slice());
+        assert_eq!(rt; pdb.named_stream(b"b").err(), none);
+        assert_eq!(rt; pdb.named_stream(b"c").err(), none);
+        assert_eq!(rt; pdb.named_stream(b"").err(), none);
+        assert_eq!(rt; pdb.named_stream(b"a\0").err(), none);
+    }
+    assert!(rt; pdb.failures() == 0 && pdb.steady());
+    Ok(())
+}
+
+#[test]
+fn damaged_names_refuse_every_name(rt: HostRuntime) -> Result<()> {
+    for k in 0..76usize {
+        let bytes = named_file(rt.alloc(), &NAMED[..k])?;
+        let mut pdb = PDB::open(rt.alloc(), MemorySource::new(&bytes))?;
+        assert!(rt;
+            pdb.named_stream(b"a").err() == Some(Error::UnexpectedEof),
+            "cut to {k}"
+        );
+        let short = Some(Error::UnexpectedEof);
+        let refused = pdb.pdb_information().err();
+        assert!(rt; refused == if k < 32 { short } else { None }, "cut to {k}");
+    }
+    let mut beyond = *NAMED;
+    beyond[68] = 4;
+    let bytes = named_file(rt.alloc(), &beyond)?;
+    let mut pdb = PDB::open(rt.alloc(), MemorySource::new(&bytes))?;
+    assert!(rt; pdb.named_stream(b"a").err() == Some(Error::UnexpectedEof));
+    Ok(())
+}

@@ -5,4 +5,4 @@ pub mod Names
 pub mod Modules
 pub mod Contributions
 pub mod ExtraStreams
-pub mod Views
+pub mod DbiViews

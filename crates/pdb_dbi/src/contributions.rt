@@ -78,7 +78,7 @@ pub struct DBISectionContributionIter<'c> {
 }
 
 impl<'c> DBISectionContributionIter<'c> {
-    ghost use Rattle.pdb_dbi.specs.Views.{contributions_left, contributions_bytes, contributions_steps};
+    ghost use Rattle.pdb_dbi.specs.DbiViews.{contributions_left, contributions_bytes, contributions_steps};
 
     // The contributions of a part: its version, and then the records.
     #[tactic(auto, unfolding(crate::specs::Contributions::contributions_of, crate::specs::Contributions::records_of))]
@@ -105,7 +105,7 @@ impl<'c> FallibleIterator for DBISectionContributionIter<'c> {
     ghost use Rattle.std.specs.Prelude.{IfOk, IfErr, IfSome};
     ghost use Rattle.pdb_base.specs.Left.{Yields};
     ghost use Rattle.pdb_dbi.specs.declared.contributions.DBISectionContribution.{DBISectionContribution};
-    ghost use Rattle.pdb_dbi.specs.Views.{contributions_left, contributions_bytes, contributions_steps};
+    ghost use Rattle.pdb_dbi.specs.DbiViews.{contributions_left, contributions_bytes, contributions_steps};
 
     type Item = DBISectionContribution;
 
@@ -120,6 +120,7 @@ impl<'c> FallibleIterator for DBISectionContributionIter<'c> {
         ensures yields { Yields (λ c. c) (contributions_left self.old) result (contributions_left self.new) }
         ensures few { length (contributions_left self.old).items < 2 ^ 64 }
         ensures bytes { contributions_bytes self.new ≡ contributions_bytes self.old }
+        ensures small { length (contributions_bytes self.new) < 2 ^ 32 }
         ensures bound { contributions_steps self.new ≤ length (contributions_bytes self.new) + 1 }
         ensures stepped { IfOk result (λ o. IfSome o (λ _. contributions_steps self.new ≡ contributions_steps self.old + 1)) }
         ensures stepped_to_fault { IfErr result (λ _. contributions_steps self.new ≡ contributions_steps self.old + 1) }

@@ -38,7 +38,7 @@ impl<'s> Model for DebugInformation<'s> {
 }
 
 impl<'s> DebugInformation<'s> {
-    ghost use Rattle.pdb_dbi.specs.Views.{modules_left, modules_bytes, modules_steps, contributions_left, contributions_bytes, contributions_steps};
+    ghost use Rattle.pdb_dbi.specs.DbiViews.{modules_left, modules_bytes, modules_steps, contributions_left, contributions_bytes, contributions_steps};
 
     /// Reads the header of the DBI stream, and keeps the stream. It is refused as `DBIHeader::parse` is.
     #[tactic(auto, unfolding(crate::specs::Header::debug_information_of))]

@@ -4,7 +4,7 @@ ghost use Rattle.std.specs.Prelude.{◌≡◌, ◌≤◌, length};
 ghost use Rattle.pdb_base.specs.Refusal.{Answers, Gives};
 ghost use Rattle.pdb_dbi.specs.Information.{fields_of, guid_of, information_of};
 ghost use Rattle.pdb_dbi.specs.Names.{names_of};
-ghost use Rattle.pdb_dbi.specs.Views.{information};
+ghost use Rattle.pdb_dbi.specs.DbiViews.{information};
 
 use crate::header::HeaderVersion;
 use crate::names::{StreamNames, read_names};

@@ -153,7 +153,7 @@ pub struct ModuleIter<'m> {
 }
 
 impl<'m> ModuleIter<'m> {
-    ghost use Rattle.pdb_dbi.specs.Views.{modules_left, modules_bytes, modules_steps};
+    ghost use Rattle.pdb_dbi.specs.DbiViews.{modules_left, modules_bytes, modules_steps};
 
     // The modules of these bytes.
     pub(crate) fn new(bytes: &'m [u8]) -> Self
@@ -173,7 +173,7 @@ impl<'m> FallibleIterator for ModuleIter<'m> {
     ghost use Rattle.std.specs.Prelude.{IfOk, IfErr, IfSome};
     ghost use Rattle.pdb_base.specs.Left.{Yields};
     ghost use Rattle.pdb_dbi.specs.Modules.{ModuleEntry};
-    ghost use Rattle.pdb_dbi.specs.Views.{modules_left, modules_bytes, modules_steps};
+    ghost use Rattle.pdb_dbi.specs.DbiViews.{modules_left, modules_bytes, modules_steps};
 
     type Item = Module<'m>;
 
@@ -188,6 +188,7 @@ impl<'m> FallibleIterator for ModuleIter<'m> {
         ensures yields { Yields (λ m. m) (modules_left self.old) result (modules_left self.new) }
         ensures few { length (modules_left self.old).items < 2 ^ 64 }
         ensures bytes { modules_bytes self.new ≡ modules_bytes self.old }
+        ensures small { length (modules_bytes self.new) < 2 ^ 32 }
         ensures bound { modules_steps self.new ≤ length (modules_bytes self.new) + 1 }
         ensures stepped { IfOk result (λ o. IfSome o (λ _. modules_steps self.new ≡ modules_steps self.old + 1)) }
         ensures stepped_to_fault { IfErr result (λ _. modules_steps self.new ≡ modules_steps self.old + 1) }

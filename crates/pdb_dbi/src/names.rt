@@ -5,7 +5,7 @@ ghost use Rattle.std.specs.Slice.Iter.{iter_rest};
 ghost use Rattle.pdb_base.specs.Cursor.{Reads};
 ghost use Rattle.pdb_base.specs.Refusal.{Answers, Gives};
 ghost use Rattle.pdb_dbi.specs.Names.{name_at, names_of, names_up_to, pairs_at, words_at};
-ghost use Rattle.pdb_dbi.specs.Views.{stream_name};
+ghost use Rattle.pdb_dbi.specs.DbiViews.{stream_name};
 
 use crate::numbers::{part_of, u16_at, u32_at};
 use pdb_base::{ParseBuffer, RawString, Result, StreamIndex};
@@ -34,7 +34,7 @@ pub struct StreamNames<'s> {
 impl<'s> Model for StreamNames<'s> {
     ghost use Rattle.std.specs.Prelude.{List, map};
     ghost use Rattle.pdb_dbi.specs.Names.{Name};
-    ghost use Rattle.pdb_dbi.specs.Views.{stream_name};
+    ghost use Rattle.pdb_dbi.specs.DbiViews.{stream_name};
 
     ghost Value = { List Name };
 

@@ -1,18 +1,17 @@
 -- Words, one command after another.
-use Rattle.std.proofs.Common.{◌≡◌, ℕ, zero, suc, ◌+◌, ◌-◌, ◌<◌, ◌≤◌, List, [], ◌∷◌, ◌++◌, length, codes, Result, Ok, Err, true, false, refl, sym, ap, ◌∙◌, append_assoc, append-nil, arith, length-append, nat_lt}
+use Rattle.std.proofs.Common.{◌≡◌, ℕ, zero, suc, ◌+◌, ◌-◌, ◌<◌, ◌≤◌, List, [], ◌∷◌, ◌++◌, length, codes, Option, None, Result, Ok, Err, true, false, refl, sym, ap, ◌∙◌, append_assoc, append-nil, arith, length-append, nat_lt}
 use Rattle.std.specs.Str.{bytes_eq}
 use Rattle.std.proofs.lemmas.Bool.Decides.{nat_tests}
 use Rattle.std.proofs.lemmas.Slice.Eq.{bytes_eq-Decides}
 use Rattle.pdb_list.specs.declared.command.Command.{Command}
-use Rattle.pdb_list.specs.Words.{word_at, command_at, commands_from, behind, spelled}
+use Rattle.pdb_list.specs.Words.{plain_command, command_at, commands_from, behind, spelled}
 
 differs : (xs ys : List ℕ) → (xs ≡ ys → ⊥) → bytes_eq xs ys ≡ false
 differs xs ys h = let d = bytes_eq-Decides xs ys in grind arith
 
 -- the word is no command's
-pub no_command : (words : List (List ℕ)) (p : ℕ) (w : List ℕ) → w ≡ word_at words p → (w ≡ codes "globals" → ⊥) → command_at words p ≡ Err p
-unfolding command_at
-no_command words p w e h = rw (← e, differs w (codes "globals") h) refl
+pub no_command : (w : List ℕ) → (w ≡ codes "info" → ⊥) → (w ≡ codes "names" → ⊥) → (w ≡ codes "modules" → ⊥) → (w ≡ codes "contributions" → ⊥) → (w ≡ codes "globals" → ⊥) → plain_command w ≡ None
+no_command w a b c d e = rw (differs w (codes "info") a, differs w (codes "names") b, differs w (codes "modules") c, differs w (codes "contributions") d, differs w (codes "globals") e) refl
 
 behind_behind : (cs ds : List Command) (told : Result (List Command) ℕ) → behind cs (behind ds told) ≡ behind (cs ++ ds) told
 behind_behind cs ds (Ok es) = ap Ok (sym (append_assoc cs ds es))

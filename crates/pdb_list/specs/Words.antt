@@ -1,8 +1,8 @@
 -- The commands that words spell.
-use Rattle.std.specs.Prelude.{◌≡◌, ℕ, zero, suc, ◌+◌, List, [], ◌∷◌, ◌++◌, length, codes, Bool, true, false, Result, Ok, Err, nat_lt, if◌then◌else◌, slice_index_or}
+use Rattle.std.specs.Prelude.{◌≡◌, ℕ, zero, suc, ◌+◌, List, [], ◌∷◌, ◌++◌, length, codes, Bool, true, false, Option, Some, None, Result, Ok, Err, nat_lt, if◌then◌else◌, slice_index_or}
 use Rattle.std.specs.Str.{bytes_eq}
 use Rattle.pdb_list.specs.declared.command.Command.{Command}
-use Rattle.pdb_list.specs.declared.command.Command.TheVariants.{Globals}
+use Rattle.pdb_list.specs.declared.command.Command.TheVariants.{Info, Names, Modules, Contributions, Globals}
 use Rattle.pdb_list.specs.declared.command.WordsError.{WordsError}
 use Rattle.pdb_list.specs.declared.command.WordsError.TheVariants.{BadWord, OutOfMemory}
 
@@ -16,9 +16,24 @@ asks_for_sample (word ∷ next ∷ rest) = false
 abbrev pub word_at : List (List ℕ) → ℕ → List ℕ
 word_at words p = slice_index_or words p []
 
+-- the command of one word, where there is one
+abbrev pub plain_command : List ℕ → Option Command
+plain_command word =
+    if bytes_eq word (codes "info") then Some Info
+    else if bytes_eq word (codes "names") then Some Names
+    else if bytes_eq word (codes "modules") then Some Modules
+    else if bytes_eq word (codes "contributions") then Some Contributions
+    else if bytes_eq word (codes "globals") then Some Globals
+    else None
+
+-- a command of one word; or the place of the bad word
+abbrev pub of_one_word : Option Command → ℕ → Result (Command × ℕ) ℕ
+of_one_word (Some c) p = Ok (c, 1)
+of_one_word None p = Err p
+
 -- the command that begins with the word at p, and how many words spell it; or the place of the bad word
 unfoldable pub command_at : List (List ℕ) → ℕ → Result (Command × ℕ) ℕ
-command_at words p = if bytes_eq (word_at words p) (codes "globals") then Ok (Globals, 1) else Err p
+command_at words p = of_one_word (plain_command (word_at words p)) p
 
 -- some commands before others
 abbrev pub behind : List Command → Result (List Command) ℕ → Result (List Command) ℕ

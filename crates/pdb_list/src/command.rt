@@ -1,13 +1,21 @@
 //! What the program is asked for.
 
 ghost use Rattle.std.specs.Prelude.{◌≡◌, ◌+◌, ◌<◌, ◌≤◌, length, map, string_bytes, IfOk};
-ghost use Rattle.pdb_list.specs.Words.{Tells, command_at, spelled, asks_for_sample};
+ghost use Rattle.pdb_list.specs.Words.{Tells, plain_command, command_at, spelled, asks_for_sample};
 
 use std::alloc::{AllocError, AllocFailed, Global};
 
 /// A part of a file to be listed.
 #[derive(Clone, Copy, Debug, PartialEq, Eq)]
 pub enum Command {
+    /// Which file it is: `info`.
+    Info,
+    /// The names of streams: `names`.
+    Names,
+    /// The modules: `modules`.
+    Modules,
+    /// Which bytes of the image came from which module: `contributions`.
+    Contributions,
     /// The global symbols: `globals`.
     Globals,
 }
@@ -42,6 +50,20 @@ impl<T: Drop> From<AllocFailed<T>> for WordsError {
     }
 }
 
+/// The command of one word, where there is one.
+fn plain_command(word: &str) -> Option<Command>
+    ensures { result ≡ plain_command word.now }
+{
+    match word {
+        "info" => Some(Command::Info),
+        "names" => Some(Command::Names),
+        "modules" => Some(Command::Modules),
+        "contributions" => Some(Command::Contributions),
+        "globals" => Some(Command::Globals),
+        _ => None,
+    }
+}
+
 /// The command that begins at a place, and how many words spell it.
 #[tactic(auto, unfolding(crate::specs::Words::command_at))]
 fn command_from(words: &[String], at: usize) -> Result<(Command, usize), WordsError>
@@ -51,9 +73,9 @@ fn command_from(words: &[String], at: usize) -> Result<(Command, usize), WordsEr
     let Some(word) = words.get(at) else {
         return Err(WordsError::BadWord(at));
     };
-    match word.as_str() {
-        "globals" => Ok((Command::Globals, 1)),
-        _ => Err(WordsError::BadWord(at)),
+    match plain_command(word.as_str()) {
+        Some(command) => Ok((command, 1)),
+        None => Err(WordsError::BadWord(at)),
     }
 }
 
@@ -105,6 +127,19 @@ mod tests {
         let globals = Command::Globals;
         let one = parsed(alloc, &["globals"])?.expect(&rt, "a command");
         assert_eq!(rt; one.as_slice(), [globals].as_slice());
+        let all = parsed(
+            alloc,
+            &["info", "names", "modules", "contributions", "globals"],
+        )?
+        .expect(&rt, "commands");
+        let five = [
+            Command::Info,
+            Command::Names,
+            Command::Modules,
+            Command::Contributions,
+            Command::Globals,
+        ];
+        assert_eq!(rt; all.as_slice(), five.as_slice());
         let three = parsed(alloc, &["globals", "globals", "globals"])?.expect(&rt, "commands");
         assert_eq!(rt; three.as_slice(), [globals, globals, globals].as_slice());
         let none = parsed(alloc, &[])?.expect(&rt, "no command");

@@ -7,11 +7,14 @@ ghost use Rattle.pdb.specs.Error.TheVariants.{OutOfMemory};
 ghost use Rattle.pdb.specs.Source.{State, Continues};
 ghost use Rattle.pdb.specs.Container.{opens};
 ghost use Rattle.pdb_list.specs.Written.{WroteFirst, WroteFront};
-ghost use Rattle.pdb_list.specs.Texts.{command_text, error_text, run_error_of, texts};
+ghost use Rattle.pdb_list.specs.Texts.{command_text, run_error_of, texts};
 
 use crate::command::Command;
-use crate::symbols::put_symbols;
-use crate::text::put_error;
+use crate::contributions::put_contributions;
+use crate::info::put_info;
+use crate::modules::put_modules;
+use crate::names::put_names;
+use crate::symbols::put_globals;
 use pdb::{Error, PDB, Source};
 use std::alloc::{AllocError, Global};
 use std::io::Write;
@@ -76,18 +79,7 @@ fn open_error(e: Error) -> RunError
     }
 }
 
-/// The line of an accessor's refusal, but for want of memory.
-fn put_refusal(out: &mut Vec<u8>, e: Error) -> Result<(), AllocError>
-    ensures { OnOk result ((e ≢ Error.OutOfMemory) × (out.new.items ≡ out.old.items ++ error_text e)) }
-{
-    match e {
-        Error::OutOfMemory => Err(AllocError),
-        e => put_error(out, e.number()),
-    }
-}
-
 /// The text of a command over an opened file.
-#[tactic(auto, unfolding(crate::specs::Texts::command_text))]
 fn text_of<'s, S: Source<'s>>(
     alloc: Global,
     pdb: &mut PDB<'s, S>,
@@ -98,10 +90,11 @@ fn text_of<'s, S: Source<'s>>(
 {
     let mut out = Vec::new(alloc);
     match command {
-        Command::Globals => match pdb.global_symbols() {
-            Ok(table) => put_symbols(alloc, &mut out, table.iter())?,
-            Err(e) => put_refusal(&mut out, e)?,
-        },
+        Command::Info => put_info(alloc, &mut out, pdb)?,
+        Command::Names => put_names(alloc, &mut out, pdb)?,
+        Command::Modules => put_modules(&mut out, pdb)?,
+        Command::Contributions => put_contributions(&mut out, pdb)?,
+        Command::Globals => put_globals(alloc, &mut out, pdb)?,
     }
     Ok(out)
 }

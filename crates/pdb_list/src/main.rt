@@ -3,11 +3,15 @@
 #![tactic(auto)]
 
 mod command;
+mod contributions;
 mod engine;
 mod failing;
 #[cfg(test)]
 mod fakes;
+mod info;
 mod input;
+mod modules;
+mod names;
 mod report;
 mod sample;
 mod streams;

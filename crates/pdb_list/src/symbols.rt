@@ -1,15 +1,16 @@
 //! The lines of symbols.
 
-ghost use Rattle.std.specs.Prelude.{◌≡◌, ◌++◌, OnOk, codes};
+ghost use Rattle.std.specs.Prelude.{◌≡◌, ◌++◌, true, OnOk, codes};
+ghost use Rattle.pdb.specs.Source.{Continues};
 ghost use Rattle.pdb.specs.Data.{shown, name_of};
 ghost use Rattle.pdb.specs.Forms.{record_at};
 ghost use Rattle.pdb.specs.Views.{symbol_of, symbols_left};
 ghost use Rattle.pdb.specs.Text.{name_bytes};
 ghost use Rattle.std.specs.Option.{option_map};
-ghost use Rattle.pdb_list.specs.Texts.{form_text, name_text, refused_text, record_text, symbol_text, symbols_text};
+ghost use Rattle.pdb_list.specs.Texts.{globals_text, form_text, name_text, refused_text, record_text, symbol_text, symbols_text};
 
-use crate::text::{put_decimal, put_error, put_h4, put_h8, put_line_end};
-use pdb::{Error, FallibleIterator, RawString, Symbol, SymbolData, SymbolIter};
+use crate::text::{put_decimal, put_error, put_h4, put_h8, put_line_end, put_refusal};
+use pdb::{Error, FallibleIterator, PDB, RawString, Source, Symbol, SymbolData, SymbolIter};
 use std::alloc::{AllocError, Global};
 
 /// The name of a record's form.
@@ -75,7 +76,7 @@ fn put_symbol(alloc: Global, out: &mut Vec<u8>, symbol: &Symbol<'_>) -> Result<(
 }
 
 /// The lines of the symbols that an iterator has left, and then that of its fault.
-pub fn put_symbols(
+fn put_symbols(
     alloc: Global,
     out: &mut Vec<u8>,
     mut symbols: SymbolIter<'_>,
@@ -88,5 +89,21 @@ pub fn put_symbols(
             Ok(None) => return Ok(()),
             Err(e) => return put_error(out, e.number()),
         }
+    }
+}
+
+/// The lines of the global symbols, or of their refusal.
+#[tactic(auto, unfolding(crate::specs::Texts::globals_text))]
+pub fn put_globals<'s, S: Source<'s>>(
+    alloc: Global,
+    out: &mut Vec<u8>,
+    pdb: &mut PDB<'s, S>,
+) -> Result<(), AllocError>
+    ensures continues { Continues pdb.old pdb.new }
+    ensures text { pdb.old.steady ≡ true → OnOk result (out.new.items ≡ out.old.items ++ globals_text pdb.old.file) }
+{
+    match pdb.global_symbols() {
+        Ok(table) => put_symbols(alloc, out, table.iter()),
+        Err(e) => put_refusal(out, e),
     }
 }

@@ -1,5 +1,7 @@
 //! Runs of the program over files made by hand: texts and refusals from outside.
 
+mod commands;
+
 use crate::command::Command;
 use crate::engine::{RunError, run};
 use crate::fakes::Slow;

@@ -1,9 +1,12 @@
 //! Pieces of text, each put behind what is there already.
 
-ghost use Rattle.std.specs.Prelude.{◌≡◌, ◌+◌, ◌*◌, ◌/◌, ◌%◌, ◌^◌, ◌<◌, ◌≤◌, ◌++◌, codes, OnOk};
+ghost use Rattle.std.specs.Prelude.{◌≡◌, ◌≢◌, ◌+◌, ◌*◌, ◌/◌, ◌%◌, ◌^◌, ◌<◌, ◌≤◌, ◌++◌, codes, OnOk};
 ghost use Rattle.std.specs.Fmt.{decimal};
+ghost use Rattle.pdb.specs.Error.TheVariants.{OutOfMemory};
 ghost use Rattle.pdb_list.specs.Digits.{hex_digit, hex};
+ghost use Rattle.pdb_list.specs.Texts.{error_text, offset_text, stream_text};
 
+use pdb::{Error, PdbInternalSectionOffset, StreamIndex};
 use std::alloc::AllocError;
 
 /// The lower hex digit of a number below 16.
@@ -16,6 +19,15 @@ fn digit(n: u32) -> u8
     } else {
         b'a' + (n - 10) as u8
     }
+}
+
+/// The byte in two lower hex digits.
+#[tactic(auto, unfolding(crate::specs::Digits::hex))]
+pub fn put_h2(out: &mut Vec<u8>, n: u8) -> Result<(), AllocError>
+    ensures { OnOk result (out.new.items ≡ out.old.items ++ hex 2 n) }
+{
+    let byte = u32::from(n);
+    out.extend_from_slice(&[digit((byte >> 4) % 16), digit(byte % 16)])
 }
 
 /// The number in four lower hex digits.
@@ -71,6 +83,28 @@ pub fn put_line_end(out: &mut Vec<u8>) -> Result<(), AllocError>
     Ok(())
 }
 
+/// The number of a stream, or `-` for that of no stream.
+pub fn put_stream(out: &mut Vec<u8>, index: StreamIndex) -> Result<(), AllocError>
+    ensures { OnOk result (out.new.items ≡ out.old.items ++ stream_text index.0) }
+{
+    match index.msf_number() {
+        Some(number) => put_decimal(out, u64::from(number)),
+        None => {
+            out.push(b'-')?;
+            Ok(())
+        }
+    }
+}
+
+/// A section in four hex digits, `:`, and an offset in eight.
+pub fn put_offset(out: &mut Vec<u8>, offset: PdbInternalSectionOffset) -> Result<(), AllocError>
+    ensures { OnOk result (out.new.items ≡ out.old.items ++ offset_text offset) }
+{
+    put_h4(out, offset.section)?;
+    out.push(b':')?;
+    put_h8(out, offset.offset)
+}
+
 /// The line of a refusal.
 pub fn put_error(out: &mut Vec<u8>, number: u8) -> Result<(), AllocError>
     ensures { OnOk result (out.new.items ≡ out.old.items ++ codes "error " ++ decimal number ++ codes "\n") }
@@ -78,6 +112,16 @@ pub fn put_error(out: &mut Vec<u8>, number: u8) -> Result<(), AllocError>
     out.extend_from_slice(b"error ")?;
     put_decimal(out, u64::from(number))?;
     put_line_end(out)
+}
+
+/// The line of the refusal of a call that reads the file, but for want of memory.
+pub fn put_refusal(out: &mut Vec<u8>, e: Error) -> Result<(), AllocError>
+    ensures { OnOk result ((e ≢ OutOfMemory) × (out.new.items ≡ out.old.items ++ error_text e)) }
+{
+    match e {
+        Error::OutOfMemory => Err(AllocError),
+        e => put_error(out, e.number()),
+    }
 }
 
 #[cfg(test)]

@@ -7,7 +7,7 @@ use Rattle.std.specs.Slice.Iter.{iter_rest}
 use Rattle.std.proofs.lemmas.Iterator.{YieldsList-from_slice}
 use Rattle.std.proofs.lemmas.Iterator.Search.{find_from_yields_List}
 use Rattle.pdb_base.specs.Text.{name_bytes}
-use Rattle.pdb_dbi.specs.Views.{stream_name}
+use Rattle.pdb_dbi.specs.DbiViews.{stream_name}
 use Rattle.pdb.proofs.named.first_named.Goals as goal
 
 one : {X Y : Type 0} (f : X → Y) (x : X) (rest : Option X) (more : Option Y) (b : Bool) → option_map f rest ≡ more → option_map f (cond b (Some x) rest) ≡ cond b (Some (f x)) more

@@ -1,6 +1,6 @@
 use Rattle.std.proofs.Common.{◌≡◌, map, Ok}
 use Rattle.pdb_dbi.specs.Names.{names_up_to}
-use Rattle.pdb_dbi.specs.Views.{stream_name}
+use Rattle.pdb_dbi.specs.DbiViews.{stream_name}
 use Rattle.pdb_dbi.proofs.names.read_names.Given as goal
 
 -- the names so far are those of the first pairs

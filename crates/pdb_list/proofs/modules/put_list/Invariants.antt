@@ -1,0 +1,14 @@
+use Rattle.std.proofs.Common.{◌≡◌, ◌++◌, length}
+use Rattle.pdb.specs.DbiViews.{modules_left, modules_steps}
+use Rattle.pdb_list.specs.Texts.{module_list_text}
+use Rattle.pdb_list.proofs.modules.put_list.Given as goal
+
+-- what was put, and the lines of the modules that are left, are the lines of all; a step was made for each module so far
+abbrev pub invariant-loop-listed : goal.invariant-loop-listed
+invariant-loop-listed l = record {
+  counted : modules_steps l.modules ≡ l.k;
+  told : l.out.items ++ module_list_text l.k (modules_left l.modules) ≡ l.fn.out.items ++ module_list_text 0 (modules_left l.fn.modules);
+}
+
+abbrev pub decreases-loop-listed : goal.decreases-loop-listed
+decreases-loop-listed l = length (modules_left l.modules).items

@@ -1,0 +1,271 @@
+//! The information, the names, the modules and the contributions.
+
+use super::{TEXT, ran};
+use crate::command::Command;
+use crate::{sample, streams};
+use pdb::{Error, MemorySource, PDB};
+use std::alloc::Global;
+use std::test::Fail;
+
+const INFORMATION_TEXT: &[u8] = b"info 20000404 1 2 00112233445566778899aabbccddeeff\n";
+
+const HEADER_TEXT: &[u8] = b"dbi 2 Amd64\n";
+
+const NAMES_TEXT: &[u8] = b"name 7 /names\n";
+
+const MODULES_TEXT: &[u8] = b"module 0 6 84 0 176 a.obj\nobject a.obj\n";
+
+const CONTRIBUTIONS_TEXT: &[u8] = b"contribution 0001:00000100 48 60500020 0 00000000 00000000\n";
+
+/// The sample with other bytes of streams 1 and 3.
+fn with_streams(alloc: Global, information: &[u8], dbi: &[u8]) -> Result<Vec<u8>, Error> {
+    sample::file_of(
+        alloc,
+        &[
+            Some(&[]),
+            Some(information),
+            None,
+            Some(dbi),
+            None,
+            Some(&streams::SYMBOLS),
+            Some(&streams::MODULE),
+            Some(&streams::STRINGS),
+            Some(&streams::SECTIONS),
+        ],
+    )
+}
+
+fn with_information(alloc: Global, information: &[u8]) -> Result<Vec<u8>, Error> {
+    with_streams(alloc, information, &streams::DBI)
+}
+
+fn with_dbi(alloc: Global, dbi: &[u8]) -> Result<Vec<u8>, Error> {
+    with_streams(alloc, &streams::INFORMATION, dbi)
+}
+
+/// Some texts, one after the other.
+fn joined(alloc: Global, texts: &[&[u8]]) -> Result<Vec<u8>, Fail> {
+    let mut all = Vec::new(alloc);
+    for text in texts {
+        all.extend_from_slice(text)?;
+    }
+    Ok(all)
+}
+
+/// Bytes with other ones at a place.
+fn changed(alloc: Global, bytes: &[u8], at: usize, part: &[u8]) -> Result<Vec<u8>, Fail> {
+    let mut all = Vec::new(alloc);
+    all.extend_from_slice(bytes)?;
+    for (i, byte) in part.iter().enumerate() {
+        if at < all.len() && i < all.len() - at {
+            all[at + i] = *byte;
+        }
+    }
+    Ok(all)
+}
+
+#[test]
+fn the_sample_tells_its_information_names_modules_and_contributions(
+    rt: HostRuntime,
+) -> Result<(), Fail> {
+    let file = sample::file(rt.alloc())?;
+    let commands = [
+        Command::Info,
+        Command::Names,
+        Command::Modules,
+        Command::Contributions,
+    ];
+    let text = joined(
+        rt.alloc(),
+        &[
+            INFORMATION_TEXT,
+            HEADER_TEXT,
+            NAMES_TEXT,
+            MODULES_TEXT,
+            CONTRIBUTIONS_TEXT,
+        ],
+    )?;
+    assert!(rt; ran(rt.alloc(), &file, &commands, &text).is_none());
+    Ok(())
+}
+
+/// The sample, its DBI stream lengthened with zero bytes to 3000. The numbers of that stream's second and third page
+/// stand at 7216 and 7220.
+fn long_sample(alloc: Global) -> Result<Vec<u8>, Fail> {
+    let mut dbi = Vec::new(alloc);
+    dbi.extend_from_slice(&streams::DBI)?;
+    dbi.resize(3000, 0)?;
+    Ok(with_dbi(alloc, &dbi)?)
+}
+
+#[test]
+fn a_bad_page_refuses_the_whole_stream_alone(rt: HostRuntime) -> Result<(), Fail> {
+    let file = long_sample(rt.alloc())?;
+    assert!(rt; file.get(7216) == Some(&5) && file.get(7220) == Some(&6));
+    let bad = changed(rt.alloc(), &file, 7220, b"\x10")?;
+    let text = joined(rt.alloc(), &[TEXT, b"error 5\n", TEXT])?;
+    let commands = [Command::Globals, Command::Modules, Command::Globals];
+    assert!(rt; ran(rt.alloc(), &bad, &commands, &text).is_none());
+    let text = joined(rt.alloc(), &[b"error 5\n", TEXT])?;
+    let commands = [Command::Modules, Command::Globals];
+    assert!(rt; ran(rt.alloc(), &bad, &commands, &text).is_none());
+    let text = joined(rt.alloc(), &[INFORMATION_TEXT, b"error 5\nerror 5\n"])?;
+    let commands = [Command::Info, Command::Contributions];
+    assert!(rt; ran(rt.alloc(), &bad, &commands, &text).is_none());
+    let swapped = changed(rt.alloc(), &file, 7216, b"\x06\0\0\0\x05")?;
+    assert!(rt; ran(rt.alloc(), &swapped, &[Command::Modules], MODULES_TEXT).is_none());
+    Ok(())
+}
+
+#[test]
+fn versions_ages_and_machines_are_shown(rt: HostRuntime) -> Result<(), Fail> {
+    let dbi = changed(rt.alloc(), &streams::DBI, 8, b"\0\0\0\0")?;
+    let dbi = changed(rt.alloc(), &dbi, 58, b"\x34\x12")?;
+    let file = with_dbi(rt.alloc(), &dbi)?;
+    let text = joined(rt.alloc(), &[INFORMATION_TEXT, b"dbi - Unknown\n"])?;
+    assert!(rt; ran(rt.alloc(), &file, &[Command::Info], &text).is_none());
+    let versions: [(u32, &[u8]); 6] = [
+        (930803, b"info V41"),
+        (19960307, b"info V50"),
+        (19970606, b"info V60"),
+        (19990903, b"info V70"),
+        (20091201, b"info V110"),
+        (20091202, b"info 20091202"),
+    ];
+    for (number, begins) in versions {
+        let information = changed(rt.alloc(), &streams::INFORMATION, 0, &number.to_le_bytes())?;
+        let file = with_information(rt.alloc(), &information)?;
+        let rest: &[u8] = b" 1 2 00112233445566778899aabbccddeeff\n";
+        let text = joined(rt.alloc(), &[begins, rest, HEADER_TEXT])?;
+        assert!(rt;
+            ran(rt.alloc(), &file, &[Command::Info], &text).is_none(),
+            "version {number}"
+        );
+    }
+    Ok(())
+}
+
+#[test]
+fn streams_and_names_are_shown_as_they_are(rt: HostRuntime) -> Result<(), Fail> {
+    let dbi = changed(rt.alloc(), &streams::DBI, 98, b"\xff\xff")?;
+    let file = with_dbi(rt.alloc(), &dbi)?;
+    let text = b"module 0 - 84 0 176 a.obj\nobject a.obj\n";
+    assert!(rt; ran(rt.alloc(), &file, &[Command::Modules], text).is_none());
+    let dbi = changed(rt.alloc(), &streams::DBI, 128, b"\xff\x0a\0\0ab\0")?;
+    let file = with_dbi(rt.alloc(), &dbi)?;
+    let text = b"module 0 6 84 0 176 \xff\x0a\nobject \nerror 1\n";
+    assert!(rt; ran(rt.alloc(), &file, &[Command::Modules], text).is_none());
+    Ok(())
+}
+
+/// Two names `/names`, of the stream that isn't there and of stream 7.
+const TWICE: &[u8; 75] =
+    b"\x94\x2e\x31\x01\x01\0\0\0\x02\0\0\0\x33\x22\x11\0\x55\x44\x77\x66\x88\x99\xaa\xbb\xcc\xdd\xee\xff\x07\0\0\0/names\0\x02\0\0\0\x01\0\0\0\x01\0\0\0\x01\0\0\0\0\0\0\0\0\0\0\0\xff\xff\x01\0\0\0\0\0\x07\0\x01\0";
+
+#[test]
+fn the_first_name_is_taken(rt: HostRuntime) -> Result<(), Fail> {
+    let file = with_information(rt.alloc(), TWICE)?;
+    let text = b"name - /names\nname 7 /names\n";
+    assert!(rt; ran(rt.alloc(), &file, &[Command::Names], text).is_none());
+    let mut pdb = PDB::open(rt.alloc(), MemorySource::new(&file))?;
+    let refused = pdb.named_stream(b"/names").err();
+    assert!(rt; refused == Some(Error::StreamNameNotFound));
+    let file = sample::file(rt.alloc())?;
+    let mut pdb = PDB::open(rt.alloc(), MemorySource::new(&file))?;
+    assert!(rt; pdb.named_stream(b"/names")?.as_slice() == streams::STRINGS.as_slice());
+    assert!(rt; pdb.named_stream(b"/name").err() == Some(Error::StreamNameNotFound));
+    assert!(rt; pdb.named_stream(b"").err() == Some(Error::StreamNameNotFound));
+    Ok(())
+}
+
+#[test]
+fn a_part_past_the_end_is_refused(rt: HostRuntime) -> Result<(), Fail> {
+    for (at, modules, contributions) in [
+        (24usize, false, false),
+        (28, true, false),
+        (32, true, true),
+        (36, true, true),
+        (40, true, true),
+        (52, true, true),
+    ] {
+        let dbi = changed(rt.alloc(), &streams::DBI, at, b"\xff\xff\xff\xff")?;
+        let file = with_dbi(rt.alloc(), &dbi)?;
+        let first: &[u8] = if modules { MODULES_TEXT } else { b"error 1\n" };
+        let second: &[u8] = if contributions {
+            CONTRIBUTIONS_TEXT
+        } else {
+            b"error 1\n"
+        };
+        let text = joined(rt.alloc(), &[first, second])?;
+        let commands = [Command::Modules, Command::Contributions];
+        assert!(rt;
+            ran(rt.alloc(), &file, &commands, &text).is_none(),
+            "at {at}"
+        );
+    }
+    let information = changed(rt.alloc(), &streams::INFORMATION, 28, b"\xff\xff\xff\xff")?;
+    let file = with_information(rt.alloc(), &information)?;
+    assert!(rt; ran(rt.alloc(), &file, &[Command::Names], b"error 1\n").is_none());
+    Ok(())
+}
+
+#[test]
+fn an_information_stream_cut_at_each_place(rt: HostRuntime) -> Result<(), Fail> {
+    for k in 0..68usize {
+        let file = with_information(rt.alloc(), &streams::INFORMATION[..k])?;
+        let error: &[u8] = b"error 1\n";
+        let text = match k {
+            0..32 => joined(rt.alloc(), &[error, error])?,
+            32..67 => joined(rt.alloc(), &[INFORMATION_TEXT, HEADER_TEXT, error])?,
+            _ => joined(rt.alloc(), &[INFORMATION_TEXT, HEADER_TEXT, NAMES_TEXT])?,
+        };
+        let commands = [Command::Info, Command::Names];
+        assert!(rt;
+            ran(rt.alloc(), &file, &commands, &text).is_none(),
+            "cut to {k}"
+        );
+    }
+    Ok(())
+}
+
+#[test]
+fn a_dbi_stream_cut_at_each_place(rt: HostRuntime) -> Result<(), Fail> {
+    for k in 0..185usize {
+        let file = with_dbi(rt.alloc(), &streams::DBI[..k])?;
+        let error: &[u8] = b"error 1\n";
+        let header = if k < 64 { error } else { HEADER_TEXT };
+        let modules = if k < 140 { error } else { MODULES_TEXT };
+        let contributions = if k < 172 { error } else { CONTRIBUTIONS_TEXT };
+        let texts = [INFORMATION_TEXT, header, modules, contributions];
+        let text = joined(rt.alloc(), &texts)?;
+        let commands = [Command::Info, Command::Modules, Command::Contributions];
+        assert!(rt;
+            ran(rt.alloc(), &file, &commands, &text).is_none(),
+            "cut to {k}"
+        );
+    }
+    Ok(())
+}
+
+#[test]
+fn contributions_are_told_up_to_the_fault(rt: HostRuntime) -> Result<(), Fail> {
+    let longer = changed(rt.alloc(), &streams::DBI, 28, b"\x24\0\0\0")?;
+    let file = with_dbi(rt.alloc(), &longer)?;
+    let text = joined(rt.alloc(), &[CONTRIBUTIONS_TEXT, b"error 1\n"])?;
+    assert!(rt; ran(rt.alloc(), &file, &[Command::Contributions], &text).is_none());
+    let second_version = changed(rt.alloc(), &longer, 140, b"\xe4\x51\x31\xf1")?;
+    let file = with_dbi(rt.alloc(), &second_version)?;
+    assert!(rt;
+        ran(
+            rt.alloc(),
+            &file,
+            &[Command::Contributions],
+            CONTRIBUTIONS_TEXT
+        )
+        .is_none()
+    );
+    let none = changed(rt.alloc(), &streams::DBI, 28, b"\0")?;
+    let file = with_dbi(rt.alloc(), &none)?;
+    assert!(rt; ran(rt.alloc(), &file, &[Command::Contributions], b"error 1\n").is_none());
+    Ok(())
+}
