@@ -1,5 +1,5 @@
 -- What is kept of a file, and the refusals of a stream that was had.
-use Rattle.std.proofs.Common.{◌≡◌, ℕ, Bool, true, false, cond, nat_lt, List, length, Some, None, Result, Ok, Err, ap, ◌∙◌}
+use Rattle.std.proofs.Common.{◌≡◌, ℕ, List, Some, None, Result, Ok, Err, IfErr, ap, ◌∙◌}
 use Rattle.pdb_base.specs.declared.error.Error.{Error}
 use Rattle.pdb_base.specs.declared.error.Error.TheVariants.{UnexpectedEof}
 use Rattle.pdb_base.specs.Refusal.{Fails, Answers, Gives}
@@ -8,7 +8,7 @@ use Rattle.pdb_dbi.specs.declared.header.DBIHeader.{DBIHeader}
 use Rattle.pdb_dbi.specs.Header.{header_of, header_in, debug_information_of}
 use Rattle.pdb_dbi.proofs.Prefixes.{front_header, information_same, information_fails}
 use Rattle.pdb_dbi.specs.declared.information.PDBInformation.{PDBInformation}
-use Rattle.pdb_dbi.specs.Information.{Information, fields_of, information_of}
+use Rattle.pdb_dbi.specs.Information.{information_of}
 use Rattle.pdb_dbi.specs.DbiViews.{information}
 use Rattle.pdb.specs.Answers.{debug_information_in, information_in}
 
@@ -24,18 +24,8 @@ information_refused io e file stream whole q = rw whole (information_fails io e 
 
 -- ---- the information stream
 
-long_enough : (t : Bool) (i : Information) (e : Error) → cond t (Err UnexpectedEof) (Ok i) ≡ Err e → e ≡ UnexpectedEof
-long_enough true i e q = cc
-long_enough false i e q = absurd cc
-
-fields_refused : (b : List ℕ) (e : Error) → information_of b ≡ Err e → e ≡ UnexpectedEof
-unfolding information_of
-fields_refused b e q = long_enough (nat_lt (length b) 32) (fields_of b) e q
-
 -- what is read of a stream that was had answers for the file
-pub first_stream_gives : (io : Type 0) (r : Result PDBInformation Error) (file stream : List ℕ) → stream_of file 1 None ≡ Ok stream → Answers information r (information_of stream) → Gives information io r (information_in file)
+pub first_stream_gives : (io : Type 0) (r : Result PDBInformation Error) (file stream : List ℕ) → stream_of file 1 None ≡ Ok stream → Answers information r (information_of stream) → IfErr r (λ e. e ≡ UnexpectedEof) → Gives information io r (information_in file)
 unfolding information_in
-first_stream_gives io (Ok x) file stream whole h = rw whole h
-first_stream_gives io (Err e) file stream whole h =
-    let eof = fields_refused stream e h.0 in
-    rw eof (rw whole (h.0 ∙ ap Err eof))
+first_stream_gives io (Ok x) file stream whole h refused = rw whole h
+first_stream_gives io (Err e) file stream whole h eof = rw eof (rw whole (h.0 ∙ ap Err eof))

@@ -163,7 +163,7 @@ fn named_file(alloc: Global, information: &[u8]) -> Result<Vec<u8>> {
     put(&mut bytes, 0, b"Microsoft C/C++ MSF 7.00\r\n\x1aDS\0\0\0");
     put_numbers(&mut bytes, 32, &[1024, 1, 5, 32, 0, 1]);
     put_numbers(&mut bytes, 1024, &[2]);
-    let size = information.len() as u32;
+    let size = information.len().min(1024) as u32;
     let absent = 0xffff_ffff;
     put_numbers(&mut bytes, 2048, &[5, 0, size, absent, absent, 3, 3, 4]);
     put(&mut bytes, 3072, information);

@@ -1,6 +1,7 @@
 //! The information stream: which file it is.
 
-ghost use Rattle.std.specs.Prelude.{◌≡◌, ◌≤◌, length};
+ghost use Rattle.std.specs.Prelude.{◌≡◌, ◌≤◌, length, IfErr};
+ghost use Rattle.pdb_base.specs.declared.error.Error.TheVariants.{UnexpectedEof};
 ghost use Rattle.pdb_base.specs.Refusal.{Answers, Gives};
 ghost use Rattle.pdb_dbi.specs.Information.{fields_of, guid_of, information_of};
 ghost use Rattle.pdb_dbi.specs.Names.{names_of};
@@ -50,7 +51,8 @@ impl<'s> PDBInformation<'s> {
     /// GUID as a `u32`, two `u16` and eight bytes, and `u32` size of the names' part. `UnexpectedEof` below 32 bytes.
     #[tactic(auto, unfolding(crate::specs::Information::information_of, crate::specs::Information::fields_of))]
     pub fn parse(stream: Stream<'s>) -> Result<Self>
-        ensures { Answers information result (information_of stream.entry) }
+        ensures fields { Answers information result (information_of stream.entry) }
+        ensures refused { IfErr result (λ e. e ≡ UnexpectedEof) }
     {
         let bytes = stream.as_slice();
         if bytes.len() < NAMES_OFFSET {
@@ -73,7 +75,7 @@ impl<'s> PDBInformation<'s> {
     /// any of it, or the zero byte that ends a name, isn't there: then there is no list. It takes memory for the list,
     /// once all pairs are known to be there.
     pub fn stream_names(&self, alloc: Global) -> Result<StreamNames<'_>>
-        ensures { Gives (λ n. n) ⊥ result (names_of (information self.now).bytes self.now.names_offset self.now.names_size) }
+        ensures names { Gives (λ n. n) ⊥ result (names_of (information self.now).bytes self.now.names_offset self.now.names_size) }
     {
         read_names(
             alloc,

@@ -1,8 +1,10 @@
 //! Laws of the definitions. Each is the contract of a function that does nothing.
 
-ghost use Rattle.std.specs.Prelude.{◌≡◌, ℕ, List, Some, None, Ok};
+ghost use Rattle.std.specs.Prelude.{◌≡◌, ◌+◌, ◌/◌, ◌<◌, ℕ, List, length, slice_index_or, Some, None, Ok};
+ghost use Rattle.pdb_base.specs.Fields.{bytes_at};
 ghost use Rattle.pdb_dbi.specs.Header.{header_in};
 ghost use Rattle.pdb_dbi.specs.Machine.{machine_of, machine_number};
+ghost use Rattle.pdb_dbi.specs.Names.{Name, name_at, names_of, pairs_at};
 
 use crate::header::DBIHeader;
 use crate::machine::MachineType;
@@ -15,4 +17,10 @@ pub fn front_has_the_header()
 /// The machine of a machine's number is that machine.
 pub fn enum_numbers_round_trip()
     ensures { (machine : MachineType) → machine_of (machine_number machine) ≡ machine }
+{}
+
+/// There are as many names of streams as pairs, and the k-th name is what the k-th pair says.
+pub fn names_are_those_of_the_pairs()
+    ensures { (b part pairs : List ℕ) (offset size : ℕ) (names : List Name) → bytes_at b offset size ≡ Ok part → pairs_at b (offset + size) ≡ Ok pairs
+        → names_of b offset size ≡ Ok names → (length names ≡ length pairs / 8) × ((k : ℕ) (none : Name) → k < length names → name_at part pairs k ≡ Ok (slice_index_or names k none)) }
 {}

@@ -18,7 +18,7 @@ const MODULES_TEXT: &[u8] = b"module 0 6 84 0 176 a.obj\nobject a.obj\n";
 const CONTRIBUTIONS_TEXT: &[u8] = b"contribution 0001:00000100 48 60500020 0 00000000 00000000\n";
 
 /// The sample with other bytes of streams 1 and 3.
-fn with_streams(alloc: Global, information: &[u8], dbi: &[u8]) -> Result<Vec<u8>, Error> {
+fn with_streams<'b>(alloc: Global, information: &'b [u8], dbi: &'b [u8]) -> Result<Vec<u8>, Error> {
     sample::file_of(
         alloc,
         &[
