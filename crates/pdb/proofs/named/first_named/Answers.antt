@@ -1,4 +1,4 @@
-use Rattle.std.proofs.Common.{◌≡◌, Bool, cond, true, false, rules, List, [], ◌∷◌, map, Option, Some, None, refl, ap, ◌∙◌, sym}
+use Rattle.std.proofs.Common.{◌≡◌, Bool, cond, true, false, rules, List, [], ◌∷◌, map, Option, Some, None, refl, ap, ◌∙◌}
 use borrow.Author.Tests.{tests}
 use Rattle.std.specs.List.{find}
 use Rattle.std.specs.Option.{option_map}
