@@ -1,8 +1,9 @@
 //! The numbers of further streams.
 
-use crate::tests::sample::{DBI, changed, stream};
+use crate::tests::sample::{changed, dbi, stream};
 use crate::*;
 use pdb_base::{Error, ParseBuffer, Part, Result, StreamIndex};
+use std::process::Abort;
 
 /// The streams' numbers, in the order in which the file has them.
 fn numbers(streams: &DBIExtraStreams) -> [u16; 11] {
@@ -21,6 +22,12 @@ fn numbers(streams: &DBIExtraStreams) -> [u16; 11] {
     ]
 }
 
+/// The further streams of a DBI stream.
+fn read(rt: &impl Abort, bytes: &[u8]) -> Result<DBIExtraStreams> {
+    let information = DebugInformation::parse(stream(rt, bytes))?;
+    DBIExtraStreams::new(&information)
+}
+
 const NONE: u16 = 0xffff;
 
 /// The sample's numbers: it has section headers alone.
@@ -30,43 +37,35 @@ const SAMPLE: [u16; 11] = [
 
 #[test]
 fn the_sample_has_section_headers_alone(rt: HostRuntime) -> Result<()> {
-    let information = DebugInformation::parse(stream(&rt, &DBI))?;
-    let streams = DBIExtraStreams::new(&information)?;
+    let streams = read(&rt, dbi())?;
     assert_eq!(rt; streams.section_headers, StreamIndex(8));
     assert_eq!(rt; streams.fpo, StreamIndex::none());
-    assert_eq!(rt; streams.original_section_headers, StreamIndex::none());
     assert_eq!(rt; numbers(&streams), SAMPLE);
     Ok(())
 }
 
 #[test]
-fn numbers_that_are_not_all_there_are_refused(rt: HostRuntime) -> Result<()> {
+fn numbers_that_are_not_all_there_are_refused(rt: HostRuntime) {
     for k in 64..184 {
-        let information = DebugInformation::parse(stream(&rt, &DBI[..k]))?;
-        assert_eq!(rt;
-            DBIExtraStreams::new(&information).err(),
-            Some(Error::UnexpectedEof),
-            "cut to {k}"
-        );
+        let refused = read(&rt, &dbi()[..k]).err();
+        assert_eq!(rt; refused, Some(Error::UnexpectedEof), "cut to {k}");
     }
-    Ok(())
 }
 
 #[test]
 fn each_size_before_the_numbers_counts(rt: HostRuntime) -> Result<()> {
     for at in [24, 28, 32, 36, 40, 48, 52] {
         let bytes = changed(rt.alloc(), at, 0xffff_ffff)?;
-        let information = DebugInformation::parse(stream(&rt, &bytes))?;
-        assert_eq!(rt;
-            DBIExtraStreams::new(&information).err(),
-            Some(Error::UnexpectedEof),
-            "the size at {at}"
-        );
+        let refused = read(&rt, &bytes).err();
+        assert_eq!(rt; refused, Some(Error::UnexpectedEof), "the size at {at}");
     }
+    Ok(())
+}
+
+#[test]
+fn the_index_of_a_type_server_is_no_size(rt: HostRuntime) -> Result<()> {
     let bytes = changed(rt.alloc(), 44, 0xffff_ffff)?;
-    let information = DebugInformation::parse(stream(&rt, &bytes))?;
-    let streams = DBIExtraStreams::new(&information)?;
-    assert_eq!(rt; numbers(&streams), SAMPLE, "the index of a type server");
+    assert_eq!(rt; numbers(&read(&rt, &bytes)?), SAMPLE);
     Ok(())
 }
 
@@ -75,19 +74,10 @@ fn each_size_moves_the_numbers(rt: HostRuntime) -> Result<()> {
     for (at, size) in [(24, 80), (28, 36), (32, 4), (36, 4), (40, 4), (52, 4)] {
         let mut bytes = changed(rt.alloc(), at, size)?;
         bytes.extend_from_slice(b"\x34\x12\x78\x56")?;
-        let information = DebugInformation::parse(stream(&rt, &bytes))?;
-        let streams = DBIExtraStreams::new(&information)?;
-        assert_eq!(rt; streams.omap_to_src, StreamIndex(8), "the size at {at}");
-        assert_eq!(rt;
-            streams.omap_from_src,
-            StreamIndex(0x1234),
-            "the size at {at}"
-        );
-        assert_eq!(rt;
-            streams.section_headers,
-            StreamIndex(0x5678),
-            "the size at {at}"
-        );
+        let streams = read(&rt, &bytes)?;
+        assert_eq!(rt; streams.omap_to_src.0, 8, "the size at {at}");
+        assert_eq!(rt; streams.omap_from_src.0, 0x1234, "the size at {at}");
+        assert_eq!(rt; streams.section_headers.0, 0x5678, "the size at {at}");
     }
     Ok(())
 }
@@ -103,8 +93,13 @@ fn missing_numbers_are_those_of_no_stream(rt: HostRuntime) -> Result<()> {
         NONE, 0x0201, 0x0403, NONE, 0x0605, NONE, NONE, NONE, NONE, NONE, NONE,
     ];
     assert_eq!(rt; numbers(&streams), wanted);
-    let none = DBIExtraStreams::parse(&mut ParseBuffer::default())?;
-    assert_eq!(rt; numbers(&none), [NONE; 11]);
+    Ok(())
+}
+
+#[test]
+fn no_bytes_are_no_streams(rt: HostRuntime) -> Result<()> {
+    let streams = DBIExtraStreams::parse(&mut ParseBuffer::default())?;
+    assert_eq!(rt; numbers(&streams), [NONE; 11]);
     Ok(())
 }
 

@@ -1,11 +1,12 @@
 //! Streams of the sample file, and streams made of them.
 
+ghost use Rattle.std.specs.Prelude.{◌≡◌, length};
+
 use pdb_base::{Result, Stream};
 use std::alloc::Global;
 use std::process::Abort;
 
-/// The information stream: 32 bytes of fields, 7 of names, and a map of one pair.
-pub const INFORMATION: [u8; 67] = [
+static INFORMATION: [u8; 67] = [
     0x94, 0x2e, 0x31, 0x01, 0x01, 0x00, 0x00, 0x00, 0x02, 0x00, 0x00, 0x00, 0x33, 0x22, 0x11, 0x00,
     0x55, 0x44, 0x77, 0x66, 0x88, 0x99, 0xaa, 0xbb, 0xcc, 0xdd, 0xee, 0xff, 0x07, 0x00, 0x00, 0x00,
     0x2f, 0x6e, 0x61, 0x6d, 0x65, 0x73, 0x00, 0x01, 0x00, 0x00, 0x00, 0x01, 0x00, 0x00, 0x00, 0x01,
@@ -13,8 +14,7 @@ pub const INFORMATION: [u8; 67] = [
     0x00, 0x00, 0x00,
 ];
 
-/// The DBI stream: the header, 76 bytes of modules, 32 of contributions, and 12 of further streams' numbers.
-pub const DBI: [u8; 184] = [
+static DBI: [u8; 184] = [
     0xff, 0xff, 0xff, 0xff, 0x77, 0x09, 0x31, 0x01, 0x02, 0x00, 0x00, 0x00, 0xff, 0xff, 0x00, 0x00,
     0xff, 0xff, 0x00, 0x00, 0x05, 0x00, 0x00, 0x00, 0x4c, 0x00, 0x00, 0x00, 0x20, 0x00, 0x00, 0x00,
     0x00, 0x00, 0x00, 0x00, 0x00, 0x00, 0x00, 0x00, 0x00, 0x00, 0x00, 0x00, 0x00, 0x00, 0x00, 0x00,
@@ -28,6 +28,20 @@ pub const DBI: [u8; 184] = [
     0x00, 0x00, 0x00, 0x00, 0x00, 0x00, 0x00, 0x00, 0x00, 0x00, 0x00, 0x00, 0xff, 0xff, 0xff, 0xff,
     0xff, 0xff, 0xff, 0xff, 0xff, 0xff, 0x08, 0x00,
 ];
+
+/// The information stream: 32 bytes of fields, 7 of names, and a map of one pair.
+pub fn information() -> &'static [u8]
+    ensures { length result.now ≡ 67 }
+{
+    &INFORMATION
+}
+
+/// The DBI stream: the header, 76 bytes of modules, 32 of contributions, and 12 of further streams' numbers.
+pub fn dbi() -> &'static [u8]
+    ensures { length result.now ≡ 184 }
+{
+    &DBI
+}
 
 pub fn stream<'s>(rt: &impl Abort, bytes: &'s [u8]) -> Stream<'s> {
     Stream::new(bytes).expect(rt, "a short stream")
@@ -53,14 +67,16 @@ pub fn joined(alloc: Global, pieces: &[&[u8]]) -> Result<Vec<u8>> {
 
 /// The sample's DBI stream with another number of four bytes at a place.
 pub fn changed(alloc: Global, at: usize, number: u32) -> Result<Vec<u8>> {
-    let mut bytes = joined(alloc, &[&DBI])?;
+    let mut bytes = joined(alloc, &[dbi()])?;
     put(&mut bytes, at, number);
     Ok(bytes)
 }
 
 /// A DBI stream with these modules and this part of contributions, and no part behind them.
 pub fn debug_information(alloc: Global, modules: &[u8], contributions: &[u8]) -> Result<Vec<u8>> {
-    let mut bytes = joined(alloc, &[&DBI[..64], modules, contributions])?;
+    let mut bytes = joined(alloc, &[&dbi()[..64]])?;
+    bytes.extend_from_slice(modules)?;
+    bytes.extend_from_slice(contributions)?;
     put(&mut bytes, 24, (modules.len() % 65536) as u32);
     put(&mut bytes, 28, (contributions.len() % 65536) as u32);
     put(&mut bytes, 48, 0);
