@@ -12,11 +12,14 @@ abbrev Listed : List ℕ → List ℕ → ℕ → List Name → Type 0
 Listed part pairs n names = (length names ≡ n) × ((k : ℕ) (none : Name) → k < length names → name_at part pairs k ≡ Ok (get_or names k none))
 
 one_more : (part pairs : List ℕ) (n : ℕ) (before : List Name) (last : Name) → Listed part pairs n before → name_at part pairs n ≡ Ok last → Listed part pairs (suc n) (before ++ last ∷ [])
-one_more part pairs n before last listed at = (omega (arith, listed.0, length-append before (last ∷ [])), λ k none lt. elim (cases_lt k (length before)) [
-  | inl h ↦ listed.1 k none h ∙ ap Ok (sym (get_or_append_left before (last ∷ []) none k h))
-  | inr h ↦ (let here : k ≡ length before = omega (arith, lt, h, length-append before (last ∷ [])) in
-      rw (here, listed.0) (at ∙ ap Ok (sym (rw listed.0 at (get_or-append_seam before last [] none)))))
-])
+one_more part pairs n before last listed at = (
+  omega (arith, listed.0, length-append before (last ∷ [])),
+  λ k none lt. elim (cases_lt k (length before)) [
+    | inl h ↦ listed.1 k none h ∙ ap Ok (sym (get_or_append_left before (last ∷ []) none k h))
+    | inr h ↦ (let here : k ≡ length before = omega (arith, lt, h, length-append before (last ∷ [])) in
+        rw (here, listed.0) (at ∙ ap Ok (sym (rw listed.0 at (get_or-append_seam before last [] none)))))
+  ],
+)
 
 listed_up_to : (part pairs : List ℕ) (n : ℕ) (names : List Name) → names_up_to part pairs n ≡ Ok names → Listed part pairs n names
 listed_up_to part pairs zero names e = let none_there : [] ≡ names = cc in rw (← none_there) (refl, λ k none lt. absurd (omega (arith, lt)))
