@@ -6,10 +6,15 @@ use pdb_base::{Error, Result, StreamIndex};
 use std::alloc::Global;
 use std::process::Abort;
 
+/// The sample's fields, without the size of its names.
+fn fields() -> &'static [u8] {
+    &information()[0..28]
+}
+
 /// An information stream with these names, and behind them the map of these words.
 fn with_names(alloc: Global, names: &[u8], words: &[u32]) -> Result<Vec<u8>> {
     let size = (names.len() % 65536) as u32;
-    let mut bytes = joined(alloc, &[&information()[..28]])?;
+    let mut bytes = joined(alloc, &[fields()])?;
     bytes.extend_from_slice(&size.to_le_bytes())?;
     bytes.extend_from_slice(names)?;
     for word in words {

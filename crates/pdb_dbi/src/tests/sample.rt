@@ -72,9 +72,13 @@ pub fn changed(alloc: Global, at: usize, number: u32) -> Result<Vec<u8>> {
     Ok(bytes)
 }
 
+fn header() -> &'static [u8] {
+    &dbi()[0..64]
+}
+
 /// A DBI stream with these modules and this part of contributions, and no part behind them.
 pub fn debug_information(alloc: Global, modules: &[u8], contributions: &[u8]) -> Result<Vec<u8>> {
-    let mut bytes = joined(alloc, &[&dbi()[..64]])?;
+    let mut bytes = joined(alloc, &[header()])?;
     bytes.extend_from_slice(modules)?;
     bytes.extend_from_slice(contributions)?;
     put(&mut bytes, 24, (modules.len() % 65536) as u32);
