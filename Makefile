@@ -1,16 +1,19 @@
 PREFIX ?= /usr/local
 
-.PHONY: run test install
+.PHONY: run prove test install
 
-# Builds the proved program and runs it with no words: it lists the sample.
+# Lists the sample at once: with the proved program where it stands and is of this source, else without any proof.
 run:
-	cd crates/pdb_list && rt run
+	@tests/run
 
-# The gate, and then the program over real files.
+# Proves all crates and builds the program.
+prove:
+	cd crates/pdb_list && rt run > /dev/null
+
+# The gate, and then the proved program over real files, refused memory, and wrong bodies.
 test:
 	@tests/all
 
-install:
-	cd crates/pdb_list && rt run > /dev/null
+install: prove
 	install -d $(DESTDIR)$(PREFIX)/bin
 	install -m 755 crates/pdb_list/out/pdb_list $(DESTDIR)$(PREFIX)/bin/pdb_list
