@@ -1,16 +1,12 @@
 -- What is kept of a file, and the refusals of a stream that was had.
-use Rattle.std.proofs.Common.{◌≡◌, ℕ, List, Some, None, Result, Ok, Err, IfErr, ap, ◌∙◌}
+use Rattle.std.proofs.Common.{◌≡◌, ℕ, List, Some, None, Result, Ok, Err}
 use Rattle.pdb_base.specs.declared.error.Error.{Error}
-use Rattle.pdb_base.specs.declared.error.Error.TheVariants.{UnexpectedEof}
-use Rattle.pdb_base.specs.Refusal.{Fails, Answers, Gives}
+use Rattle.pdb_base.specs.Refusal.{Fails}
 use Rattle.pdb_base.specs.Container.{stream_of}
 use Rattle.pdb_dbi.specs.declared.header.DBIHeader.{DBIHeader}
 use Rattle.pdb_dbi.specs.Header.{header_of, header_in, debug_information_of}
 use Rattle.pdb_dbi.proofs.Prefixes.{front_header, information_same, information_fails}
-use Rattle.pdb_dbi.specs.declared.information.PDBInformation.{PDBInformation}
-use Rattle.pdb_dbi.specs.Information.{information_of}
-use Rattle.pdb_dbi.specs.DbiViews.{information}
-use Rattle.pdb.specs.Answers.{debug_information_in, information_in}
+use Rattle.pdb.specs.Answers.{debug_information_in}
 
 -- the header of the whole DBI stream is that of its front
 pub kept_header : (file before stream information : List ℕ) (h : DBIHeader) → file ≡ before → stream_of before 3 None ≡ Ok stream → debug_information_of stream ≡ Ok information → header_of information ≡ Ok h → header_in file (Some 1024) ≡ Ok h
@@ -21,11 +17,3 @@ kept_header file before stream information h same whole of_stream header =
 pub information_refused : (io : Type 0) (e : Error) (file stream : List ℕ) → stream_of file 3 None ≡ Ok stream → debug_information_of stream ≡ Err e → Fails io e (debug_information_in file)
 unfolding debug_information_in
 information_refused io e file stream whole q = rw whole (information_fails io e stream q)
-
--- ---- the information stream
-
--- what is read of a stream that was had answers for the file
-pub first_stream_gives : (io : Type 0) (r : Result PDBInformation Error) (file stream : List ℕ) → stream_of file 1 None ≡ Ok stream → Answers information r (information_of stream) → IfErr r (λ e. e ≡ UnexpectedEof) → Gives information io r (information_in file)
-unfolding information_in
-first_stream_gives io (Ok x) file stream whole h refused = rw whole h
-first_stream_gives io (Err e) file stream whole h eof = rw eof (rw whole (h.0 ∙ ap Err eof))

@@ -6,6 +6,7 @@ use Rattle.pdb_base.specs.Refusal.{◌>>=◌, Gives}
 use Rattle.pdb_base.specs.Source.{State, Continues, MayFail}
 use Rattle.pdb_base.specs.Container.{stream_of}
 use Rattle.std.specs.List.{find}
+use Rattle.std.specs.Result.{result_map_both}
 use Rattle.std.specs.Str.{bytes_eq}
 use Rattle.pdb_dbi.specs.declared.header.DBIHeader.{DBIHeader}
 use Rattle.pdb_dbi.specs.Information.{Information, information_of}
@@ -72,29 +73,43 @@ pub data Call : Type 0 where
   GlobalSymbols : Call
   RawStream : (number : ℕ) → Call
 
--- what a call answers for a file: the bytes of a stream, or none
-abbrev pub answer : List ℕ → Call → Result (Option (List ℕ)) Error
-answer file PdbInformation = information_in file >>= λ i. Ok (Some i.bytes)
-answer file (NamedStream name) = named_stream_in file name >>= some_bytes
-answer file DebugInformation = debug_information_in file >>= some_bytes
-answer file GlobalSymbols = global_symbols_in file >>= some_bytes
+-- what a contract sees of a call's answer
+abbrev pub Seen : Call → Type 0
+Seen PdbInformation = Information
+Seen (NamedStream name) = List ℕ
+Seen DebugInformation = List ℕ
+Seen GlobalSymbols = List ℕ
+Seen (RawStream n) = Option (List ℕ)
+
+-- what a call answers for a file
+abbrev pub answer : List ℕ → (call : Call) → Result (Seen call) Error
+answer file PdbInformation = information_in file
+answer file (NamedStream name) = named_stream_in file name
+answer file DebugInformation = debug_information_in file
+answer file GlobalSymbols = global_symbols_in file
 answer file (RawStream n) = raw_stream_in file n
 
--- a call that was made, and what it gave
+-- a call that was made: the states before it and behind it, and what it gave
 pub record Made : Type 0 where
+  pub before : State
+  pub behind : State
   pub call : Call
-  pub given : Result (Option (List ℕ)) Error
+  pub given : Result (Seen call) Error
 
--- what the contract of an accessor says of one call, which goes on from one state to the next
-pub record GoesOn (old new : State) (made : Made) : Type 0 where
-  pub continues : Continues old new
-  pub answers : Gives (λ x. x) (MayFail old new) made.given (answer old.file made.call)
+-- what the contract of an accessor says of a call, which goes on from the state before it
+pub record GoesOn (m : Made) : Type 0 where
+  pub continues : Continues m.before m.behind
+  pub answers : Gives (λ x. x) (MayFail m.before m.behind) m.given (answer m.before.file m.call)
 
--- calls one after the other
-abbrev pub AreMade : State → List Made → State → Type 0
-AreMade old [] new = old ≡ new
-AreMade old (made ∷ others) new = (next : State) × GoesOn old next made × AreMade next others new
+-- a call that gave this, seen by view
+abbrev pub made : {X : Type 0} → State → State → (call : Call) → (X → Seen call) → Result X Error → Made
+made before behind call view result = record { before = before; behind = behind; call = call; given = result_map_both view (λ e. e) result }
 
--- what a call gave is its answer for the file alone, or want of memory, or, from a source that isn't steady, its failure
-abbrev pub IsAnswered : State → Made → Type 0
-IsAnswered opened made = Gives (λ x. x) (opened.steady ≡ false) made.given (answer opened.file made.call)
+-- calls one after the other, the first from a state
+abbrev pub AreMade : State → List Made → Type 0
+AreMade old [] = Unit {0}
+AreMade old (m ∷ others) = (m.before ≡ old) × GoesOn m × AreMade m.behind others
+
+-- what a call gave is its answer for this file alone, or want of memory, or the failure that its source told in that call
+abbrev pub IsAnswered : List ℕ → Made → Type 0
+IsAnswered file m = Gives (λ x. x) (MayFail m.before m.behind) m.given (answer file m.call)

@@ -1,6 +1,7 @@
 //! A reader of Microsoft's program database (PDB) files: `PDB` opens one, and its accessors give its streams.
 #![tactic(auto)]
 
+mod calls;
 pub mod laws;
 mod named;
 mod pdb;

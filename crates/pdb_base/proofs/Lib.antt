@@ -11,3 +11,4 @@ pub mod Nums
 pub mod HeadLemmas
 pub mod OpenLemmas
 pub mod Fronts
+pub mod ZeroRuns

@@ -1,5 +1,9 @@
 -- Numbers in a part of a list of bytes.
-use Rattle.std.proofs.Common.{◌≡◌, ℕ, ◌+◌, ◌-◌, ◌*◌, ◌<◌, ◌≤◌, false, List, [], length, get_or, take, drop, Ok, refl, sym, ap, ◌∙◌, arith, ltb}
+use Rattle.std.proofs.Common.{◌≡◌, ◌⊎◌, inl, inr, ℕ, ◌+◌, ◌-◌, ◌*◌, ◌<◌, ◌≤◌, false, List, [], ◌∷◌, ◌++◌, length, get_or, take, drop, Ok, refl, sym, ap, ◌∙◌, arith, ltb}
+use Rattle.std.proofs.Math.ListN.{get_or-append}
+use Rattle.std.proofs.Math.Seq.{get_or-append_seam}
+use Rattle.std.proofs.lemmas.List.{length-append}
+use Rattle.std.proofs.lemmas.Bool.{cases_lt}
 use Rattle.std.specs.List.{sum_by, range_with_len}
 use Rattle.std.specs.Int.{div_ceil}
 use Rattle.std.proofs.lemmas.Bool.{le-ltb}
@@ -48,3 +52,13 @@ pages_more directory P i =
   where
     one : sum_by (pages_of directory P) (range_with_len 0 i) + sum_by (pages_of directory P) (range_with_len (0 + i) 1) ≡ sum_by (pages_of directory P) (range_with_len 0 i) + pages_of directory P i
     one = let e : 0 + i ≡ i = omega arith in rw e (omega arith)
+
+-- what holds of each element and of one more holds of each of the longer list
+pub each_pushed : (P : ℕ → ℕ → Type 0) (xs ys : List ℕ) (x : ℕ) → ys ≡ xs ++ x ∷ [] → ((k : ℕ) → k < length xs → P k (get_or xs k 0)) → P (length xs) x → (k : ℕ) → k < length ys → P k (get_or ys k 0)
+each_pushed P xs ys x e before here k h = rw e (at_place (cases_lt k (length xs)))
+  where
+    n : length ys ≡ length xs + 1
+    n = ap length e ∙ simp length-append (omega arith)
+    at_place : (k < length xs) ⊎ (length xs ≤ k) → P k (get_or (xs ++ x ∷ []) k 0)
+    at_place (inl lt) = rw (get_or-append xs (x ∷ []) 0 k lt) (before k lt)
+    at_place (inr le) = let is : k ≡ length xs = omega (arith, n) in rw (is, get_or-append_seam xs x [] 0) here

@@ -6,8 +6,9 @@ use Rattle.std.proofs.lemmas.List.{length-map}
 use Rattle.std.proofs.lemmas.List.FromFn.{length-map-range_with_len}
 use Rattle.pdb_base.specs.declared.error.Error.{Error}
 use Rattle.pdb_base.specs.declared.error.Error.TheVariants.{UnexpectedEof}
+use Rattle.std.specs.Prelude.{IsOk}
 use Rattle.pdb_base.specs.Refusal.{Fails, ◌>>=◌}
-use Rattle.pdb_base.specs.Container.{numbers, place, places, tested, unless_refused, bytes_at, paged, head_of, Head, list_of, open_of, Opened, opens, size_of, limited, pages_at, front_of, stream_of}
+use Rattle.pdb_base.specs.Container.{numbers, place, places, tested, unless_refused, bytes_at, paged, head_of, Head, list_of, open_of, Opened, opens, size_of, limited, pages_at, front_of, stream_of, pages_needed}
 use Rattle.pdb_base.proofs.Passing.{fails_bind}
 
 -- ---- lengths
@@ -91,6 +92,10 @@ pub get-is : (file : List ℕ) (o : Opened) (n size m : ℕ) (limit : Option ℕ
     → stream_of file n limit ≡ paged file o.page_size o.pages_used pages m
 unfolding stream_of front_of
 get-is file o n size m limit pages eo es lim ep = rw (eo, es, ← lim, ep) refl
+
+pub needed-there : (file : List ℕ) (o : Opened) (n size m : ℕ) (limit : Option ℕ) (pages : List ℕ) → open_of file ≡ Ok o → size_of o.directory n ≡ Ok size → m ≡ limited limit size → pages_at o.directory o.page_size n m ≡ Ok pages → IsOk (pages_needed file n limit)
+unfolding pages_needed
+needed-there file o n size m limit pages eo es lim ep = rw (eo, es, ← lim, ep) refl
 
 pub limited-le : (limit : Option ℕ) (size : ℕ) → limited limit size ≤ size
 limited-le None size = omega arith

@@ -1,5 +1,5 @@
 -- The container: which bytes of the file a stream has, by places, and the first refusal.
-use Rattle.std.specs.Prelude.{◌≡◌, ℕ, ◌+◌, ◌*◌, ◌/◌, ◌%◌, ◌^◌, ◌≤◌, min, Bool, not, ◌&&◌, ◌||◌, List, [], ◌∷◌, ◌++◌, map, length, slice_index, Option, Some, None, Result, Ok, Err, nat_lt, nat_le, nat_eq, ◌==◌, if◌then◌else◌, codes}
+use Rattle.std.specs.Prelude.{◌≡◌, ℕ, ◌+◌, ◌*◌, ◌/◌, ◌%◌, ◌^◌, ◌≤◌, ◌<◌, min, Bool, not, ◌&&◌, ◌||◌, List, [], ◌∷◌, ◌++◌, map, length, slice_index, Option, Some, None, Result, Ok, Err, nat_lt, nat_le, nat_eq, ◌==◌, if◌then◌else◌, codes}
 use Rattle.std.specs.List.{range_with_len, sum_by, list_all, list_any, find, starts_with}
 use Rattle.std.specs.Int.{div_ceil}
 use Rattle.pdb_base.specs.declared.error.Feature.TheVariants.{SmallMsf}
@@ -119,6 +119,11 @@ front_of file o n limit = do
   pages ← pages_at o.directory o.page_size n (limited limit size)
   paged file o.page_size o.pages_used pages (limited limit size)
 
+
+-- the page numbers that the first bytes of a file's stream need
+unfoldable pub pages_needed : List ℕ → ℕ → Option ℕ → Result (List ℕ) Error
+pages_needed file n limit = open_of file >>= λ o. size_of o.directory n >>= λ size. pages_at o.directory o.page_size n (limited limit size)
+
 unfoldable pub stream_of : List ℕ → ℕ → Option ℕ → Result (List ℕ) Error
 stream_of file n limit = open_of file >>= λ o. front_of file o n limit
 
@@ -126,10 +131,17 @@ stream_of file n limit = open_of file >>= λ o. front_of file o n limit
 unfoldable pub opens : List ℕ → Result (Unit {0}) Error
 opens file = open_of file >>= λ o. Ok tt
 
+-- the k-th of them is how many pages the streams before stream k have together; each stream of a directory with all sizes has one
+pub record ArePagesBefore (directory : List ℕ) (P : ℕ) (before : List ℕ) : Type 0 where
+  pub each : (k : ℕ) → k < length before → slice_index before k ≡ sum_by (pages_of directory P) (range_with_len 0 k)
+  pub small : (k : ℕ) → k < length before → slice_index before k ≤ k * 2 ^ 25
+  pub all : 4 + 4 * number directory 0 4 ≤ length directory → length before ≡ number directory 0 4
+
 -- what is kept of an opened file
-pub record IsOpened (file : List ℕ) (page_size used : ℕ) (directory : List ℕ) : Type 0 where
+pub record IsOpened (file : List ℕ) (page_size used : ℕ) (directory before : List ℕ) : Type 0 where
   pub opened : open_of file ≡ Ok (record { page_size = page_size; pages_used = used; directory = directory })
   pub large : 256 ≤ page_size
+  pub sums : ArePagesBefore directory page_size before
 
 -- all page numbers of stream n, where they are there
 unfoldable pub page_numbers_of : List ℕ → ℕ → Result (List ℕ) Error

@@ -14,3 +14,4 @@ pub mod Joined
 pub mod Heads
 pub mod StringTable
 pub mod SectionHeader
+pub mod Runs

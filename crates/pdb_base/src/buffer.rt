@@ -1,6 +1,6 @@
 //! A place in a list of bytes, and reads there.
 
-ghost use Rattle.std.specs.Prelude.{◌≡◌, ◌≤◌, ◌+◌, ◌-◌, ℕ, List, [], length, IsTrue, ◌↔◌, ◌<◌, ◌==◌, position, IfSome, IfOk, IfErr, OnOk, min, take, drop, ⊤};
+ghost use Rattle.std.specs.Prelude.{◌≡◌, ◌≤◌, ◌+◌, ◌-◌, [], length, IsTrue, ◌↔◌, ◌<◌, ◌==◌, position, IfSome, IfOk, IfErr, OnOk, min, take, ⊤};
 ghost use Rattle.pdb_base.specs.Cursor.{Reads};
 ghost use Rattle.std.specs.Int.{w16, w32, w64};
 ghost use Rattle.pdb_base.specs.Fields.{number_at, signed_at, bytes_at, cstring_at, pascal_at, aligned_at, padding};
@@ -8,6 +8,7 @@ ghost use Rattle.pdb_base.specs.Text.{name_bytes};
 
 use crate::error::{Error, Result};
 use crate::text::RawString;
+use crate::zeros::first_zero;
 use std::alloc::AllocError;
 use std::marker::Model;
 
@@ -38,20 +39,12 @@ impl<'b> From<&'b [u8]> for ParseBuffer<'b> {
     }
 }
 
-/// The place of the first zero byte.
-pub(crate) fn first_zero(bytes: &[u8]) -> Option<usize>
-    ensures place { result ≡ position (λ x. x == 0) bytes.now }
-    ensures bound { IfSome result (λ n. n < length bytes.now) }
-{
-    bytes.iter().position(|x| *x == 0)
-}
-
 impl<'b> ParseBuffer<'b> {
     /// How many bytes are left.
     pub fn len(&self) -> usize
         ensures { result + self.now.place ≡ length self.now.bytes }
     {
-        self.buf[self.at..].len()
+        self.buf.len() - self.at
     }
 
     /// Whether no byte is left.
@@ -65,7 +58,7 @@ impl<'b> ParseBuffer<'b> {
     pub fn pos(&self) -> usize
         ensures { result ≡ self.now.place }
     {
-        self.buf.len() - self.len()
+        self.at
     }
 
     /// Reads a `u8`.
@@ -171,6 +164,7 @@ impl<'b> ParseBuffer<'b> {
     }
 
     /// Reads the bytes up to the first zero byte, which is passed over; without one it is `UnexpectedEof`.
+    #[inline]
     pub fn parse_cstring(&mut self) -> Result<RawString<'b>>
         ensures { Reads name_bytes self.old self.new result (cstring_at self.old.bytes self.old.place) (λ s. length s + 1) }
     {

@@ -1,17 +1,17 @@
 //! The container's front and its directory: where the pages of a stream are told.
 
-ghost use Rattle.std.specs.Prelude.{◌≡◌, ℕ, ◌+◌, ◌*◌, ◌<◌, ◌≤◌, ◌^◌, List, length, false, IfOk};
+ghost use Rattle.std.specs.Prelude.{◌≡◌, ℕ, ◌+◌, ◌*◌, ◌<◌, ◌≤◌, ◌^◌, List, length, false, IfOk, IfErr, ◌≢◌};
 ghost use Rattle.std.specs.Int.{div_ceil};
 ghost use Rattle.pdb_base.specs.Refusal.{Gives};
 ghost use Rattle.pdb_base.specs.Source.{State, Continues, MayFail, view_bytes};
 ghost use Rattle.pdb_base.specs.Fields.{number};
-ghost use Rattle.pdb_base.specs.Container.{head_of, list_of, is_page_size as page_size_test, numbers, size_of as stream_size, pages_of as page_count, numbers_at as numbers_place, pages_at as stream_pages};
+ghost use Rattle.pdb_base.specs.Container.{head_of, list_of, is_page_size as page_size_test, numbers, size_of as stream_size, pages_of as page_count, numbers_at as numbers_place, pages_at as stream_pages, ArePagesBefore};
 ghost use Rattle.pdb_base.specs.Heads.{head, as_format};
 
 use crate::error::{Error, Feature, Result};
 use crate::pages::{u32_at, view_pages};
 use crate::source::{Source, SourceSlice, View};
-use std::alloc::Global;
+use std::alloc::{AllocError, Global};
 
 /// The numbers at the front of the file.
 #[derive(Clone, Copy)]
@@ -54,6 +54,7 @@ fn is_page_size(n: u32) -> bool
 #[tactic(auto, unfolding(crate::specs::Container::head_of))]
 fn parse_head(bytes: &[u8]) -> Result<FileHead>
     requires { length bytes.now ≡ 52 }
+    ensures memory { IfErr result (λ e. e ≢ Error.OutOfMemory) }
     ensures head { Gives head ⊥ result (head_of bytes.now) }
     ensures size { IfOk result (λ h. (256 ≤ h.page_size) × (h.page_size < 2 ^ 24)) }
 {
@@ -81,6 +82,7 @@ const ABSENT: u32 = 4294967295;
 #[tactic(auto, unfolding(crate::specs::Container::size_of))]
 pub(crate) fn size_of(directory: &[u8], stream: u32) -> Result<u32>
     ensures size { Gives (λ n. n) ⊥ result (stream_size directory.now stream) }
+    ensures memory { IfErr result (λ e. e ≢ Error.OutOfMemory) }
     ensures there { IfOk result (λ n. (stream < number directory.now 0 4) × (4 + 4 * number directory.now 0 4 ≤ length directory.now) × (n < 4294967295)) }
 {
     if directory.len() < 4 {
@@ -113,41 +115,65 @@ fn pages_of(directory: &[u8], page_size: u32, stream: u32) -> usize
     }
 }
 
+/// How many pages the streams before each stream have together; nothing where the sizes aren't all there.
+pub(crate) fn pages_before(
+    alloc: Global,
+    directory: &[u8],
+    page_size: u32,
+) -> std::result::Result<Vec<u64>, AllocError>
+    requires large { 256 ≤ page_size }
+    ensures { IfOk result (λ v. ArePagesBefore directory.now page_size v.items) }
+{
+    if directory.len() < 4 {
+        return Ok(Vec::new(alloc));
+    }
+    let count = u32_at(directory, 0);
+    if directory.len() < 4 + 4 * count as usize {
+        return Ok(Vec::new(alloc));
+    }
+    let mut before = Vec::with_capacity(alloc, count as usize)?;
+    let mut pages = 0u64;
+    for stream in 0..count {
+        before.push(pages)?;
+        pages += pages_of(directory, page_size, stream) as u64;
+    }
+    Ok(before)
+}
+
 /// Where a stream's page numbers stand in the directory.
 #[tactic(auto, unfolding(crate::specs::Container::numbers_at))]
-fn numbers_at(directory: &[u8], page_size: u32, stream: u32) -> usize
-    requires large { 256 ≤ page_size }
+fn numbers_at(directory: &[u8], before: &[u64], page_size: u32, stream: u32) -> usize
     requires below_count { stream < number directory.now 0 4 }
     requires there { 4 + 4 * number directory.now 0 4 ≤ length directory.now }
+    requires before { ArePagesBefore directory.now page_size before.now }
     ensures at { result ≡ numbers_place directory.now page_size stream }
     ensures small { result ≤ 2 ^ 60 }
 {
-    let mut pages = 0usize;
-    for i in 0..stream {
-        pages += pages_of(directory, page_size, i);
-    }
-    4 + 4 * u32_at(directory, 0) as usize + 4 * pages
+    4 + 4 * u32_at(directory, 0) as usize + 4 * before[stream as usize] as usize
 }
 
 /// The part of the directory with the page numbers of a stream's first bytes.
 #[tactic(auto, unfolding(crate::specs::Container::pages_at))]
 pub(crate) fn pages_at<'d>(
     directory: &'d [u8],
+    before: &[u64],
     page_size: u32,
     stream: u32,
     size: u32,
 ) -> Result<&'d [u8]>
     requires large { 256 ≤ page_size }
+    requires before { ArePagesBefore directory.now page_size before.now }
     requires below_count { stream < number directory.now 0 4 }
     requires there { 4 + 4 * number directory.now 0 4 ≤ length directory.now }
     ensures pages { Gives (λ list. numbers list.now 0 (div_ceil size page_size)) ⊥ result (stream_pages directory.now page_size stream size) }
+    ensures memory { IfErr result (λ e. e ≢ Error.OutOfMemory) }
     ensures there { IfOk result (λ list. 4 * div_ceil size page_size ≤ length list.now) }
 {
     let needed = size.div_ceil(page_size) as usize;
     if needed == 0 {
         return Ok(&[]);
     }
-    let at = numbers_at(directory, page_size, stream);
+    let at = numbers_at(directory, before, page_size, stream);
     if directory.len() < at + 4 * needed {
         return Err(Error::UnexpectedEof);
     }

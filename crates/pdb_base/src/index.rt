@@ -1,8 +1,7 @@
 //! Numbers that name things, each with a type of its own.
 
-ghost use Rattle.std.specs.Prelude.{◌≡◌, ◌+◌, ◌%◌, ◌^◌, ◌≤◌, ◌<◌, ◌↔◌, ℕ, IsTrue, Some, None, refl};
+ghost use Rattle.std.specs.Prelude.{◌≡◌, ◌+◌, ◌%◌, ◌^◌, ◌≤◌, ◌<◌, ◌↔◌, ℕ, IsTrue, Some, None};
 ghost use Rattle.std.specs.Option.{SomeIff};
-ghost use Rattle.std.proofs.Common.{rules};
 ghost use Rattle.pdb_base.specs.SectionOrder.{section_laws};
 ghost use Rattle.pdb_base.specs.Index.{hex_of, by_section};
 

@@ -1,6 +1,6 @@
 //! Iterators whose `next` may be refused.
 
-ghost use Rattle.std.specs.Prelude.{◌≡◌, ◌^◌, ◌<◌, length};
+ghost use Rattle.std.specs.Prelude.{◌^◌, ◌<◌, length};
 ghost use Rattle.std.specs.Result.{result_map_both};
 ghost use Rattle.pdb_base.specs.Left.{Left, Yields, Counts, Collects, Finds};
 
@@ -48,7 +48,7 @@ pub trait FallibleIterator: Drop {
     {
         let mut items = Vec::new(alloc);
         while let Some(x) = self.next()? {
-            items.push(x).map_err(|_| Error::OutOfMemory)?;
+            items.push(x)?;
         }
         Ok(items)
     }

@@ -17,6 +17,7 @@ mod stream;
 mod string_table;
 mod text;
 mod variant;
+mod zeros;
 
 pub use buffer::ParseBuffer;
 pub use error::{Error, Feature, Part, Result};

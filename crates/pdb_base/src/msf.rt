@@ -1,12 +1,12 @@
 //! An opened file.
 
-ghost use Rattle.std.specs.Prelude.{◌≡◌, ℕ, ◌+◌, ◌*◌, ◌<◌, ◌≤◌, ◌^◌, List, length, true, false, IfOk};
+ghost use Rattle.std.specs.Prelude.{◌≡◌, ℕ, ◌+◌, ◌*◌, ◌<◌, ◌≤◌, ◌^◌, List, length, true, false, IfOk, IsOk, IsErrOf};
 ghost use Rattle.pdb_base.specs.Refusal.{Gives};
 ghost use Rattle.pdb_base.specs.Source.{State, Continues, MayFail, view_bytes};
-ghost use Rattle.pdb_base.specs.Container.{opens, stream_of, limited as limited_size};
+ghost use Rattle.pdb_base.specs.Container.{opens, stream_of, pages_needed, limited as limited_size};
 
-use crate::directory::{pages_at, read_head, read_list, size_of};
-use crate::error::Result;
+use crate::directory::{pages_at, pages_before, read_head, read_list, size_of};
+use crate::error::{Error, Result};
 use crate::pages::view_pages;
 use crate::source::{Meaning, Source, View};
 use crate::stream::Stream;
@@ -21,6 +21,7 @@ pub struct Msf<'s, S: Meaning> {
     page_size: u32,
     pages_used: u32,
     directory: View<'s>,
+    before: Vec<u64>,
 }
 
 impl<'s, S: Meaning> Model for Msf<'s, S> {
@@ -31,7 +32,7 @@ impl<'s, S: Meaning> Model for Msf<'s, S> {
 
     ghost view = { λ m. S.state m.source };
 
-    ghost invariant = { λ m. IsOpened (S.state m.source).file m.page_size m.pages_used (view_bytes m.directory) };
+    ghost invariant = { λ m. IsOpened (S.state m.source).file m.page_size m.pages_used (view_bytes m.directory) m.before.items };
 }
 
 fn limited(limit: Option<u32>, size: u32) -> u32
@@ -45,11 +46,10 @@ fn limited(limit: Option<u32>, size: u32) -> u32
 
 impl<'s, S: Source<'s>> Msf<'s, S> {
     /// Opens a file.
-    pub fn open(alloc: Global, source: S) -> Result<Self>
+    pub fn open(alloc: Global, mut source: S) -> Result<Self>
         ensures continues { IfOk result (λ m. Continues (S.state source) m) }
         ensures opened { Gives (λ _. tt) ((S.state source).steady ≡ false) result (opens (S.state source).file) }
     {
-        let mut source = source;
         let head = read_head(alloc, &mut source)?;
         let list = read_list(alloc, &mut source, head)?;
         let directory = view_pages(
@@ -60,12 +60,14 @@ impl<'s, S: Source<'s>> Msf<'s, S> {
             head.pages_used,
             head.directory_size as usize,
         )?;
+        let before = pages_before(alloc, directory.as_slice(), head.page_size)?;
         Ok(Msf {
             alloc,
             source,
             page_size: head.page_size,
             pages_used: head.pages_used,
             directory,
+            before,
         })
     }
 
@@ -73,11 +75,12 @@ impl<'s, S: Source<'s>> Msf<'s, S> {
     pub fn get(&mut self, number: u32, limit: Option<u32>) -> Result<Stream<'s>>
         ensures continues { Continues self.old self.new }
         ensures bytes { Gives (λ s. s) (MayFail self.old self.new) result (stream_of self.old.file number limit) }
+        ensures memory { IsErrOf result Error.OutOfMemory → IsOk (pages_needed self.old.file number limit) }
     {
         let directory = self.directory.as_slice();
         let size = size_of(directory, number)?;
         let size = limited(limit, size);
-        let list = pages_at(directory, self.page_size, number, size)?;
+        let list = pages_at(directory, &self.before, self.page_size, number, size)?;
         let view = view_pages(
             self.alloc,
             &mut self.source,

@@ -1,10 +1,10 @@
 //! Pages of the file, and the slices that they make.
 
-ghost use Rattle.std.specs.Prelude.{◌≡◌, ℕ, ◌+◌, ◌-◌, ◌*◌, ◌^◌, ◌<◌, ◌≤◌, ◌≢◌, ◌↔◌, List, length, All, IfOk, OnOk, ◌++◌, max};
-ghost use Rattle.std.specs.List.{flat_map, range_with_len, list_all};
+ghost use Rattle.std.specs.Prelude.{◌≡◌, ◌+◌, ◌*◌, ◌^◌, ◌<◌, ◌≤◌, length, All, IfOk, OnOk, ◌++◌, max};
+ghost use Rattle.std.specs.List.{range_with_len};
 ghost use Rattle.std.specs.Int.{div_ceil};
 ghost use Rattle.pdb_base.specs.Refusal.{Gives};
-ghost use Rattle.pdb_base.specs.Source.{State, Continues, MayFail, view_bytes, viewed, is_inside, slice_bytes};
+ghost use Rattle.pdb_base.specs.Source.{Continues, MayFail, view_bytes};
 ghost use Rattle.pdb_base.specs.Fields.{number};
 ghost use Rattle.pdb_base.specs.Container.{numbers, places, tested, paged};
 ghost use Rattle.pdb_base.specs.Joined.{joined_places, slice_places, IsFull};
@@ -109,7 +109,6 @@ pub(crate) fn view_pages<'s, S: Source<'s>>(
     requires small { size < 2 ^ 32 }
     requires there { 4 * div_ceil size page_size ≤ length list.now }
     ensures continues { Continues (S.state source.old) (S.state source.new) }
-    ensures most { (S.state source.old).failures < 2 ^ 64 → (S.state source.new).failures < 2 ^ 64 }
     ensures bytes { Gives view_bytes (MayFail (S.state source.old) (S.state source.new)) result
         (paged (S.state source.old).file page_size used (numbers list.now 0 (div_ceil size page_size)) size) }
 {

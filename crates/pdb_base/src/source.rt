@@ -1,9 +1,9 @@
 //! Where a file's bytes come from.
 
-ghost use Rattle.std.specs.Prelude.{◌≡◌, ℕ, ◌+◌, ◌^◌, ◌<◌, ◌≤◌, ◌↔◌, IsErrOf, List, length, true, false, IfOk};
+ghost use Rattle.std.specs.Prelude.{◌≡◌, ℕ, ◌+◌, ◌^◌, ◌<◌, ◌≤◌, ◌↔◌, IsErrOf, List, length, true, false, IfOk, IsOk, OnOk, ◌++◌};
 ghost use Rattle.std.specs.List.{list_all, flat_map};
 ghost use Rattle.pdb_base.specs.Refusal.{Gives};
-ghost use Rattle.pdb_base.specs.Source.{State, Continues, MayFail, view_bytes, viewed, is_inside, slice_bytes};
+ghost use Rattle.pdb_base.specs.Source.{State, Continues, MayFail, view_bytes, viewed, is_inside, slice_bytes, IsLent, in_memory};
 
 use crate::error::{Error, Result};
 use std::alloc::{AllocError, Global};
@@ -107,6 +107,22 @@ fn part<'b>(bytes: &'b [u8], s: SourceSlice) -> &'b [u8]
     &bytes[start..start + s.size]
 }
 
+/// How many bytes are copied at a time.
+const PIECE: usize = 4096;
+
+/// Puts bytes behind those that are there.
+fn append(all: &mut Vec<u8>, bytes: &[u8]) -> std::result::Result<(), AllocError>
+    ensures { OnOk result (all.new.items ≡ all.old.items ++ bytes.now) }
+{
+    let mut rest = bytes;
+    while rest.len() > PIECE {
+        let (piece, behind) = rest.split_at(PIECE);
+        all.extend_from_slice(piece)?;
+        rest = behind;
+    }
+    all.extend_from_slice(rest)
+}
+
 fn copied(
     alloc: Global,
     bytes: &[u8],
@@ -117,20 +133,27 @@ fn copied(
 {
     let mut all = Vec::new(alloc);
     for s in slices {
-        all.extend_from_slice(part(bytes, *s))?;
+        append(&mut all, part(bytes, *s))?;
     }
     Ok(all)
 }
 
 impl<'s> Meaning for MemorySource<'s> {
-    ghost use Rattle.std.specs.Prelude.{true};
+    ghost use Rattle.pdb_base.specs.Source.{in_memory};
 
-    ghost state = { λ s. record { file = s; failures = 0; steady = true } };
+    ghost state = { in_memory };
 }
 
 impl<'s> Source<'s> for MemorySource<'s> {
     #[tactic(auto, using(crate::proofs::Views::one_slice), unfolding(crate::specs::Source::viewed))]
-    fn view(&mut self, alloc: Global, slices: &[SourceSlice]) -> Result<View<'s>> {
+    fn view(&mut self, alloc: Global, slices: &[SourceSlice]) -> Result<View<'s>>
+        ensures continues { Continues (in_memory self.old) (in_memory self.new) }
+        ensures most { (in_memory self.new).failures < 2 ^ 64 }
+        ensures bytes { Gives view_bytes (MayFail (in_memory self.old) (in_memory self.new)) result (viewed self.old slices.now) }
+        ensures past { IsErrOf result Error.UnexpectedEof ↔ (list_all (is_inside self.old) slices.now ≡ false) }
+        ensures spent { (in_memory self.old).failures + 1 ≡ 2 ^ 64 → list_all (is_inside self.old) slices.now ≡ true → IsErrOf result Error.IoError }
+        ensures lent { length slices.now ≡ 1 → list_all (is_inside self.old) slices.now ≡ true → IsOk result × IfOk result IsLent }
+    {
         if !all_inside(self.bytes, slices) {
             return Err(Error::UnexpectedEof);
         }

@@ -1,6 +1,6 @@
 //! A stream: a list of bytes.
 
-ghost use Rattle.std.specs.Prelude.{◌≡◌, ◌<◌, ◌≤◌, length, IsSome, IfSome, ◌↔◌};
+ghost use Rattle.std.specs.Prelude.{◌≡◌, ◌<◌, length, IsSome, IfSome, ◌↔◌};
 ghost use Rattle.pdb_base.specs.Source.{view_bytes};
 
 use crate::buffer::ParseBuffer;

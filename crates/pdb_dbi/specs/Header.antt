@@ -60,6 +60,10 @@ debug_information_of b = header_of b >>= λ h. Ok b
 abbrev pub age_of : ℕ → Option ℕ
 age_of n = if n == 0 then None else Some n
 
+-- the age that the header of a DBI stream tells
+abbrev pub age_in : List ℕ → Result (Option ℕ) Error
+age_in b = header_of b >>= λ h. Ok (age_of h.age)
+
 -- the header in the front of the file's DBI stream, which is stream 3, or in all of it
 unfoldable pub header_in : List ℕ → Option ℕ → Result DBIHeader Error
 header_in file limit = stream_of file 3 limit >>= header_of

@@ -1,5 +1,8 @@
 -- Machines: their numbers and names.
-use Rattle.std.specs.Prelude.{ℕ, List, codes, ◌==◌, if◌then◌else◌}
+use Rattle.std.specs.Prelude.{ℕ, List, codes, ◌==◌, if◌then◌else◌, Result, Ok}
+use Rattle.pdb_base.specs.declared.error.Error.{Error}
+use Rattle.pdb_base.specs.Refusal.{◌>>=◌}
+use Rattle.pdb_dbi.specs.Header.{header_of}
 use Rattle.pdb_dbi.specs.declared.machine.MachineType.{MachineType}
 use Rattle.pdb_dbi.specs.declared.machine.MachineType.TheVariants.{Unknown, Am33, Amd64, Arm, Arm64, ArmNT, Ebc, X86, Ia64, M32R, Mips16, MipsFpu, MipsFpu16, PowerPC, PowerPCFP, R4000, RiscV32, RiscV64, RiscV128, SH3, SH3DSP, SH4, SH5, Thumb, WceMipsV2, Invalid}
 
@@ -90,3 +93,7 @@ machine_text SH5 = codes "SH5"
 machine_text Thumb = codes "Thumb"
 machine_text WceMipsV2 = codes "WceMipsV2"
 machine_text Invalid = codes "Invalid"
+
+-- the machine that the header of a DBI stream tells
+abbrev pub machine_in : List ℕ → Result MachineType Error
+machine_in b = header_of b >>= λ h. Ok (machine_of h.machine_type)

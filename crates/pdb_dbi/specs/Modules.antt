@@ -1,9 +1,10 @@
 -- The list of modules: records that stand one after another.
-use Rattle.std.specs.Prelude.{ℕ, ◌+◌, ◌-◌, List, length, Result, Ok}
+use Rattle.std.specs.Prelude.{ℕ, ◌+◌, ◌-◌, ◌≡◌, ◌≤◌, List, length, Result, Ok}
 use Rattle.pdb_base.specs.declared.error.Error.{Error}
 use Rattle.pdb_base.specs.Refusal.{◌>>=◌}
 use Rattle.pdb_base.specs.Fields.{number, bytes_at, cstring_at, aligned_at, padding}
 use Rattle.pdb_base.specs.Left.{Left}
+use Rattle.pdb_base.specs.Places.{IsNumber, IsCString}
 use Rattle.pdb_base.specs.Tiling.{Row, listing}
 use Rattle.pdb_base.specs.Reading.{read_row}
 use Rattle.pdb_dbi.specs.declared.header.DBIHeader.{DBIHeader}
@@ -63,3 +64,13 @@ module_list_of b = header_of b >>= λ h. module_list_at h b
 -- the modules of a DBI stream
 unfoldable pub modules_in : List ℕ → Result (Left ModuleEntry) Error
 modules_in b = module_list_of b >>= λ list. Ok (modules_of list)
+
+-- m is the module of the bytes at p, by the places of its fields
+pub record IsModule (b : List ℕ) (p : ℕ) (m : ModuleEntry) : Type 0 where
+  pub stream : IsNumber b (p + 34) 2 m.stream
+  pub symbols_size : IsNumber b (p + 36) 4 m.symbols_size
+  pub lines_size : IsNumber b (p + 40) 4 m.lines_size
+  pub c13_lines_size : IsNumber b (p + 44) 4 m.c13_lines_size
+  pub module_name : IsCString b (p + 64) m.module_name
+  pub object_file_name : IsCString b (p + 65 + length m.module_name) m.object_file_name
+  pub padded : names_end p m + padding (names_end p m) 4 ≤ length b

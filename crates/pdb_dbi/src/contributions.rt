@@ -103,6 +103,7 @@ impl<'c> DBISectionContributionIter<'c> {
 
 impl<'c> FallibleIterator for DBISectionContributionIter<'c> {
     ghost use Rattle.std.specs.Prelude.{IfOk, IfErr, IfSome};
+    ghost use Rattle.std.specs.Option.{IfNone};
     ghost use Rattle.pdb_base.specs.Left.{Yields};
     ghost use Rattle.pdb_dbi.specs.declared.contributions.DBISectionContribution.{DBISectionContribution};
     ghost use Rattle.pdb_dbi.specs.DbiViews.{contributions_left, contributions_bytes, contributions_steps};
@@ -123,6 +124,7 @@ impl<'c> FallibleIterator for DBISectionContributionIter<'c> {
         ensures small { length (contributions_bytes self.new) < 2 ^ 32 }
         ensures bound { contributions_steps self.new ≤ length (contributions_bytes self.new) + 1 }
         ensures stepped { IfOk result (λ o. IfSome o (λ _. contributions_steps self.new ≡ contributions_steps self.old + 1)) }
+        ensures rests { IfOk result (λ o. IfNone o (contributions_steps self.new ≡ contributions_steps self.old)) }
         ensures stepped_to_fault { IfErr result (λ _. contributions_steps self.new ≡ contributions_steps self.old + 1) }
     {
         if self.buffer.is_empty() {

@@ -2,10 +2,10 @@
 
 ghost use Rattle.std.specs.Prelude.{◌≡◌, Ok, IfOk};
 ghost use Rattle.pdb_base.specs.Refusal.{Answers};
-ghost use Rattle.pdb_dbi.specs.Header.{header_of, debug_information_of, age_of};
+ghost use Rattle.pdb_dbi.specs.Header.{header_of, debug_information_of, age_in};
 ghost use Rattle.pdb_dbi.specs.Contributions.{contribution_records_of, contributions_in};
 ghost use Rattle.pdb_dbi.specs.ExtraStreams.{extra_streams_part_of};
-ghost use Rattle.pdb_dbi.specs.Machine.{machine_of};
+ghost use Rattle.pdb_dbi.specs.Machine.{machine_in};
 ghost use Rattle.pdb_dbi.specs.Modules.{module_list_of, modules_in};
 
 use crate::contributions::DBISectionContributionIter;
@@ -61,7 +61,7 @@ impl<'s> DebugInformation<'s> {
 
     /// The machine that the image was made for, by the header's number. It is never refused.
     pub fn machine_type(&self) -> Result<MachineType>
-        ensures { (h : DBIHeader) → header_of self.now ≡ Ok h → result ≡ Ok (machine_of h.machine_type) }
+        ensures { Answers (λ m. m) result (machine_in self.now) }
     {
         Ok(MachineType::from(self.header().machine_type))
     }
@@ -112,7 +112,7 @@ impl<'s> DebugInformation<'s> {
 
     /// How often the file was written, by the header; none for 0, which says nothing.
     pub fn age(&self) -> Option<u32>
-        ensures { (h : DBIHeader) → header_of self.now ≡ Ok h → result ≡ age_of h.age }
+        ensures { age_in self.now ≡ Ok result }
     {
         match self.header().age {
             0 => None,

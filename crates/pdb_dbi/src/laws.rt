@@ -1,7 +1,10 @@
 //! Laws of the definitions. Each is the contract of a function that does nothing.
 
-ghost use Rattle.std.specs.Prelude.{◌≡◌, ◌+◌, ◌/◌, ◌<◌, ℕ, List, length, slice_index_or, Some, None, Ok};
+ghost use Rattle.std.specs.Prelude.{◌≡◌, ◌↔◌, ◌+◌, ◌/◌, ◌<◌, ℕ, List, length, slice_index_or, Some, None, Ok};
 ghost use Rattle.pdb_base.specs.Fields.{bytes_at};
+ghost use Rattle.pdb_base.specs.Left.{Left};
+ghost use Rattle.pdb_base.specs.Tiling.{IsListing};
+ghost use Rattle.pdb_dbi.specs.Modules.{ModuleEntry, IsModule, module_at, modules, modules_of};
 ghost use Rattle.pdb_dbi.specs.Header.{header_in};
 ghost use Rattle.pdb_dbi.specs.Machine.{machine_of, machine_number};
 ghost use Rattle.pdb_dbi.specs.Names.{Name, name_at, names_of, pairs_at};
@@ -23,4 +26,15 @@ pub fn enum_numbers_round_trip()
 pub fn names_are_those_of_the_pairs()
     ensures { (b part pairs : List ℕ) (offset size : ℕ) (names : List Name) → bytes_at b offset size ≡ Ok part → pairs_at b (offset + size) ≡ Ok pairs
         → names_of b offset size ≡ Ok names → (length names ≡ length pairs / 8) × ((k : ℕ) (none : Name) → k < length names → name_at part pairs k ≡ Ok (slice_index_or names k none)) }
+{}
+
+/// Bytes have one list of modules, and it is the one that the contracts name.
+pub fn one_list_of_modules()
+    ensures is { (b : List ℕ) → IsListing modules b 0 (modules_of b) }
+    ensures only { (b : List ℕ) (left : Left ModuleEntry) → IsListing modules b 0 left → left ≡ modules_of b }
+{}
+
+/// A module is read where its fields stand at their places.
+pub fn modules_stand_at_their_places()
+    ensures { (b : List ℕ) (p : ℕ) (m : ModuleEntry) → (module_at b p ≡ Ok m) ↔ IsModule b p m }
 {}

@@ -101,6 +101,13 @@ impl From<u16> for MachineType {
 }
 
 impl MachineType {
+    /// The machine's number.
+    pub(crate) fn number(self) -> u16
+        ensures { result ≡ machine_number self }
+    {
+        self as u16
+    }
+
     /// The machine's name, which is the variant's.
     fn name(self) -> &'static str
         ensures { result.now ≡ machine_text self }

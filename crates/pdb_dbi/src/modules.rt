@@ -171,6 +171,7 @@ impl<'m> ModuleIter<'m> {
 
 impl<'m> FallibleIterator for ModuleIter<'m> {
     ghost use Rattle.std.specs.Prelude.{IfOk, IfErr, IfSome};
+    ghost use Rattle.std.specs.Option.{IfNone};
     ghost use Rattle.pdb_base.specs.Left.{Yields};
     ghost use Rattle.pdb_dbi.specs.Modules.{ModuleEntry};
     ghost use Rattle.pdb_dbi.specs.DbiViews.{modules_left, modules_bytes, modules_steps};
@@ -191,6 +192,7 @@ impl<'m> FallibleIterator for ModuleIter<'m> {
         ensures small { length (modules_bytes self.new) < 2 ^ 32 }
         ensures bound { modules_steps self.new ≤ length (modules_bytes self.new) + 1 }
         ensures stepped { IfOk result (λ o. IfSome o (λ _. modules_steps self.new ≡ modules_steps self.old + 1)) }
+        ensures rests { IfOk result (λ o. IfNone o (modules_steps self.new ≡ modules_steps self.old)) }
         ensures stepped_to_fault { IfErr result (λ _. modules_steps self.new ≡ modules_steps self.old + 1) }
     {
         if self.buffer.is_empty() {

@@ -2,3 +2,5 @@ pub mod Refused
 pub mod Written
 pub mod Spelling
 pub mod SampleFacts
+pub mod Pairs
+pub mod Lines

@@ -1,17 +1,35 @@
 //! A file, read whole.
 
-ghost use Rattle.std.specs.Prelude.{◌≡◌, ◌≤◌, ◌⊎◌, length, IfOk, IfErr, vec_len};
+ghost use Rattle.std.specs.Prelude.{◌≡◌, ◌≤◌, ◌⊎◌, ◌+◌, ◌++◌, length, IfOk, IfErr, OnOk, vec_len};
 ghost use Rattle.std.specs.Io.KnownBytes.{Consumes, IsAtEnd};
 
 use crate::report::Fault;
-use std::alloc::Global;
+use std::alloc::{AllocError, Global};
 use std::io::Read;
 
 /// The most bytes that a file may have.
 pub const MOST_BYTES: usize = 1099511627776;
 
 /// How many bytes are asked for at a time.
-const CHUNK: usize = 65536;
+const CHUNK: usize = 16384;
+
+/// How many bytes are copied at a time.
+const PIECE: usize = 4096;
+
+/// Puts bytes behind those that are there.
+fn append(all: &mut Vec<u8>, bytes: &[u8]) -> Result<(), AllocError>
+    ensures all { OnOk result (all.new.items ≡ all.old.items ++ bytes.now) }
+    ensures len { OnOk result (vec_len all.new ≡ vec_len all.old + length bytes.now) }
+{
+    let mut rest = bytes;
+    while rest.len() > PIECE {
+        let (piece, behind) = rest.split_at(PIECE);
+        all.extend_from_slice(piece)?;
+        rest = behind;
+    }
+    all.extend_from_slice(rest)?;
+    Ok(())
+}
 
 /// All bytes that a reader has left, if these are at most `most`.
 fn read_up_to<R: Read>(alloc: Global, most: usize, input: &mut R) -> Result<Vec<u8>, Fault>
@@ -31,7 +49,7 @@ fn read_up_to<R: Read>(alloc: Global, most: usize, input: &mut R) -> Result<Vec<
         if count > most - bytes.len() {
             return Err(Fault::Read);
         }
-        bytes.extend_from_slice(&chunk[..count])?;
+        append(&mut bytes, &chunk[..count])?;
     }
 }
 

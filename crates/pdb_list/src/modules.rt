@@ -5,7 +5,7 @@ ghost use Rattle.pdb.specs.Source.{Continues};
 ghost use Rattle.pdb.specs.DbiViews.{modules_left, modules_steps};
 ghost use Rattle.pdb_list.specs.Texts.{module_line, module_list_text, modules_text, object_line, parts_text};
 
-use crate::text::{put_decimal, put_error, put_line_end, put_refusal, put_stream};
+use crate::text::{put_decimal, put_error, put_field, put_line_end, put_refusal, put_stream};
 use pdb::{FallibleIterator, Module, ModuleIter, PDB, Source};
 use std::alloc::AllocError;
 
@@ -16,12 +16,9 @@ fn put_parts(out: &mut Vec<u8>, listed: &Module<'_>) -> Result<(), AllocError>
 {
     let (symbols, lines, c13_lines) = listed.sizes();
     put_stream(out, listed.stream())?;
-    out.push(b' ')?;
-    put_decimal(out, u64::from(symbols))?;
-    out.push(b' ')?;
-    put_decimal(out, u64::from(lines))?;
-    out.push(b' ')?;
-    put_decimal(out, u64::from(c13_lines))
+    put_field(out, u64::from(symbols))?;
+    put_field(out, u64::from(lines))?;
+    put_field(out, u64::from(c13_lines))
 }
 
 /// The line of the module with this place in the list.

@@ -6,37 +6,38 @@ ghost use Rattle.pdb.specs.Data.{shown, name_of};
 ghost use Rattle.pdb.specs.Forms.{record_at};
 ghost use Rattle.pdb.specs.Views.{symbol_of, symbols_left};
 ghost use Rattle.pdb.specs.Text.{name_bytes};
-ghost use Rattle.std.specs.Option.{option_map};
+ghost use Rattle.pdb_list.specs.Digits.{hex};
 ghost use Rattle.pdb_list.specs.Texts.{globals_text, form_text, name_text, refused_text, record_text, symbol_text, symbols_text};
 
-use crate::text::{put_decimal, put_error, put_h4, put_h8, put_line_end, put_refusal};
+use crate::text::{h4, h8, put_decimal, put_error, put_line_end, put_refusal};
 use pdb::{Error, FallibleIterator, PDB, RawString, Source, Symbol, SymbolData, SymbolIter};
 use std::alloc::{AllocError, Global};
 
-/// The name of a record's form.
-fn form_name(parsed: &SymbolData<'_>) -> &'static [u8]
-    ensures { result.now ≡ form_text (shown parsed.now) }
+/// The name of a form with a space behind it, and then the symbol's name.
+#[inline(always)]
+fn put_named(out: &mut Vec<u8>, form: &[u8], name: RawString<'_>) -> Result<(), AllocError>
+    ensures { OnOk result (out.new.items ≡ out.old.items ++ form.now ++ name_bytes name.entry) }
 {
-    match parsed {
-        SymbolData::Public(_) => b"Public",
-        SymbolData::UserDefinedType(_) => b"UserDefinedType",
-        SymbolData::ProcedureReference(_) => b"ProcedureReference",
-        SymbolData::Constant(_) => b"Constant",
-        SymbolData::Data(_) => b"Data",
-        SymbolData::ThreadStorage(_) => b"ThreadStorage",
-    }
+    out.extend_from_slice(form)?;
+    out.extend_from_slice(name.as_bytes())?;
+    Ok(())
 }
 
-/// A space and the name, where there is one.
-fn put_name(out: &mut Vec<u8>, name: Option<RawString<'_>>) -> Result<(), AllocError>
-    ensures { OnOk result (out.new.items ≡ out.old.items ++ name_text (option_map name_bytes name.entry)) }
+/// A record's form, and its name where it has one.
+#[inline(always)]
+fn put_data(out: &mut Vec<u8>, parsed: &SymbolData<'_>) -> Result<(), AllocError>
+    ensures { OnOk result (out.new.items ≡ out.old.items ++ form_text (shown parsed.now) ++ name_text (name_of (shown parsed.now))) }
 {
-    match name {
-        Some(name) => {
-            out.push(b' ')?;
-            out.extend_from_slice(name.as_bytes())
-        }
-        None => Ok(()),
+    match parsed {
+        SymbolData::Public(symbol) => put_named(out, b"Public ", symbol.name),
+        SymbolData::UserDefinedType(symbol) => put_named(out, b"UserDefinedType ", symbol.name),
+        SymbolData::ProcedureReference(symbol) => match symbol.name {
+            Some(name) => put_named(out, b"ProcedureReference ", name),
+            None => out.extend_from_slice(b"ProcedureReference"),
+        },
+        SymbolData::Constant(symbol) => put_named(out, b"Constant ", symbol.name),
+        SymbolData::Data(symbol) => put_named(out, b"Data ", symbol.name),
+        SymbolData::ThreadStorage(symbol) => put_named(out, b"ThreadStorage ", symbol.name),
     }
 }
 
@@ -53,12 +54,23 @@ fn put_record(alloc: Global, out: &mut Vec<u8>, symbol: &Symbol<'_>) -> Result<(
     ensures { OnOk result (out.new.items ≡ out.old.items ++ record_text (record_at (symbol_of symbol.now).bytes)) }
 {
     match symbol.parse(alloc) {
-        Ok(parsed) => {
-            out.extend_from_slice(form_name(&parsed))?;
-            put_name(out, parsed.name())
-        }
+        Ok(parsed) => put_data(out, &parsed),
         Err(e) => put_refused(out, e),
     }
+}
+
+/// `symbol`, an index and a kind, each with a space behind it.
+#[inline(always)]
+#[tactic(auto, unfolding(crate::specs::Digits::hex))]
+fn head(index: u32, kind: u16) -> [u8; 21]
+    ensures { result ≡ codes "symbol " ++ hex 8 index ++ codes " " ++ hex 4 kind ++ codes " " }
+{
+    let i = h8(index);
+    let k = h4(kind);
+    [
+        b's', b'y', b'm', b'b', b'o', b'l', b' ', i[0], i[1], i[2], i[3], i[4], i[5], i[6], i[7],
+        b' ', k[0], k[1], k[2], k[3], b' ',
+    ]
 }
 
 /// The line of a symbol: its index, its kind, and what its record says.
@@ -66,11 +78,7 @@ fn put_record(alloc: Global, out: &mut Vec<u8>, symbol: &Symbol<'_>) -> Result<(
 fn put_symbol(alloc: Global, out: &mut Vec<u8>, symbol: &Symbol<'_>) -> Result<(), AllocError>
     ensures { OnOk result (out.new.items ≡ out.old.items ++ symbol_text (symbol_of symbol.now)) }
 {
-    out.extend_from_slice(b"symbol ")?;
-    put_h8(out, symbol.index().0)?;
-    out.push(b' ')?;
-    put_h4(out, symbol.raw_kind())?;
-    out.push(b' ')?;
+    out.extend_from_slice(&head(symbol.index().0, symbol.raw_kind()))?;
     put_record(alloc, out, symbol)?;
     put_line_end(out)
 }

@@ -1,6 +1,6 @@
 use Rattle.std.proofs.Common.{sym, ◌∙◌, arith, ap, Ok}
 use Rattle.std.proofs.lemmas.Result.{err_from_is_err_and}
-use Rattle.pdb_base.proofs.OpenLemmas.{paged-length, get-size_fails, get-pages_fails, get-is, limited-le}
+use Rattle.pdb_base.proofs.OpenLemmas.{paged-length, get-size_fails, get-pages_fails, get-is, needed-there, limited-le}
 use Rattle.pdb_base.proofs.msf.Msf.get.Goals as goal
 
 pub returns-in_err-size-clause-bytes : goal.returns-in_err-size-clause-bytes
@@ -24,6 +24,13 @@ returns-in_err-view-clause-bytes g c =
     let pages = rw c.as_slice-directory.ensures at c.in_ok-list.ensures.pages in
     let is = get-is c.args.self.now.file _ c.args.number c.in_ok-size.size c.limited-size.result c.args.limit _ opened size c.limited-size.ensures pages in
     rw (p.1, p.2, is) (rw c.self.view_is at c.in_err-view.ensures.bytes)
+
+pub returns-in_err-view-clause-memory : goal.returns-in_err-view-clause-memory
+returns-in_err-view-clause-memory g c h =
+    let opened = rw c.self.view_is at c.self.invariant.opened in
+    let size = rw c.as_slice-directory.ensures at c.in_ok-size.ensures.size in
+    let pages = rw c.as_slice-directory.ensures at c.in_ok-list.ensures.pages in
+    needed-there c.args.self.now.file _ c.args.number c.in_ok-size.size c.limited-size.result c.args.limit _ opened size c.limited-size.ensures pages
 
 pub of-requires : goal.of-requires
 of-requires g c =

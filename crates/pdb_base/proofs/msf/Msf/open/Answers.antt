@@ -36,6 +36,7 @@ invariant_of-result g c =
     record {
       opened = rw (f3, f2, f1) (open-done (g.S.Meaning.state c.args.source).file (head c.in_ok-head.head) _ _ c.in_ok-head.ensures.head (rw f1 at c.in_ok-list.ensures.list) (rw (c.as_slice.ensures, f2, f1) at c.in_ok-directory.ensures.bytes));
       large = c.in_ok-head.ensures.size.0;
+      sums = rw c.as_slice-2.ensures at c.in_ok-before.ensures;
     }
 
 pub returns-clause-opened : goal.returns-clause-opened

@@ -1,0 +1,43 @@
+//! Each accessor is a call of the lists of calls: what its contract says is what the law on them asks for.
+
+ghost use Rattle.pdb_dbi.specs.DbiViews.{information};
+ghost use Rattle.pdb.specs.Answers.{GoesOn, made};
+ghost use Rattle.pdb.specs.Answers.Call.{PdbInformation, NamedStream, DebugInformation as DebugInformationCall, GlobalSymbols, RawStream};
+
+use crate::pdb::PDB;
+use pdb_base::{Result, Source, Stream, StreamIndex};
+use pdb_dbi::{DebugInformation, PDBInformation};
+use pdb_symbols::SymbolTable;
+
+fn pdb_information<'s, S: Source<'s>>(pdb: &mut PDB<'s, S>) -> Result<PDBInformation<'s>>
+    ensures { GoesOn (made pdb.old pdb.new PdbInformation information result) }
+{
+    pdb.pdb_information()
+}
+
+fn named_stream<'s, S: Source<'s>>(pdb: &mut PDB<'s, S>, name: &[u8]) -> Result<Stream<'s>>
+    ensures { GoesOn (made pdb.old pdb.new (NamedStream name.now) (λ s. s) result) }
+{
+    pdb.named_stream(name)
+}
+
+fn debug_information<'s, S: Source<'s>>(pdb: &mut PDB<'s, S>) -> Result<DebugInformation<'s>>
+    ensures { GoesOn (made pdb.old pdb.new DebugInformationCall (λ d. d) result) }
+{
+    pdb.debug_information()
+}
+
+fn global_symbols<'s, S: Source<'s>>(pdb: &mut PDB<'s, S>) -> Result<SymbolTable<'s>>
+    ensures { GoesOn (made pdb.old pdb.new GlobalSymbols (λ t. t) result) }
+{
+    pdb.global_symbols()
+}
+
+fn raw_stream<'s, S: Source<'s>>(
+    pdb: &mut PDB<'s, S>,
+    index: StreamIndex,
+) -> Result<Option<Stream<'s>>>
+    ensures { GoesOn (made pdb.old pdb.new (RawStream index.0) (λ s. s) result) }
+{
+    pdb.raw_stream(index)
+}
