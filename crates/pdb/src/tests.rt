@@ -2,7 +2,14 @@
 
 use crate::*;
 use std::alloc::Global;
+use std::fmt::Debug;
+use std::process::Abort;
 use std::test::Fail;
+
+// What was given is what was wanted: one proof for all comparisons of a type.
+fn is<T: PartialEq + Debug>(rt: &impl Abort, label: &str, given: &T, wanted: &T) {
+    assert!(rt; given == wanted, "{label}: {given:?}, and not {wanted:?}");
+}
 
 fn put(bytes: &mut Vec<u8>, at: usize, part: &[u8]) {
     for (i, byte) in part.iter().enumerate() {
@@ -53,19 +60,36 @@ fn the_front_answers_where_the_whole_is_refused(rt: HostRuntime) -> Result<()> {
     let mut pdb = PDB::open(rt.alloc(), MemorySource::new(&bytes))?;
     let refused = Some(Error::PageReferenceOutOfRange(6));
     for _ in 0..3 {
-        assert_eq!(rt; pdb.debug_information().err(), refused);
+        is(
+            &rt,
+            "pdb.debug_information().err()",
+            &pdb.debug_information().err(),
+            &refused,
+        );
         let symbols = pdb.global_symbols()?;
-        assert_eq!(rt;
-            symbols.iter().next()?.map(|symbol| symbol.raw_kind()),
-            Some(0x114e)
+        is(
+            &rt,
+            "symbols.iter().next()?.map(|symbol| symbol.r",
+            &symbols.iter().next()?.map(|symbol| symbol.raw_kind()),
+            &Some(0x114e),
         );
     }
     let mut pdb = PDB::open(rt.alloc(), MemorySource::new(&bytes))?;
     for _ in 0..3 {
-        assert_eq!(rt; pdb.global_symbols()?.iter().count()?, 2);
-        assert_eq!(rt; pdb.debug_information().err(), refused);
+        is(
+            &rt,
+            "pdb.global_symbols()?.iter().count()?",
+            &pdb.global_symbols()?.iter().count()?,
+            &2,
+        );
+        is(
+            &rt,
+            "pdb.debug_information().err()",
+            &pdb.debug_information().err(),
+            &refused,
+        );
     }
-    assert_eq!(rt; pdb.failures(), 0);
+    is(&rt, "pdb.failures()", &pdb.failures(), &0);
     assert!(rt; pdb.steady());
     Ok(())
 }
@@ -75,9 +99,19 @@ fn debug_information_is_read_whole(rt: HostRuntime) -> Result<()> {
     let bytes = file(rt.alloc(), 1, 5)?;
     let mut pdb = PDB::open(rt.alloc(), MemorySource::new(&bytes))?;
     let information = pdb.debug_information()?;
-    assert_eq!(rt; information.age(), Some(2));
-    assert_eq!(rt; information.machine_type()?, MachineType::Amd64);
-    assert_eq!(rt; pdb.global_symbols()?.iter().count()?, 2);
+    is(&rt, "information.age()", &information.age(), &Some(2));
+    is(
+        &rt,
+        "information.machine_type()?",
+        &information.machine_type()?,
+        &MachineType::Amd64,
+    );
+    is(
+        &rt,
+        "pdb.global_symbols()?.iter().count()?",
+        &pdb.global_symbols()?.iter().count()?,
+        &2,
+    );
     Ok(())
 }
 
@@ -85,14 +119,23 @@ fn debug_information_is_read_whole(rt: HostRuntime) -> Result<()> {
 fn no_stream_of_symbol_records_is_told(rt: HostRuntime) -> Result<()> {
     let bytes = file(rt.alloc(), 1, 0xffff)?;
     let mut pdb = PDB::open(rt.alloc(), MemorySource::new(&bytes))?;
-    assert_eq!(rt;
-        pdb.global_symbols().err(),
-        Some(Error::GlobalSymbolsNotFound)
+    is(
+        &rt,
+        "pdb.global_symbols().err()",
+        &pdb.global_symbols().err(),
+        &Some(Error::GlobalSymbolsNotFound),
     );
-    assert_eq!(rt; pdb.debug_information()?.age(), Some(2));
-    assert_eq!(rt;
-        pdb.global_symbols().err(),
-        Some(Error::GlobalSymbolsNotFound)
+    is(
+        &rt,
+        "pdb.debug_information()?.age()",
+        &pdb.debug_information()?.age(),
+        &Some(2),
+    );
+    is(
+        &rt,
+        "pdb.global_symbols().err()",
+        &pdb.global_symbols().err(),
+        &Some(Error::GlobalSymbolsNotFound),
     );
     Ok(())
 }
@@ -104,8 +147,18 @@ fn an_ancient_header_is_not_kept(rt: HostRuntime) -> Result<()> {
     let mut pdb = PDB::open(rt.alloc(), MemorySource::new(&bytes))?;
     let ancient = Some(Error::UnimplementedFeature(Feature::AncientDbiHeader));
     for _ in 0..2 {
-        assert_eq!(rt; pdb.global_symbols().err(), ancient);
-        assert_eq!(rt; pdb.debug_information().err(), ancient);
+        is(
+            &rt,
+            "pdb.global_symbols().err()",
+            &pdb.global_symbols().err(),
+            &ancient,
+        );
+        is(
+            &rt,
+            "pdb.debug_information().err()",
+            &pdb.debug_information().err(),
+            &ancient,
+        );
     }
     Ok(())
 }
@@ -115,18 +168,32 @@ fn streams_are_had_by_their_indices(rt: HostRuntime) -> Result<()> {
     let bytes = file(rt.alloc(), 1, 5)?;
     let mut pdb = PDB::open(rt.alloc(), MemorySource::new(&bytes))?;
     let empty = pdb.raw_stream(StreamIndex(0))?;
-    assert_eq!(rt; empty.map(|stream| stream.as_slice().len()), Some(0));
-    assert_eq!(rt;
-        pdb.raw_stream(StreamIndex(9)).err(),
-        Some(Error::StreamNotFound(9))
+    is(
+        &rt,
+        "empty.map(|stream| stream.as_slice().len())",
+        &empty.map(|stream| stream.as_slice().len()),
+        &Some(0),
+    );
+    is(
+        &rt,
+        "pdb.raw_stream(StreamIndex(9)).err()",
+        &pdb.raw_stream(StreamIndex(9)).err(),
+        &Some(Error::StreamNotFound(9)),
     );
     assert!(rt; pdb.raw_stream(StreamIndex(65535))?.is_none());
     assert!(rt; StreamIndex::none().get(&mut pdb)?.is_none());
     let symbols = StreamIndex(5).get(&mut pdb)?;
-    assert_eq!(rt; symbols.map(|stream| stream.as_slice().len()), Some(12));
-    assert_eq!(rt;
-        StreamIndex(1).get(&mut pdb).err(),
-        Some(Error::StreamNotFound(1))
+    is(
+        &rt,
+        "symbols.map(|stream| stream.as_slice().len()",
+        &symbols.map(|stream| stream.as_slice().len()),
+        &Some(12),
+    );
+    is(
+        &rt,
+        "StreamIndex(1).get(&mut pdb).err()",
+        &StreamIndex(1).get(&mut pdb).err(),
+        &Some(Error::StreamNotFound(1)),
     );
     Ok(())
 }
@@ -134,7 +201,12 @@ fn streams_are_had_by_their_indices(rt: HostRuntime) -> Result<()> {
 #[test]
 fn a_file_of_another_format_is_refused(rt: HostRuntime) -> std::result::Result<(), Fail> {
     let refused = PDB::open(rt.alloc(), MemorySource::new(b"")).err();
-    assert_eq!(rt; refused, Some(Error::UnrecognizedFileFormat));
+    is(
+        &rt,
+        "refused",
+        &refused,
+        &Some(Error::UnrecognizedFileFormat),
+    );
     Ok(())
 }
 
@@ -145,14 +217,21 @@ fn an_error_of_the_closure_leaves_the_rest(rt: HostRuntime) -> Result<()> {
     let table = pdb.global_symbols()?;
     let mut symbols = table.iter();
     let refused = symbols.find(|_| Err(Error::StreamNameNotFound)).err();
-    assert_eq!(rt; refused, Some(Error::StreamNameNotFound));
-    assert_eq!(rt;
-        symbols
+    is(&rt, "refused", &refused, &Some(Error::StreamNameNotFound));
+    is(
+        &rt,
+        "symbols .find(|symbol| Ok(symbol.raw_kind()",
+        &symbols
             .find(|symbol| Ok(symbol.raw_kind() == 0x1108))?
             .map(|symbol| symbol.index()),
-        Some(SymbolIndex(4))
+        &Some(SymbolIndex(4)),
     );
-    assert_eq!(rt; table.iter().collect(rt.alloc())?.len(), 2);
+    is(
+        &rt,
+        "table.iter().collect(rt.alloc())?.len()",
+        &table.iter().collect(rt.alloc())?.len(),
+        &2,
+    );
     Ok(())
 }
 
@@ -182,17 +261,29 @@ fn the_information_stream_is_read(rt: HostRuntime) -> Result<()> {
     for _ in 0..2 {
         let information = pdb.pdb_information()?;
         assert!(rt; matches!(information.version, HeaderVersion::OtherValue(20000404)));
-        assert_eq!(rt; information.signature, 7);
-        assert_eq!(rt; information.age, 3);
-        assert_eq!(rt;
-            information.guid,
-            [1, 2, 3, 4, 5, 6, 7, 8, 9, 10, 11, 12, 13, 14, 15, 16]
+        is(&rt, "information.signature", &information.signature, &7);
+        is(&rt, "information.age", &information.age, &3);
+        is(
+            &rt,
+            "information.guid",
+            &information.guid,
+            &[1, 2, 3, 4, 5, 6, 7, 8, 9, 10, 11, 12, 13, 14, 15, 16],
         );
-        assert_eq!(rt; information.names_offset, 32);
-        assert_eq!(rt; information.names_size, 4);
-        assert_eq!(rt; information.stream_names(rt.alloc())?.iter().count(), 3);
+        is(
+            &rt,
+            "information.names_offset",
+            &information.names_offset,
+            &32,
+        );
+        is(&rt, "information.names_size", &information.names_size, &4);
+        is(
+            &rt,
+            "information.stream_names(rt.alloc())?.iter()",
+            &information.stream_names(rt.alloc())?.iter().count(),
+            &3,
+        );
         let refused = pdb.debug_information().err();
-        assert_eq!(rt; refused, Some(Error::StreamNotFound(3)));
+        is(&rt, "refused", &refused, &Some(Error::StreamNotFound(3)));
     }
     Ok(())
 }
@@ -203,13 +294,39 @@ fn a_named_stream_is_that_of_the_first_name(rt: HostRuntime) -> Result<()> {
     let mut pdb = PDB::open(rt.alloc(), MemorySource::new(&bytes))?;
     let none = Some(Error::StreamNameNotFound);
     for _ in 0..2 {
-        assert_eq!(rt; pdb.named_stream(b"a")?.as_slice(), b"abc".as_slice());
-        assert_eq!(rt; pdb.named_stream(b"b").err(), none);
-        assert_eq!(rt; pdb.named_stream(b"c").err(), none);
-        assert_eq!(rt; pdb.named_stream(b"").err(), none);
-        assert_eq!(rt; pdb.named_stream(b"a\0").err(), none);
+        is(
+            &rt,
+            "pdb.named_stream(..)?.as_slice()",
+            &pdb.named_stream(b"a")?.as_slice(),
+            &b"abc".as_slice(),
+        );
+        is(
+            &rt,
+            "pdb.named_stream(..).err()",
+            &pdb.named_stream(b"b").err(),
+            &none,
+        );
+        is(
+            &rt,
+            "pdb.named_stream(..).err()",
+            &pdb.named_stream(b"c").err(),
+            &none,
+        );
+        is(
+            &rt,
+            "pdb.named_stream(..).err()",
+            &pdb.named_stream(b"").err(),
+            &none,
+        );
+        is(
+            &rt,
+            "pdb.named_stream(..).err()",
+            &pdb.named_stream(b"a\0").err(),
+            &none,
+        );
     }
-    assert!(rt; pdb.failures() == 0 && pdb.steady());
+    is(&rt, "failures", &pdb.failures(), &0);
+    is(&rt, "steady", &pdb.steady(), &true);
     Ok(())
 }
 
@@ -218,18 +335,30 @@ fn damaged_names_refuse_every_name(rt: HostRuntime) -> Result<()> {
     for k in 0..76usize {
         let bytes = named_file(rt.alloc(), &NAMED[..k])?;
         let mut pdb = PDB::open(rt.alloc(), MemorySource::new(&bytes))?;
-        assert!(rt;
-            pdb.named_stream(b"a").err() == Some(Error::UnexpectedEof),
-            "cut to {k}"
+        is(
+            &rt,
+            "cut to",
+            &pdb.named_stream(b"a").err(),
+            &Some(Error::UnexpectedEof),
         );
         let short = Some(Error::UnexpectedEof);
         let refused = pdb.pdb_information().err();
-        assert!(rt; refused == if k < 32 { short } else { None }, "cut to {k}");
+        is(
+            &rt,
+            "cut to",
+            &refused,
+            &(if k < 32 { short } else { None }),
+        );
     }
     let mut beyond = *NAMED;
     beyond[68] = 4;
     let bytes = named_file(rt.alloc(), &beyond)?;
     let mut pdb = PDB::open(rt.alloc(), MemorySource::new(&bytes))?;
-    assert!(rt; pdb.named_stream(b"a").err() == Some(Error::UnexpectedEof));
+    is(
+        &rt,
+        "pdb.named_stream(..).err()",
+        &pdb.named_stream(b"a").err(),
+        &Some(Error::UnexpectedEof),
+    );
     Ok(())
 }

@@ -59,6 +59,7 @@ each_pushed P xs ys x e before here k h = rw e (at_place (cases_lt k (length xs)
   where
     n : length ys ≡ length xs + 1
     n = ap length e ∙ simp length-append (omega arith)
+
     at_place : (k < length xs) ⊎ (length xs ≤ k) → P k (get_or (xs ++ x ∷ []) k 0)
     at_place (inl lt) = rw (get_or-append xs (x ∷ []) 0 k lt) (before k lt)
     at_place (inr le) = let is : k ≡ length xs = omega (arith, n) in rw (is, get_or-append_seam xs x [] 0) here

@@ -119,7 +119,6 @@ front_of file o n limit = do
   pages ← pages_at o.directory o.page_size n (limited limit size)
   paged file o.page_size o.pages_used pages (limited limit size)
 
-
 -- the page numbers that the first bytes of a file's stream need
 unfoldable pub pages_needed : List ℕ → ℕ → Option ℕ → Result (List ℕ) Error
 pages_needed file n limit = open_of file >>= λ o. size_of o.directory n >>= λ size. pages_at o.directory o.page_size n (limited limit size)

@@ -107,6 +107,7 @@ pub fn asks_for_sample(words: &[String]) -> bool
 #[cfg(test)]
 mod tests {
     use super::*;
+    use crate::fakes::is;
     use std::test::Fail;
 
     fn texts(alloc: Global, words: &[&str]) -> Result<Vec<String>, Fail> {
@@ -126,7 +127,12 @@ mod tests {
         let alloc = rt.alloc();
         let globals = Command::Globals;
         let one = parsed(alloc, &["globals"])?.expect(&rt, "a command");
-        assert_eq!(rt; one.as_slice(), [globals].as_slice());
+        is(
+            &rt,
+            "one.as_slice()",
+            &one.as_slice(),
+            &[globals].as_slice(),
+        );
         let all = parsed(
             alloc,
             &["info", "names", "modules", "contributions", "globals"],
@@ -139,26 +145,39 @@ mod tests {
             Command::Contributions,
             Command::Globals,
         ];
-        assert_eq!(rt; all.as_slice(), five.as_slice());
+        is(&rt, "all.as_slice()", &all.as_slice(), &five.as_slice());
         let three = parsed(alloc, &["globals", "globals", "globals"])?.expect(&rt, "commands");
-        assert_eq!(rt; three.as_slice(), [globals, globals, globals].as_slice());
+        is(
+            &rt,
+            "three.as_slice()",
+            &three.as_slice(),
+            &[globals, globals, globals].as_slice(),
+        );
         let none = parsed(alloc, &[])?.expect(&rt, "no command");
         assert!(rt; none.is_empty());
-        assert_eq!(rt;
-            parsed(alloc, &["globals", "x"])?.err(),
-            Some(WordsError::BadWord(1))
+        is(
+            &rt,
+            "parsed(alloc, &['globals', 'x'])?.err()",
+            &parsed(alloc, &["globals", "x"])?.err(),
+            &Some(WordsError::BadWord(1)),
         );
-        assert_eq!(rt;
-            parsed(alloc, &["", "x"])?.err(),
-            Some(WordsError::BadWord(0))
+        is(
+            &rt,
+            "parsed(alloc, &['', 'x'])?.err()",
+            &parsed(alloc, &["", "x"])?.err(),
+            &Some(WordsError::BadWord(0)),
         );
-        assert_eq!(rt;
-            parsed(alloc, &["globals", "globals", "Globals"])?.err(),
-            Some(WordsError::BadWord(2))
+        is(
+            &rt,
+            "parsed(alloc, &['globals', 'globals', 'Globa",
+            &parsed(alloc, &["globals", "globals", "Globals"])?.err(),
+            &Some(WordsError::BadWord(2)),
         );
-        assert_eq!(rt;
-            parsed(alloc, &["global"])?.err(),
-            Some(WordsError::BadWord(0))
+        is(
+            &rt,
+            "parsed(alloc, &['global'])?.err()",
+            &parsed(alloc, &["global"])?.err(),
+            &Some(WordsError::BadWord(0)),
         );
         Ok(())
     }

@@ -135,24 +135,54 @@ pub fn run<'s, S: Source<'s>, W: Write>(
 #[cfg(test)]
 mod tests {
     use super::*;
-    use crate::fakes::Slow;
+    use crate::fakes::{Slow, is};
 
     #[test]
     fn writes_all_or_a_beginning(rt: HostRuntime) {
         let line = b"symbol 00000000";
         let mut whole = Slow::new(rt.alloc(), 64, 64);
-        assert_eq!(rt; write_out(&mut whole, line), Ok(()));
-        assert_eq!(rt; whole.taken(), line.as_slice());
+        is(
+            &rt,
+            "write_out(&mut whole, line)",
+            &write_out(&mut whole, line),
+            &Ok(()),
+        );
+        is(&rt, "whole.taken()", &whole.taken(), &line.as_slice());
         let mut bytewise = Slow::new(rt.alloc(), 1, 64);
-        assert_eq!(rt; write_out(&mut bytewise, line), Ok(()));
-        assert_eq!(rt; bytewise.taken(), line.as_slice());
+        is(
+            &rt,
+            "write_out(&mut bytewise, line)",
+            &write_out(&mut bytewise, line),
+            &Ok(()),
+        );
+        is(&rt, "bytewise.taken()", &bytewise.taken(), &line.as_slice());
         let mut fourth_fails = Slow::new(rt.alloc(), 3, 3);
-        assert_eq!(rt; write_out(&mut fourth_fails, line), Err(WriteFailed));
-        assert_eq!(rt; fourth_fails.taken(), b"symbol 00".as_slice());
+        is(
+            &rt,
+            "write_out(&mut fourth_fails, line)",
+            &write_out(&mut fourth_fails, line),
+            &Err(WriteFailed),
+        );
+        is(
+            &rt,
+            "fourth_fails.taken()",
+            &fourth_fails.taken(),
+            &b"symbol 00".as_slice(),
+        );
         let mut takes_nothing = Slow::new(rt.alloc(), 0, 64);
-        assert_eq!(rt; write_out(&mut takes_nothing, line), Err(WriteFailed));
+        is(
+            &rt,
+            "write_out(&mut takes_nothing, line)",
+            &write_out(&mut takes_nothing, line),
+            &Err(WriteFailed),
+        );
         assert!(rt; takes_nothing.taken().is_empty());
-        assert_eq!(rt; write_out(&mut takes_nothing, b""), Ok(()));
+        is(
+            &rt,
+            "write_out(&mut takes_nothing, ..)",
+            &write_out(&mut takes_nothing, b""),
+            &Ok(()),
+        );
     }
 
     #[test]
@@ -160,8 +190,13 @@ mod tests {
         for calls in 0..7u32 {
             let mut out = Slow::new(rt.alloc(), 1, calls);
             let written = write_out(&mut out, b"error\n");
-            assert_eq!(rt; written.is_ok(), calls == 6);
-            assert_eq!(rt; out.taken(), b"error\n".split_at(calls.min(6) as usize).0);
+            is(&rt, "written.is_ok()", &written.is_ok(), &(calls == 6));
+            is(
+                &rt,
+                "out.taken()",
+                &out.taken(),
+                &(b"error\n".split_at(calls.min(6) as usize).0),
+            );
         }
     }
 }

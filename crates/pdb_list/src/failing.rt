@@ -83,6 +83,7 @@ impl<'s, S: Source<'s>> Source<'s> for FailingSource<S> {
 #[cfg(test)]
 mod tests {
     use super::*;
+    use crate::fakes::is;
     use pdb::{MemorySource, Msf};
 
     const INSIDE: SourceSlice = SourceSlice { offset: 1, size: 2 };
@@ -95,29 +96,35 @@ mod tests {
         assert!(rt; !source.steady());
         assert!(rt; source.view(rt.alloc(), &[INSIDE]).is_ok());
         assert!(rt; !source.steady());
-        assert_eq!(rt;
-            source.view(rt.alloc(), &[INSIDE]).err(),
-            Some(Error::IoError)
+        is(
+            &rt,
+            "source.view(rt.alloc(), &[INSIDE]).err()",
+            &source.view(rt.alloc(), &[INSIDE]).err(),
+            &Some(Error::IoError),
         );
-        assert_eq!(rt; source.failures(), 1);
+        is(&rt, "source.failures()", &source.failures(), &1);
         assert!(rt; source.steady());
         let view = source.view(rt.alloc(), &[INSIDE]).expect(&rt, "a view");
-        assert_eq!(rt; view.as_slice(), b"12".as_slice());
-        assert_eq!(rt;
-            source.view(rt.alloc(), &[OUTSIDE]).err(),
-            Some(Error::UnexpectedEof)
+        is(&rt, "view.as_slice()", &view.as_slice(), &b"12".as_slice());
+        is(
+            &rt,
+            "source.view(rt.alloc(), &[OUTSIDE]).err()",
+            &source.view(rt.alloc(), &[OUTSIDE]).err(),
+            &Some(Error::UnexpectedEof),
         );
-        assert_eq!(rt; source.failures(), 1);
+        is(&rt, "source.failures()", &source.failures(), &1);
     }
 
     #[test]
     fn end_of_data_comes_first(rt: HostRuntime) {
         let mut source = FailingSource::new(MemorySource::new(b"0123456789"), 0);
-        assert_eq!(rt;
-            source.view(rt.alloc(), &[INSIDE, OUTSIDE]).err(),
-            Some(Error::UnexpectedEof)
+        is(
+            &rt,
+            "source.view(rt.alloc(), &[INSIDE, OUTSIDE]).",
+            &source.view(rt.alloc(), &[INSIDE, OUTSIDE]).err(),
+            &Some(Error::UnexpectedEof),
         );
-        assert_eq!(rt; source.failures(), 0);
+        is(&rt, "source.failures()", &source.failures(), &0);
         assert!(rt; source.steady());
         assert!(rt; source.view(rt.alloc(), &[INSIDE]).is_ok());
     }
@@ -127,15 +134,19 @@ mod tests {
         let mut source = FailingSource::spent(MemorySource::new(b"0123456789"));
         assert!(rt; !source.steady());
         for _k in 0..3 {
-            assert_eq!(rt;
-                source.view(rt.alloc(), &[INSIDE]).err(),
-                Some(Error::IoError)
+            is(
+                &rt,
+                "source.view(rt.alloc(), &[INSIDE]).err()",
+                &source.view(rt.alloc(), &[INSIDE]).err(),
+                &Some(Error::IoError),
             );
-            assert_eq!(rt;
-                source.view(rt.alloc(), &[OUTSIDE]).err(),
-                Some(Error::UnexpectedEof)
+            is(
+                &rt,
+                "source.view(rt.alloc(), &[OUTSIDE]).err()",
+                &source.view(rt.alloc(), &[OUTSIDE]).err(),
+                &Some(Error::UnexpectedEof),
             );
-            assert_eq!(rt; source.failures(), u64::MAX);
+            is(&rt, "source.failures()", &source.failures(), &u64::MAX);
         }
     }
 
@@ -143,11 +154,13 @@ mod tests {
     fn counts_of_two_sources(rt: HostRuntime) {
         let inner = FailingSource::new(MemorySource::new(b"0123456789"), 0);
         let mut source = FailingSource::new(inner, 0);
-        assert_eq!(rt;
-            source.view(rt.alloc(), &[INSIDE]).err(),
-            Some(Error::IoError)
+        is(
+            &rt,
+            "source.view(rt.alloc(), &[INSIDE]).err()",
+            &source.view(rt.alloc(), &[INSIDE]).err(),
+            &Some(Error::IoError),
         );
-        assert_eq!(rt; source.failures(), 2);
+        is(&rt, "source.failures()", &source.failures(), &2);
         assert!(rt; source.steady());
     }
 
@@ -156,15 +169,30 @@ mod tests {
         let alloc = rt.alloc();
         let bytes = crate::sample::file(alloc).expect(&rt, "the sample");
         let spent = FailingSource::spent(MemorySource::new(&bytes));
-        assert_eq!(rt; Msf::open(alloc, spent).err(), Some(Error::IoError));
+        is(
+            &rt,
+            "Msf::open(alloc, spent).err()",
+            &Msf::open(alloc, spent).err(),
+            &Some(Error::IoError),
+        );
         for k in 0..4u64 {
             let source = FailingSource::new(MemorySource::new(&bytes), k);
-            assert_eq!(rt; Msf::open(alloc, source).err(), Some(Error::IoError));
+            is(
+                &rt,
+                "Msf::open(alloc, source).err()",
+                &Msf::open(alloc, source).err(),
+                &Some(Error::IoError),
+            );
         }
         let source = FailingSource::new(MemorySource::new(&bytes), 4);
         let mut msf = Msf::open(alloc, source).expect(&rt, "four views");
-        assert_eq!(rt; msf.get(1, None).err(), Some(Error::IoError));
-        assert_eq!(rt; msf.failures(), 1);
+        is(
+            &rt,
+            "msf.get(1, None).err()",
+            &msf.get(1, None).err(),
+            &Some(Error::IoError),
+        );
+        is(&rt, "msf.failures()", &msf.failures(), &1);
         assert!(rt; msf.steady());
         assert!(rt; msf.get(1, None).is_ok());
     }

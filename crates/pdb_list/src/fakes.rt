@@ -1,7 +1,14 @@
 //! Readers and writers that fail, for tests.
 
 use std::alloc::Global;
+use std::fmt::Debug;
 use std::io::{self, ErrorKind, Read, Write};
+use std::process::Abort;
+
+// What was given is what was wanted: one proof for all comparisons of a type.
+pub fn is<T: PartialEq + Debug>(rt: &impl Abort, label: &str, given: &T, wanted: &T) {
+    assert!(rt; given == wanted, "{label}: {given:?}, and not {wanted:?}");
+}
 
 /// A writer that takes at most `step` bytes a call, and fails from the call of number `calls` on, counted from 0.
 #[derive(Drop)]

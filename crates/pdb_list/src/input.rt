@@ -66,21 +66,23 @@ pub fn read_all<R: Read>(alloc: Global, input: &mut R) -> Result<Vec<u8>, Fault>
 #[cfg(test)]
 mod tests {
     use super::*;
-    use crate::fakes::ThreeBytes;
+    use crate::fakes::{ThreeBytes, is};
 
     #[test]
     fn reads_to_the_end(rt: HostRuntime) {
         let alloc = rt.alloc();
         let read = read_all(alloc, &mut ThreeBytes::ending(1)).expect(&rt, "one read");
-        assert_eq!(rt; read.as_slice(), b"abc".as_slice());
+        is(&rt, "read.as_slice()", &read.as_slice(), &b"abc".as_slice());
         let read = read_all(alloc, &mut ThreeBytes::ending(40000)).expect(&rt, "many reads");
-        assert_eq!(rt; read.len(), 120000);
-        assert_eq!(rt; read[119997], b'a');
+        is(&rt, "read.len()", &read.len(), &120000);
+        is(&rt, "read[119997]", &read[119997], &(b'a'));
         let read = read_all(alloc, &mut ThreeBytes::ending(0)).expect(&rt, "no byte");
         assert!(rt; read.is_empty());
-        assert_eq!(rt;
-            read_all(alloc, &mut ThreeBytes::failing(1)).err(),
-            Some(Fault::Read)
+        is(
+            &rt,
+            "read_all(alloc, &mut ThreeBytes::failing(1))",
+            &read_all(alloc, &mut ThreeBytes::failing(1)).err(),
+            &Some(Fault::Read),
         );
     }
 
@@ -88,10 +90,15 @@ mod tests {
     fn reads_no_more_than_allowed(rt: HostRuntime) {
         let alloc = rt.alloc();
         let read = read_up_to(alloc, 6, &mut ThreeBytes::ending(2)).expect(&rt, "six bytes");
-        assert_eq!(rt; read.as_slice(), b"abcabc".as_slice());
+        is(
+            &rt,
+            "read.as_slice()",
+            &read.as_slice(),
+            &b"abcabc".as_slice(),
+        );
         let refused = read_up_to(alloc, 5, &mut ThreeBytes::ending(2)).err();
-        assert_eq!(rt; refused, Some(Fault::Read));
+        is(&rt, "refused", &refused, &Some(Fault::Read));
         let refused = read_up_to(alloc, 5, &mut ThreeBytes::ending(2_000_000_000)).err();
-        assert_eq!(rt; refused, Some(Fault::Read));
+        is(&rt, "refused", &refused, &Some(Fault::Read));
     }
 }

@@ -112,7 +112,7 @@ pub fn report<W: Write>(fault: &Fault, err: &mut W) -> u8
 #[cfg(test)]
 mod tests {
     use super::*;
-    use crate::fakes::Slow;
+    use crate::fakes::{Slow, is};
     use pdb::Error;
 
     #[test]
@@ -128,31 +128,65 @@ mod tests {
         ];
         for (fault, status, line) in rows {
             let mut err = Slow::new(rt.alloc(), 64, 64);
-            assert_eq!(rt; report(&fault, &mut err), status);
-            assert_eq!(rt; err.taken(), line);
+            is(
+                &rt,
+                "report(&fault, &mut err)",
+                &report(&fault, &mut err),
+                &status,
+            );
+            is(&rt, "err.taken()", &err.taken(), &line);
         }
     }
 
     #[test]
     fn passes_over_errors_of_the_writer(rt: HostRuntime) {
         let mut err = Slow::new(rt.alloc(), 5, 2);
-        assert_eq!(rt; report(&Fault::Open(3), &mut err), 4);
-        assert_eq!(rt; err.taken(), b"cannot ope".as_slice());
+        is(
+            &rt,
+            "report(&Fault::Open(3), &mut err)",
+            &report(&Fault::Open(3), &mut err),
+            &4,
+        );
+        is(&rt, "err.taken()", &err.taken(), &b"cannot ope".as_slice());
     }
 
     #[test]
     fn faults_of_errors(rt: HostRuntime) {
-        assert_eq!(rt;
-            Fault::from(RunError::Open(Error::UnrecognizedFileFormat)),
-            Fault::Open(3)
+        is(
+            &rt,
+            "Fault::from(RunError::Open(Error::Unrecogniz",
+            &Fault::from(RunError::Open(Error::UnrecognizedFileFormat)),
+            &Fault::Open(3),
         );
-        assert_eq!(rt;
-            Fault::from(RunError::Open(Error::InvalidPageSize(513))),
-            Fault::Open(4)
+        is(
+            &rt,
+            "Fault::from(RunError::Open(Error::InvalidPag",
+            &Fault::from(RunError::Open(Error::InvalidPageSize(513))),
+            &Fault::Open(4),
         );
-        assert_eq!(rt; Fault::from(RunError::OutOfMemory), Fault::Memory);
-        assert_eq!(rt; Fault::from(RunError::Write), Fault::Write);
-        assert_eq!(rt; Fault::from(WordsError::BadWord(1)), Fault::Usage);
-        assert_eq!(rt; Fault::from(WordsError::OutOfMemory), Fault::Memory);
+        is(
+            &rt,
+            "Fault::from(RunError::OutOfMemory)",
+            &Fault::from(RunError::OutOfMemory),
+            &Fault::Memory,
+        );
+        is(
+            &rt,
+            "Fault::from(RunError::Write)",
+            &Fault::from(RunError::Write),
+            &Fault::Write,
+        );
+        is(
+            &rt,
+            "Fault::from(WordsError::BadWord(1))",
+            &Fault::from(WordsError::BadWord(1)),
+            &Fault::Usage,
+        );
+        is(
+            &rt,
+            "Fault::from(WordsError::OutOfMemory)",
+            &Fault::from(WordsError::OutOfMemory),
+            &Fault::Memory,
+        );
     }
 }

@@ -245,6 +245,7 @@ pub fn file(alloc: Global) -> Result<Vec<u8>>
 #[cfg(test)]
 mod tests {
     use super::*;
+    use crate::fakes::is;
     use pdb::{MemorySource, Msf};
     use std::test::Fail;
 
@@ -255,7 +256,7 @@ mod tests {
     #[test]
     fn sample_file(rt: HostRuntime) -> std::result::Result<(), Fail> {
         let bytes = file(rt.alloc())?;
-        assert_eq!(rt; bytes.len(), 5632);
+        is(&rt, "bytes.len()", &bytes.len(), &5632);
         assert!(rt; stands_at(&bytes, 0, b"Microsoft C/C++ MSF 7.00\r\n\x1aDS\0\0\0"));
         assert!(rt;
             stands_at(
@@ -349,7 +350,12 @@ mod tests {
         assert!(rt; reads_back(alloc, &streams)?);
         streams.push(None)?;
         let refused = file_of(alloc, &streams).err();
-        assert_eq!(rt; refused, Some(Error::InvalidStreamLength(Part::Sample)));
+        is(
+            &rt,
+            "refused",
+            &refused,
+            &Some(Error::InvalidStreamLength(Part::Sample)),
+        );
         Ok(())
     }
 }

@@ -4,11 +4,12 @@ mod commands;
 
 use crate::command::Command;
 use crate::engine::{RunError, run};
-use crate::fakes::Slow;
+use crate::fakes::{Slow, is};
 use crate::sample::{self, FailingSource};
 use crate::streams;
 use pdb::{Error, FallibleIterator, MemorySource, Msf, PDB, Source, StreamIndex};
 use std::alloc::Global;
+use std::process::Abort;
 use std::test::Fail;
 
 const GLOBALS: [Command; 1] = [Command::Globals];
@@ -31,46 +32,63 @@ fn sample_of<'b>(alloc: Global, dbi: &'b [u8], symbols: &'b [u8]) -> Result<Vec<
     )
 }
 
-/// How a run over a file ended, and whether it wrote this text.
-fn ran(alloc: Global, file: &[u8], commands: &[Command], text: &[u8]) -> Option<RunError> {
+/// Why a run over a file stopped, if it did.
+fn ended(alloc: Global, file: &[u8], commands: &[Command]) -> Option<RunError> {
+    run(
+        alloc,
+        MemorySource::new(file),
+        commands,
+        &mut Slow::new(alloc, 4096, 4096),
+    )
+    .err()
+}
+
+/// A run over a file writes this text.
+fn lists(rt: &impl Abort, alloc: Global, file: &[u8], commands: &[Command], text: &[u8]) {
     let mut out = Slow::new(alloc, 4096, 4096);
-    let refused = run(alloc, MemorySource::new(file), commands, &mut out).err();
-    if refused.is_none() && out.taken() != text {
-        return Some(RunError::Write);
-    }
-    refused
+    let ended = run(alloc, MemorySource::new(file), commands, &mut out);
+    is(rt, "run", &ended, &Ok(()));
+    is(rt, "text", &out.taken(), &text);
 }
 
 #[test]
 fn the_sample_has_six_symbols(rt: HostRuntime) -> Result<(), Fail> {
     let file = sample::file(rt.alloc())?;
-    assert!(rt; ran(rt.alloc(), &file, &GLOBALS, TEXT).is_none());
-    assert!(rt; ran(rt.alloc(), &file, &[], b"").is_none());
+    lists(&rt, rt.alloc(), &file, &GLOBALS, TEXT);
+    lists(&rt, rt.alloc(), &file, &[], b"");
     let mut twice = Vec::new(rt.alloc());
     twice.extend_from_slice(TEXT)?;
     twice.extend_from_slice(TEXT)?;
-    assert!(rt;
-        ran(
-            rt.alloc(),
-            &file,
-            &[Command::Globals, Command::Globals],
-            &twice
-        )
-        .is_none()
+    lists(
+        &rt,
+        rt.alloc(),
+        &file,
+        &[Command::Globals, Command::Globals],
+        &twice,
     );
     Ok(())
 }
 
 #[test]
 fn a_file_of_another_format_is_not_opened(rt: HostRuntime) -> Result<(), Fail> {
-    let refused = ran(rt.alloc(), b"", &GLOBALS, b"");
-    assert!(rt; refused == Some(RunError::Open(Error::UnrecognizedFileFormat)));
+    let refused = ended(rt.alloc(), b"", &GLOBALS);
+    is(
+        &rt,
+        "refused",
+        &refused,
+        &Some(RunError::Open(Error::UnrecognizedFileFormat)),
+    );
     let mut file = sample::file(rt.alloc())?;
     if let Some(byte) = file.get_mut(32) {
         *byte = 1;
     }
-    let refused = ran(rt.alloc(), &file, &GLOBALS, b"");
-    assert!(rt; refused == Some(RunError::Open(Error::InvalidPageSize(513))));
+    let refused = ended(rt.alloc(), &file, &GLOBALS);
+    is(
+        &rt,
+        "refused",
+        &refused,
+        &Some(RunError::Open(Error::InvalidPageSize(513))),
+    );
     Ok(())
 }
 
@@ -78,14 +96,14 @@ fn a_file_of_another_format_is_not_opened(rt: HostRuntime) -> Result<(), Fail> {
 fn a_fault_of_the_list_is_told_after_its_symbols(rt: HostRuntime) -> Result<(), Fail> {
     let file = sample_of(rt.alloc(), &streams::DBI, b"\x02\0\x06\0\x01\0")?;
     let text = b"symbol 00000000 0006 refused 12\nerror 11\n";
-    assert!(rt; ran(rt.alloc(), &file, &GLOBALS, text).is_none());
+    lists(&rt, rt.alloc(), &file, &GLOBALS, text);
     let file = sample_of(
         rt.alloc(),
         &streams::DBI,
         b"\x0c\0\x0e\x11\0\0\0\0\0\0\0\0\0\0",
     )?;
     let text = b"symbol 00000000 110e refused 1\n";
-    assert!(rt; ran(rt.alloc(), &file, &GLOBALS, text).is_none());
+    lists(&rt, rt.alloc(), &file, &GLOBALS, text);
     Ok(())
 }
 
@@ -96,11 +114,11 @@ fn a_refused_command_is_followed_by_the_next(rt: HostRuntime) -> Result<(), Fail
     dbi[21] = 0xff;
     let file = sample_of(rt.alloc(), &dbi, &streams::SYMBOLS)?;
     let commands = [Command::Globals, Command::Globals];
-    assert!(rt; ran(rt.alloc(), &file, &commands, b"error 8\nerror 8\n").is_none());
+    lists(&rt, rt.alloc(), &file, &commands, b"error 8\nerror 8\n");
     let file = sample_of(rt.alloc(), &dbi[..63], &streams::SYMBOLS)?;
-    assert!(rt; ran(rt.alloc(), &file, &GLOBALS, b"error 1\n").is_none());
+    lists(&rt, rt.alloc(), &file, &GLOBALS, b"error 1\n");
     let file = sample_of(rt.alloc(), &[0; 64], &streams::SYMBOLS)?;
-    assert!(rt; ran(rt.alloc(), &file, &GLOBALS, b"error 2\n").is_none());
+    lists(&rt, rt.alloc(), &file, &GLOBALS, b"error 2\n");
     Ok(())
 }
 
@@ -109,7 +127,7 @@ fn names_are_written_as_they_are(rt: HostRuntime) -> Result<(), Fail> {
     let symbols = b"\x10\0\x0e\x11\x02\0\0\0\0\x01\0\0\x01\0\xff\x0a\0\0";
     let file = sample_of(rt.alloc(), &streams::DBI, symbols)?;
     let text = b"symbol 00000000 110e Public \xff\n\n";
-    assert!(rt; ran(rt.alloc(), &file, &GLOBALS, text).is_none());
+    lists(&rt, rt.alloc(), &file, &GLOBALS, text);
     Ok(())
 }
 
@@ -134,10 +152,7 @@ fn symbols_cut_at_each_place(rt: HostRuntime) -> Result<(), Fail> {
             }
         }
         let commands = [Command::Globals, Command::Globals, Command::Globals];
-        assert!(rt;
-            ran(rt.alloc(), &file, &commands, &text).is_none(),
-            "cut to {k}"
-        );
+        lists(&rt, rt.alloc(), &file, &commands, &text);
     }
     Ok(())
 }
@@ -147,13 +162,13 @@ fn files_cut_at_each_place(rt: HostRuntime) -> Result<(), Fail> {
     let file = sample::file(rt.alloc())?;
     for k in 0..5633usize {
         let cut = file.get(..k).unwrap_or(&[]);
-        let refused = ran(rt.alloc(), cut, &GLOBALS, TEXT);
+        let refused = ended(rt.alloc(), cut, &GLOBALS);
         let wanted = match k {
             0..52 => Some(RunError::Open(Error::UnrecognizedFileFormat)),
             52..5124 => Some(RunError::Open(Error::UnexpectedEof)),
             _ => None,
         };
-        assert!(rt; refused == wanted, "cut to {k}");
+        is(&rt, "cut to", &refused, &wanted);
     }
     let mut msf = Msf::open(
         rt.alloc(),
@@ -168,9 +183,11 @@ fn files_cut_at_each_place(rt: HostRuntime) -> Result<(), Fail> {
         (7, 17),
         (8, 40),
     ] {
-        assert!(rt;
-            msf.get(number, None)?.as_slice().len() == size,
-            "stream {number}"
+        is(
+            &rt,
+            "stream",
+            &msf.get(number, None)?.as_slice().len(),
+            &size,
         );
     }
     Ok(())
@@ -189,15 +206,17 @@ fn a_failing_writer_has_a_beginning(rt: HostRuntime) -> Result<(), Fail> {
     ] {
         let mut out = Slow::new(rt.alloc(), step, calls);
         let refused = run(rt.alloc(), MemorySource::new(&file), &GLOBALS, &mut out).err();
-        assert!(rt; refused == Some(RunError::Write), "{step} bytes a call");
-        assert!(rt;
-            out.taken() == TEXT.get(..taken).unwrap_or(TEXT),
-            "{step} bytes a call"
+        is(&rt, "bytes a call", &refused, &Some(RunError::Write));
+        is(
+            &rt,
+            "bytes a call",
+            &out.taken(),
+            &TEXT.get(..taken).unwrap_or(TEXT),
         );
     }
     let mut out = Slow::new(rt.alloc(), 1, 217);
     assert!(rt; run(rt.alloc(), MemorySource::new(&file), &GLOBALS, &mut out).is_ok());
-    assert!(rt; out.taken() == TEXT);
+    is(&rt, "out.taken()", &out.taken(), &TEXT);
     Ok(())
 }
 
@@ -219,13 +238,18 @@ fn one_failing_view_is_told_once(rt: HostRuntime) -> Result<(), Fail> {
         } else {
             Some(RunError::Open(Error::IoError))
         };
-        assert!(rt; refused == wanted, "view {k}");
-        assert!(rt; out.taken() == text.as_slice(), "view {k}");
+        is(&rt, "view", &refused, &wanted);
+        is(&rt, "view", &out.taken(), &text.as_slice());
     }
     let mut out = Slow::new(rt.alloc(), 4096, 4096);
     let spent = FailingSource::spent(MemorySource::new(&file));
     let refused = run(rt.alloc(), spent, &commands, &mut out).err();
-    assert!(rt; refused == Some(RunError::Open(Error::IoError)));
+    is(
+        &rt,
+        "refused",
+        &refused,
+        &Some(RunError::Open(Error::IoError)),
+    );
     Ok(())
 }
 
@@ -237,21 +261,31 @@ fn the_front_answers_where_the_whole_is_refused(rt: HostRuntime) -> Result<(), F
     let mut file = sample_of(rt.alloc(), &dbi, &streams::SYMBOLS)?;
     // Page 11 is the directory: a count, six sizes, the number of stream 1, and those of stream 3.
     let third = 512 * 11 + 4 + 4 * 6 + 4 + 8;
-    assert!(rt; file.get(third) == Some(&6));
+    is(&rt, "file.get(third)", &file.get(third), &Some(&6));
     if let Some(byte) = file.get_mut(third) {
         *byte = 16;
     }
     let mut pdb = PDB::open(rt.alloc(), MemorySource::new(&file))?;
     for _ in 0..2 {
-        assert!(rt; pdb.global_symbols()?.iter().count()? == 6);
+        is(
+            &rt,
+            "pdb.global_symbols()?.iter().count()?",
+            &pdb.global_symbols()?.iter().count()?,
+            &6,
+        );
         let refused = pdb.debug_information().err();
-        assert!(rt; refused == Some(Error::PageReferenceOutOfRange(16)));
+        is(
+            &rt,
+            "refused",
+            &refused,
+            &Some(Error::PageReferenceOutOfRange(16)),
+        );
     }
     let commands = [Command::Globals, Command::Globals];
     let mut text = Vec::new(rt.alloc());
     text.extend_from_slice(TEXT)?;
     text.extend_from_slice(TEXT)?;
-    assert!(rt; ran(rt.alloc(), &file, &commands, &text).is_none());
+    lists(&rt, rt.alloc(), &file, &commands, &text);
     Ok(())
 }
 
@@ -268,20 +302,38 @@ fn a_refused_view_changes_no_later_answer(rt: HostRuntime) -> Result<(), Fail> {
     let file = sample::file(rt.alloc())?;
     for k in 4..6u64 {
         let mut pdb = opened(rt.alloc(), &file, k)?;
-        assert!(rt;
-            pdb.global_symbols().err() == Some(Error::IoError),
-            "view {k}"
+        is(
+            &rt,
+            "view",
+            &pdb.global_symbols().err(),
+            &Some(Error::IoError),
         );
-        assert!(rt; pdb.failures() == 1, "view {k}");
-        assert!(rt; pdb.global_symbols()?.iter().count()? == 6, "view {k}");
+        is(&rt, "view", &pdb.failures(), &1);
+        is(&rt, "view", &pdb.global_symbols()?.iter().count()?, &6);
     }
     let mut pdb = opened(rt.alloc(), &file, 4)?;
-    assert!(rt; pdb.debug_information().err() == Some(Error::IoError));
-    assert!(rt; pdb.debug_information()?.age() == Some(2));
+    is(
+        &rt,
+        "pdb.debug_information().err()",
+        &pdb.debug_information().err(),
+        &Some(Error::IoError),
+    );
+    is(
+        &rt,
+        "pdb.debug_information()?.age()",
+        &pdb.debug_information()?.age(),
+        &Some(2),
+    );
     let mut pdb = opened(rt.alloc(), &file, 4)?;
-    assert!(rt; pdb.raw_stream(StreamIndex(7)).err() == Some(Error::IoError));
+    is(
+        &rt,
+        "pdb.raw_stream(StreamIndex(7)).err()",
+        &pdb.raw_stream(StreamIndex(7)).err(),
+        &Some(Error::IoError),
+    );
     let stream = pdb.raw_stream(StreamIndex(7))?;
     assert!(rt; stream.is_some_and(|stream| stream.as_slice().len() == 17));
-    assert!(rt; pdb.failures() == 1 && pdb.steady());
+    is(&rt, "failures", &pdb.failures(), &1);
+    is(&rt, "steady", &pdb.steady(), &true);
     Ok(())
 }

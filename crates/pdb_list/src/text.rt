@@ -252,6 +252,7 @@ pub fn put_refusal(out: &mut Vec<u8>, e: Error) -> Result<(), AllocError>
 #[cfg(test)]
 mod tests {
     use super::*;
+    use crate::fakes::is;
     use std::test::Fail;
 
     #[test]
@@ -270,7 +271,7 @@ mod tests {
         put_error(&mut out, 22)?;
         let want: &[u8] =
             b"110e\n9abcdef0\n00000058\n0\n9\n10\n12345\n18446744073709551615\nerror 22\n";
-        assert_eq!(rt; out.as_slice(), want);
+        is(&rt, "out.as_slice()", &out.as_slice(), &want);
         Ok(())
     }
 }

@@ -1,5 +1,6 @@
 //! Files made by hand. A page is filled with its number, so a stream's bytes tell which pages they come from.
 
+use super::is;
 use crate::*;
 use std::alloc::Global;
 use std::cell::Cell;
@@ -51,12 +52,18 @@ fn streams_at_each_page_size(rt: HostRuntime) -> Result<()> {
         let bytes = file(rt.alloc(), page)?;
         let mut msf = open(rt.alloc(), &bytes)?;
         let whole = msf.get(0, None)?;
-        assert_eq!(rt; whole.as_slice().len(), page as usize + 44);
+        is(
+            &rt,
+            "whole.as_slice().len()",
+            &whole.as_slice().len(),
+            &(page as usize + 44),
+        );
         for (i, byte) in whole.as_slice().iter().enumerate() {
-            assert_eq!(rt;
-                *byte,
-                if i < page as usize { 2 } else { 3 },
-                "byte {i} at {page}"
+            is(
+                &rt,
+                "byte at",
+                &(*byte),
+                &(if i < page as usize { 2 } else { 3 }),
             );
         }
         for (limit, size) in [
@@ -67,21 +74,37 @@ fn streams_at_each_page_size(rt: HostRuntime) -> Result<()> {
             (9000, page + 44),
         ] {
             let front = msf.get(0, Some(limit))?;
-            assert_eq!(rt;
-                front.as_slice().len(),
-                size as usize,
-                "limit {limit} at {page}"
-            );
+            is(&rt, "limit at", &front.as_slice().len(), &(size as usize));
             assert!(rt;
                 whole.as_slice().starts_with(front.as_slice()),
                 "limit {limit} at {page}"
             );
         }
-        assert_eq!(rt; msf.get(2, None)?.as_slice(), [5, 5, 5, 5].as_slice());
-        assert_eq!(rt; msf.get(3, None)?.as_slice().len(), 0);
-        assert_eq!(rt; msf.get(1, None).err(), Some(Error::StreamNotFound(1)));
-        assert_eq!(rt; msf.get(4, None).err(), Some(Error::StreamNotFound(4)));
-        assert_eq!(rt; msf.failures(), 0);
+        is(
+            &rt,
+            "msf.get(2, None)?.as_slice()",
+            &msf.get(2, None)?.as_slice(),
+            &[5, 5, 5, 5].as_slice(),
+        );
+        is(
+            &rt,
+            "msf.get(3, None)?.as_slice().len()",
+            &msf.get(3, None)?.as_slice().len(),
+            &0,
+        );
+        is(
+            &rt,
+            "msf.get(1, None).err()",
+            &msf.get(1, None).err(),
+            &Some(Error::StreamNotFound(1)),
+        );
+        is(
+            &rt,
+            "msf.get(4, None).err()",
+            &msf.get(4, None).err(),
+            &Some(Error::StreamNotFound(4)),
+        );
+        is(&rt, "msf.failures()", &msf.failures(), &0);
         assert!(rt; msf.steady());
     }
     Ok(())
@@ -96,14 +119,18 @@ fn refused(alloc: Global, at: usize, number: u32) -> Result<Option<Error>> {
 #[test]
 fn page_sizes_are_powers_of_two_from_256_to_2_23(rt: HostRuntime) -> Result<()> {
     for size in [0, 128, 255, 257, 513, 16777216, 0x8000_0000] {
-        assert_eq!(rt;
-            refused(rt.alloc(), 32, size)?,
-            Some(Error::InvalidPageSize(size))
+        is(
+            &rt,
+            "refused(rt.alloc(), 32, size)?",
+            &refused(rt.alloc(), 32, size)?,
+            &Some(Error::InvalidPageSize(size)),
         );
     }
-    assert_eq!(rt;
-        refused(rt.alloc(), 32, 8388608)?,
-        Some(Error::UnexpectedEof)
+    is(
+        &rt,
+        "refused(rt.alloc(), 32, 8388608)?",
+        &refused(rt.alloc(), 32, 8388608)?,
+        &Some(Error::UnexpectedEof),
     );
     Ok(())
 }
@@ -112,17 +139,28 @@ fn page_sizes_are_powers_of_two_from_256_to_2_23(rt: HostRuntime) -> Result<()> 
 fn pages_are_above_zero_and_below_pages_used(rt: HostRuntime) -> Result<()> {
     for page in [0, 6, 0xffff_ffff] {
         let wanted = Some(Error::PageReferenceOutOfRange(page));
-        assert_eq!(rt;
-            refused(rt.alloc(), 52, page)?,
-            wanted,
-            "in the list of the list"
+        is(
+            &rt,
+            "in the list of the list",
+            &refused(rt.alloc(), 52, page)?,
+            &wanted,
         );
-        assert_eq!(rt; refused(rt.alloc(), 256, page)?, wanted, "in the list");
+        is(
+            &rt,
+            "in the list",
+            &refused(rt.alloc(), 256, page)?,
+            &wanted,
+        );
         let mut bytes = file(rt.alloc(), 256)?;
         put(&mut bytes, 1024 + 24, page);
         let mut msf = open(rt.alloc(), &bytes)?;
-        assert_eq!(rt; msf.get(0, None).err(), wanted, "in a stream");
-        assert_eq!(rt; msf.get(0, Some(256))?.as_slice().len(), 256);
+        is(&rt, "in a stream", &msf.get(0, None).err(), &wanted);
+        is(
+            &rt,
+            "msf.get(0, Some(256))?.as_slice().len()",
+            &msf.get(0, Some(256))?.as_slice().len(),
+            &256,
+        );
     }
     Ok(())
 }
@@ -133,10 +171,17 @@ fn a_missing_number_comes_before_a_bad_one(rt: HostRuntime) -> Result<()> {
     put(&mut bytes, 44, 24);
     put(&mut bytes, 1024 + 20, 0);
     let mut msf = open(rt.alloc(), &bytes)?;
-    assert_eq!(rt; msf.get(0, None).err(), Some(Error::UnexpectedEof));
-    assert_eq!(rt;
-        msf.get(0, Some(1)).err(),
-        Some(Error::PageReferenceOutOfRange(0))
+    is(
+        &rt,
+        "msf.get(0, None).err()",
+        &msf.get(0, None).err(),
+        &Some(Error::UnexpectedEof),
+    );
+    is(
+        &rt,
+        "msf.get(0, Some(1)).err()",
+        &msf.get(0, Some(1)).err(),
+        &Some(Error::PageReferenceOutOfRange(0)),
     );
     Ok(())
 }
@@ -152,13 +197,17 @@ fn refused_stream(alloc: Global, first: u32, second: u32) -> Result<Option<Error
 
 #[test]
 fn a_bad_number_comes_before_a_page_past_the_file(rt: HostRuntime) -> Result<()> {
-    assert_eq!(rt;
-        refused_stream(rt.alloc(), 50, 3)?,
-        Some(Error::UnexpectedEof)
+    is(
+        &rt,
+        "refused_stream(rt.alloc(), 50, 3)?",
+        &refused_stream(rt.alloc(), 50, 3)?,
+        &Some(Error::UnexpectedEof),
     );
-    assert_eq!(rt;
-        refused_stream(rt.alloc(), 50, 0)?,
-        Some(Error::PageReferenceOutOfRange(0))
+    is(
+        &rt,
+        "refused_stream(rt.alloc(), 50, 0)?",
+        &refused_stream(rt.alloc(), 50, 0)?,
+        &Some(Error::PageReferenceOutOfRange(0)),
     );
     Ok(())
 }
@@ -169,72 +218,103 @@ fn a_small_directory_opens(rt: HostRuntime) -> Result<()> {
         let mut bytes = file(rt.alloc(), 256)?;
         put(&mut bytes, 44, size);
         let mut msf = open(rt.alloc(), &bytes)?;
-        assert_eq!(rt;
-            msf.get(0, None).err(),
-            Some(Error::UnexpectedEof),
-            "of {size} bytes"
+        is(
+            &rt,
+            "of bytes",
+            &msf.get(0, None).err(),
+            &Some(Error::UnexpectedEof),
         );
     }
     let mut bytes = file(rt.alloc(), 256)?;
     put(&mut bytes, 1024, 100);
     let mut msf = open(rt.alloc(), &bytes)?;
-    assert_eq!(rt; msf.get(100, None).err(), Some(Error::StreamNotFound(100)));
-    assert_eq!(rt; msf.get(99, None).err(), Some(Error::UnexpectedEof));
-    assert_eq!(rt; msf.get(1, None).err(), Some(Error::UnexpectedEof));
+    is(
+        &rt,
+        "msf.get(100, None).err()",
+        &msf.get(100, None).err(),
+        &Some(Error::StreamNotFound(100)),
+    );
+    is(
+        &rt,
+        "msf.get(99, None).err()",
+        &msf.get(99, None).err(),
+        &Some(Error::UnexpectedEof),
+    );
+    is(
+        &rt,
+        "msf.get(1, None).err()",
+        &msf.get(1, None).err(),
+        &Some(Error::UnexpectedEof),
+    );
     Ok(())
 }
 
 #[test]
 fn a_page_list_ends_in_page_zero(rt: HostRuntime) -> Result<()> {
     let last = 51 * 64 * 256;
-    assert_eq!(rt;
-        refused(rt.alloc(), 44, last)?,
-        Some(Error::PageReferenceOutOfRange(0))
+    is(
+        &rt,
+        "refused(rt.alloc(), 44, last)?",
+        &refused(rt.alloc(), 44, last)?,
+        &Some(Error::PageReferenceOutOfRange(0)),
     );
-    assert_eq!(rt;
-        refused(rt.alloc(), 44, last + 1)?,
-        Some(Error::UnexpectedEof)
+    is(
+        &rt,
+        "refused(rt.alloc(), 44, last + 1)?",
+        &(refused(rt.alloc(), 44, last + 1)?),
+        &Some(Error::UnexpectedEof),
     );
-    assert_eq!(rt;
-        refused(rt.alloc(), 44, 0xffff_ffff)?,
-        Some(Error::UnexpectedEof)
+    is(
+        &rt,
+        "refused(rt.alloc(), 44, 0xffff_ffff)?",
+        &refused(rt.alloc(), 44, 0xffff_ffff)?,
+        &Some(Error::UnexpectedEof),
     );
     Ok(())
 }
 
 #[test]
 fn other_formats_are_named(rt: HostRuntime) -> Result<()> {
-    assert_eq!(rt;
-        open(rt.alloc(), b"").err(),
-        Some(Error::UnrecognizedFileFormat)
+    is(
+        &rt,
+        "open(rt.alloc(), ..).err()",
+        &open(rt.alloc(), b"").err(),
+        &Some(Error::UnrecognizedFileFormat),
     );
     let mut bytes = Vec::new(rt.alloc());
     bytes.extend_from_slice(
         b"Microsoft C/C++ program database 2.00\r\n\x1aJG\0\0\0\x04\0\0\0\0\0",
     )?;
-    assert_eq!(rt; bytes.len(), 51);
-    assert_eq!(rt;
-        open(rt.alloc(), &bytes).err(),
-        Some(Error::UnrecognizedFileFormat)
+    is(&rt, "bytes.len()", &bytes.len(), &51);
+    is(
+        &rt,
+        "open(rt.alloc(), &bytes).err()",
+        &open(rt.alloc(), &bytes).err(),
+        &Some(Error::UnrecognizedFileFormat),
     );
     bytes.push(0)?;
-    assert_eq!(rt;
-        open(rt.alloc(), &bytes).err(),
-        Some(Error::UnimplementedFeature(Feature::SmallMsf))
+    is(
+        &rt,
+        "open(rt.alloc(), &bytes).err()",
+        &open(rt.alloc(), &bytes).err(),
+        &Some(Error::UnimplementedFeature(Feature::SmallMsf)),
     );
     let whole = file(rt.alloc(), 256)?;
     for k in 0..52 {
-        assert_eq!(rt;
-            open(rt.alloc(), &whole.as_slice()[..k.min(whole.len())]).err(),
-            Some(Error::UnrecognizedFileFormat),
-            "cut to {k}"
+        is(
+            &rt,
+            "cut to",
+            &open(rt.alloc(), &whole.as_slice()[..k.min(whole.len())]).err(),
+            &Some(Error::UnrecognizedFileFormat),
         );
     }
     let mut bytes = file(rt.alloc(), 256)?;
     put(&mut bytes, 28, 0x0100_0000);
-    assert_eq!(rt;
-        open(rt.alloc(), &bytes).err(),
-        Some(Error::UnrecognizedFileFormat)
+    is(
+        &rt,
+        "open(rt.alloc(), &bytes).err()",
+        &open(rt.alloc(), &bytes).err(),
+        &Some(Error::UnrecognizedFileFormat),
     );
     Ok(())
 }
@@ -282,13 +362,23 @@ fn a_run_of_pages_is_one_slice(rt: HostRuntime) -> Result<()> {
             views: &views,
         };
         let mut msf = Msf::open(rt.alloc(), source)?;
-        assert_eq!(rt; views.get(), 4);
+        is(&rt, "views.get()", &views.get(), &4);
         let stream = msf.get(0, None)?;
-        assert_eq!(rt; seen.get(), slices, "pages {first} and {second}");
-        assert_eq!(rt; stream.as_slice().last().copied(), Some(second as u8));
-        assert_eq!(rt; views.get(), 5);
-        assert_eq!(rt; msf.get(3, None)?.as_slice().len(), 0);
-        assert_eq!(rt; views.get(), 5, "an empty stream asks for no view");
+        is(&rt, "pages and", &seen.get(), &slices);
+        is(
+            &rt,
+            "stream.as_slice().last().copied()",
+            &stream.as_slice().last().copied(),
+            &Some(second as u8),
+        );
+        is(&rt, "views.get()", &views.get(), &5);
+        is(
+            &rt,
+            "msf.get(3, None)?.as_slice().len()",
+            &msf.get(3, None)?.as_slice().len(),
+            &0,
+        );
+        is(&rt, "an empty stream asks for no view", &views.get(), &5);
     }
     Ok(())
 }

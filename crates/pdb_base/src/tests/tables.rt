@@ -1,3 +1,4 @@
+use super::is;
 use crate::*;
 use std::process::Abort;
 use std::test::Fail;
@@ -12,17 +13,39 @@ fn table<'s>(rt: &impl Abort, bytes: &'s [u8]) -> Result<StringTable<'s>> {
 #[test]
 fn the_string_table_gives_names(rt: HostRuntime) -> Result<()> {
     let names = table(&rt, TABLE)?;
-    assert_eq!(rt; names.get(StringRef(1))?.as_bytes(), b"a.c".as_slice());
-    assert_eq!(rt; names.get(StringRef(3))?.as_bytes(), b"c".as_slice());
-    assert_eq!(rt; names.get(StringRef(0))?.as_bytes(), b"".as_slice());
+    is(
+        &rt,
+        "names.get(StringRef(1))?.as_bytes()",
+        &names.get(StringRef(1))?.as_bytes(),
+        &b"a.c".as_slice(),
+    );
+    is(
+        &rt,
+        "names.get(StringRef(3))?.as_bytes()",
+        &names.get(StringRef(3))?.as_bytes(),
+        &b"c".as_slice(),
+    );
+    is(
+        &rt,
+        "names.get(StringRef(0))?.as_bytes()",
+        &names.get(StringRef(0))?.as_bytes(),
+        &b"".as_slice(),
+    );
     for place in [5, 6, 0xffff_ffff] {
-        assert!(rt;
-            names.get(StringRef(place)) == Err(Error::UnexpectedEof),
-            "at {place}"
+        is(
+            &rt,
+            "names.get(StringRef(place))",
+            &names.get(StringRef(place)),
+            &Err(Error::UnexpectedEof),
         );
     }
     let unended = table(&rt, b"\xfe\xef\xfe\xef\x01\0\0\0\x02\0\0\0ab\0")?;
-    assert!(rt; unended.get(StringRef(0)) == Err(Error::UnexpectedEof));
+    is(
+        &rt,
+        "unended.get(StringRef(0))",
+        &unended.get(StringRef(0)),
+        &Err(Error::UnexpectedEof),
+    );
     Ok(())
 }
 
@@ -30,15 +53,17 @@ fn the_string_table_gives_names(rt: HostRuntime) -> Result<()> {
 fn a_cut_string_table_is_refused(rt: HostRuntime) {
     for k in 0..17 {
         let refused = table(&rt, &TABLE[..k]).err();
-        assert_eq!(rt; refused, Some(Error::UnexpectedEof), "at {k}");
+        is(&rt, "refused", &refused, &Some(Error::UnexpectedEof));
     }
     let refused = table(&rt, b"\xff\xef\xfe\xef\x01\0\0\0\x05\0\0\0").err();
-    assert_eq!(rt;
-        refused,
-        Some(Error::UnimplementedFeature(Feature::StringTable))
+    is(
+        &rt,
+        "refused",
+        &refused,
+        &Some(Error::UnimplementedFeature(Feature::StringTable)),
     );
     let refused = table(&rt, b"\xff\xef\xfe\xef\x01\0\0\0\x05\0\0").err();
-    assert_eq!(rt; refused, Some(Error::UnexpectedEof));
+    is(&rt, "refused", &refused, &Some(Error::UnexpectedEof));
 }
 
 const HEADER: &[u8; 40] =
@@ -49,27 +74,68 @@ fn a_section_header_has_forty_bytes(rt: HostRuntime) -> Result<()> {
     let mut buffer = ParseBuffer::from(HEADER.as_slice());
     let header = ImageSectionHeader::parse(&mut buffer)?;
     assert!(rt; buffer.is_empty());
-    assert_eq!(rt; header.name(), b".text".as_slice());
-    assert_eq!(rt; header.virtual_size, 0x1000);
-    assert_eq!(rt; header.virtual_address, 0x2000);
-    assert_eq!(rt; header.size_of_raw_data, 0x3000);
-    assert_eq!(rt; header.pointer_to_raw_data, 0x4000);
-    assert_eq!(rt; header.pointer_to_relocations, 0x5000);
-    assert_eq!(rt; header.pointer_to_line_numbers, 0x6000);
-    assert_eq!(rt; header.number_of_relocations, 7);
-    assert_eq!(rt; header.number_of_line_numbers, 8);
-    assert_eq!(rt; header.characteristics, SectionCharacteristics(0x6000_0020));
+    is(&rt, "header.name()", &header.name(), &b".text".as_slice());
+    is(&rt, "header.virtual_size", &header.virtual_size, &0x1000);
+    is(
+        &rt,
+        "header.virtual_address",
+        &header.virtual_address,
+        &0x2000,
+    );
+    is(
+        &rt,
+        "header.size_of_raw_data",
+        &header.size_of_raw_data,
+        &0x3000,
+    );
+    is(
+        &rt,
+        "header.pointer_to_raw_data",
+        &header.pointer_to_raw_data,
+        &0x4000,
+    );
+    is(
+        &rt,
+        "header.pointer_to_relocations",
+        &header.pointer_to_relocations,
+        &0x5000,
+    );
+    is(
+        &rt,
+        "header.pointer_to_line_numbers",
+        &header.pointer_to_line_numbers,
+        &0x6000,
+    );
+    is(
+        &rt,
+        "header.number_of_relocations",
+        &header.number_of_relocations,
+        &7,
+    );
+    is(
+        &rt,
+        "header.number_of_line_numbers",
+        &header.number_of_line_numbers,
+        &8,
+    );
+    is(
+        &rt,
+        "header.characteristics",
+        &header.characteristics,
+        &SectionCharacteristics(0x6000_0020),
+    );
     let full = ImageSectionHeader {
         name: *b"12345678",
         ..header
     };
-    assert_eq!(rt; full.name(), b"12345678".as_slice());
+    is(&rt, "full.name()", &full.name(), &b"12345678".as_slice());
     for k in 0..40 {
         let mut buffer = ParseBuffer::from(&HEADER[..k]);
-        assert_eq!(rt;
-            ImageSectionHeader::parse(&mut buffer).err(),
-            Some(Error::UnexpectedEof),
-            "at {k}"
+        is(
+            &rt,
+            "ImageSectionHeader::parse(&mut buffer).err()",
+            &ImageSectionHeader::parse(&mut buffer).err(),
+            &Some(Error::UnexpectedEof),
         );
     }
     Ok(())
@@ -79,7 +145,7 @@ const STEPS_SIZE: usize = size_of::<Steps>();
 
 #[test]
 fn steps_take_no_bytes(rt: HostRuntime) -> std::result::Result<(), Fail> {
-    assert_eq!(rt; STEPS_SIZE, 0);
+    is(&rt, "STEPS_SIZE", &STEPS_SIZE, &0);
     let mut steps = Steps::default();
     steps.tick();
     let _copy = steps.clone()?;

@@ -1,5 +1,6 @@
 //! The numbers of further streams.
 
+use super::is;
 use crate::tests::sample::{changed, dbi, stream};
 use crate::*;
 use pdb_base::{Error, ParseBuffer, Part, Result, StreamIndex};
@@ -38,9 +39,14 @@ const SAMPLE: [u16; 11] = [
 #[test]
 fn the_sample_has_section_headers_alone(rt: HostRuntime) -> Result<()> {
     let streams = read(&rt, dbi())?;
-    assert_eq!(rt; streams.section_headers, StreamIndex(8));
-    assert_eq!(rt; streams.fpo, StreamIndex::none());
-    assert_eq!(rt; numbers(&streams), SAMPLE);
+    is(
+        &rt,
+        "streams.section_headers",
+        &streams.section_headers,
+        &StreamIndex(8),
+    );
+    is(&rt, "streams.fpo", &streams.fpo, &StreamIndex::none());
+    is(&rt, "numbers(&streams)", &numbers(&streams), &SAMPLE);
     Ok(())
 }
 
@@ -48,7 +54,7 @@ fn the_sample_has_section_headers_alone(rt: HostRuntime) -> Result<()> {
 fn numbers_that_are_not_all_there_are_refused(rt: HostRuntime) {
     for k in 64..184 {
         let refused = read(&rt, &dbi()[..k]).err();
-        assert_eq!(rt; refused, Some(Error::UnexpectedEof), "cut to {k}");
+        is(&rt, "cut to", &refused, &Some(Error::UnexpectedEof));
     }
 }
 
@@ -57,7 +63,7 @@ fn each_size_before_the_numbers_counts(rt: HostRuntime) -> Result<()> {
     for at in [24, 28, 32, 36, 40, 48, 52] {
         let bytes = changed(rt.alloc(), at, 0xffff_ffff)?;
         let refused = read(&rt, &bytes).err();
-        assert_eq!(rt; refused, Some(Error::UnexpectedEof), "the size at {at}");
+        is(&rt, "the size at", &refused, &Some(Error::UnexpectedEof));
     }
     Ok(())
 }
@@ -65,7 +71,12 @@ fn each_size_before_the_numbers_counts(rt: HostRuntime) -> Result<()> {
 #[test]
 fn the_index_of_a_type_server_is_no_size(rt: HostRuntime) -> Result<()> {
     let bytes = changed(rt.alloc(), 44, 0xffff_ffff)?;
-    assert_eq!(rt; numbers(&read(&rt, &bytes)?), SAMPLE);
+    is(
+        &rt,
+        "numbers(&read(&rt, &bytes)?)",
+        &numbers(&read(&rt, &bytes)?),
+        &SAMPLE,
+    );
     Ok(())
 }
 
@@ -75,9 +86,9 @@ fn each_size_moves_the_numbers(rt: HostRuntime) -> Result<()> {
         let mut bytes = changed(rt.alloc(), at, size)?;
         bytes.extend_from_slice(b"\x34\x12\x78\x56")?;
         let streams = read(&rt, &bytes)?;
-        assert_eq!(rt; streams.omap_to_src.0, 8, "the size at {at}");
-        assert_eq!(rt; streams.omap_from_src.0, 0x1234, "the size at {at}");
-        assert_eq!(rt; streams.section_headers.0, 0x5678, "the size at {at}");
+        is(&rt, "the size at", &streams.omap_to_src.0, &8);
+        is(&rt, "the size at", &streams.omap_from_src.0, &0x1234);
+        is(&rt, "the size at", &streams.section_headers.0, &0x5678);
     }
     Ok(())
 }
@@ -86,20 +97,30 @@ fn each_size_moves_the_numbers(rt: HostRuntime) -> Result<()> {
 fn missing_numbers_are_those_of_no_stream(rt: HostRuntime) -> Result<()> {
     let bytes = b"\xff\xff\x01\x02\x03\x04\xff\xff\x05\x06";
     let streams = DBIExtraStreams::parse(&mut ParseBuffer::from(bytes.as_slice()))?;
-    assert_eq!(rt; streams.exception, StreamIndex(0x0201));
-    assert_eq!(rt; streams.fixup, StreamIndex(0x0403));
-    assert_eq!(rt; streams.omap_from_src, StreamIndex(0x0605));
+    is(
+        &rt,
+        "streams.exception",
+        &streams.exception,
+        &StreamIndex(0x0201),
+    );
+    is(&rt, "streams.fixup", &streams.fixup, &StreamIndex(0x0403));
+    is(
+        &rt,
+        "streams.omap_from_src",
+        &streams.omap_from_src,
+        &StreamIndex(0x0605),
+    );
     let wanted = [
         NONE, 0x0201, 0x0403, NONE, 0x0605, NONE, NONE, NONE, NONE, NONE, NONE,
     ];
-    assert_eq!(rt; numbers(&streams), wanted);
+    is(&rt, "numbers(&streams)", &numbers(&streams), &wanted);
     Ok(())
 }
 
 #[test]
 fn no_bytes_are_no_streams(rt: HostRuntime) -> Result<()> {
     let streams = DBIExtraStreams::parse(&mut ParseBuffer::default())?;
-    assert_eq!(rt; numbers(&streams), [NONE; 11]);
+    is(&rt, "numbers(&streams)", &numbers(&streams), &[NONE; 11]);
     Ok(())
 }
 
@@ -108,10 +129,11 @@ fn an_odd_number_of_bytes_is_refused(rt: HostRuntime) {
     let bytes = [0u8; 25];
     for size in [1, 3, 21, 23, 25] {
         let mut buffer = ParseBuffer::from(&bytes[..size]);
-        assert_eq!(rt;
-            DBIExtraStreams::parse(&mut buffer).err(),
-            Some(Error::InvalidStreamLength(Part::DebugHeader)),
-            "{size} bytes"
+        is(
+            &rt,
+            "bytes",
+            &DBIExtraStreams::parse(&mut buffer).err(),
+            &Some(Error::InvalidStreamLength(Part::DebugHeader)),
         );
     }
 }
@@ -122,8 +144,13 @@ fn a_twelfth_number_is_passed_over(rt: HostRuntime) -> Result<()> {
         b"\x01\x00\x02\x00\x03\x00\x04\x00\x05\x00\x06\x00\x07\x00\x08\x00\x09\x00\x0a\x00\x0b\x00\x0c\x00";
     let mut buffer = ParseBuffer::from(bytes.as_slice());
     let streams = DBIExtraStreams::parse(&mut buffer)?;
-    assert_eq!(rt; numbers(&streams), [1, 2, 3, 4, 5, 6, 7, 8, 9, 10, 11]);
-    assert_eq!(rt; buffer.len(), 0);
+    is(
+        &rt,
+        "numbers(&streams)",
+        &numbers(&streams),
+        &[1, 2, 3, 4, 5, 6, 7, 8, 9, 10, 11],
+    );
+    is(&rt, "buffer.len()", &buffer.len(), &0);
     Ok(())
 }
 
@@ -132,9 +159,14 @@ fn parse_reads_from_the_buffers_place(rt: HostRuntime) -> Result<()> {
     let mut buffer = ParseBuffer::from(b"\x01\x02\x03\x04\x05".as_slice());
     buffer.seek(1);
     let streams = DBIExtraStreams::parse(&mut buffer)?;
-    assert_eq!(rt; streams.fpo, StreamIndex(0x0302));
-    assert_eq!(rt; streams.exception, StreamIndex(0x0504));
-    assert_eq!(rt; streams.fixup, StreamIndex::none());
-    assert_eq!(rt; buffer.pos(), 5);
+    is(&rt, "streams.fpo", &streams.fpo, &StreamIndex(0x0302));
+    is(
+        &rt,
+        "streams.exception",
+        &streams.exception,
+        &StreamIndex(0x0504),
+    );
+    is(&rt, "streams.fixup", &streams.fixup, &StreamIndex::none());
+    is(&rt, "buffer.pos()", &buffer.pos(), &5);
     Ok(())
 }

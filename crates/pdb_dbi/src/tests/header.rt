@@ -1,5 +1,6 @@
 //! The header, with a different value in each field, and machines.
 
+use super::is;
 use crate::tests::sample::stream;
 use crate::*;
 use pdb_base::{Error, Feature, Result, StreamIndex};
@@ -11,49 +12,127 @@ const HEADER: &[u8; 64] =
 #[test]
 fn the_header_has_its_fields_by_their_places(rt: HostRuntime) -> Result<()> {
     let header = DBIHeader::parse(stream(&rt, HEADER))?;
-    assert_eq!(rt; header.signature, 0xffff_ffff);
+    is(&rt, "header.signature", &header.signature, &0xffff_ffff);
     assert!(rt; matches!(header.version, HeaderVersion::V70));
-    assert_eq!(rt; header.age, 2);
-    assert_eq!(rt; header.gs_symbols_stream, StreamIndex(1));
-    assert_eq!(rt; header.internal_version, 2);
-    assert_eq!(rt; header.ps_symbols_stream, StreamIndex(3));
-    assert_eq!(rt; header.pdb_dll_build_version, 4);
-    assert_eq!(rt; header.symbol_records_stream, StreamIndex(5));
-    assert_eq!(rt; header.pdb_dll_rbld_version, 6);
-    assert_eq!(rt; header.module_list_size, 0x4c);
-    assert_eq!(rt; header.section_contribution_size, 0x20);
-    assert_eq!(rt; header.section_map_size, 7);
-    assert_eq!(rt; header.file_info_size, 8);
-    assert_eq!(rt; header.type_server_map_size, 9);
-    assert_eq!(rt; header.mfc_type_server_index, 10);
-    assert_eq!(rt; header.debug_header_size, 12);
-    assert_eq!(rt; header.ec_substream_size, 11);
-    assert_eq!(rt; header.flags, 13);
-    assert_eq!(rt; header.machine_type, 0x8664);
-    assert_eq!(rt; header.reserved, 14);
+    is(&rt, "header.age", &header.age, &2);
+    is(
+        &rt,
+        "header.gs_symbols_stream",
+        &header.gs_symbols_stream,
+        &StreamIndex(1),
+    );
+    is(&rt, "header.internal_version", &header.internal_version, &2);
+    is(
+        &rt,
+        "header.ps_symbols_stream",
+        &header.ps_symbols_stream,
+        &StreamIndex(3),
+    );
+    is(
+        &rt,
+        "header.pdb_dll_build_version",
+        &header.pdb_dll_build_version,
+        &4,
+    );
+    is(
+        &rt,
+        "header.symbol_records_stream",
+        &header.symbol_records_stream,
+        &StreamIndex(5),
+    );
+    is(
+        &rt,
+        "header.pdb_dll_rbld_version",
+        &header.pdb_dll_rbld_version,
+        &6,
+    );
+    is(
+        &rt,
+        "header.module_list_size",
+        &header.module_list_size,
+        &0x4c,
+    );
+    is(
+        &rt,
+        "header.section_contribution_size",
+        &header.section_contribution_size,
+        &0x20,
+    );
+    is(&rt, "header.section_map_size", &header.section_map_size, &7);
+    is(&rt, "header.file_info_size", &header.file_info_size, &8);
+    is(
+        &rt,
+        "header.type_server_map_size",
+        &header.type_server_map_size,
+        &9,
+    );
+    is(
+        &rt,
+        "header.mfc_type_server_index",
+        &header.mfc_type_server_index,
+        &10,
+    );
+    is(
+        &rt,
+        "header.debug_header_size",
+        &header.debug_header_size,
+        &12,
+    );
+    is(
+        &rt,
+        "header.ec_substream_size",
+        &header.ec_substream_size,
+        &11,
+    );
+    is(&rt, "header.flags", &header.flags, &13);
+    is(&rt, "header.machine_type", &header.machine_type, &0x8664);
+    is(&rt, "header.reserved", &header.reserved, &14);
     let information = DebugInformation::parse(stream(&rt, HEADER))?;
-    assert_eq!(rt; information.header().age, 2);
-    assert_eq!(rt; information.age(), Some(2));
-    assert_eq!(rt; information.machine_type()?, MachineType::Amd64);
+    is(
+        &rt,
+        "information.header().age",
+        &(information.header().age),
+        &2,
+    );
+    is(&rt, "information.age()", &information.age(), &Some(2));
+    is(
+        &rt,
+        "information.machine_type()?",
+        &information.machine_type()?,
+        &MachineType::Amd64,
+    );
     Ok(())
 }
 
 #[test]
 fn a_short_or_ancient_header_is_refused(rt: HostRuntime) {
     for k in 0..64 {
-        assert_eq!(rt;
-            DBIHeader::parse(stream(&rt, &HEADER[..k])).err(),
-            Some(Error::UnexpectedEof),
-            "cut to {k}"
+        is(
+            &rt,
+            "cut to",
+            &DBIHeader::parse(stream(&rt, &HEADER[..k])).err(),
+            &Some(Error::UnexpectedEof),
         );
     }
     let ancient = Some(Error::UnimplementedFeature(Feature::AncientDbiHeader));
     let zeros = [0u8; 64];
-    assert_eq!(rt; DBIHeader::parse(stream(&rt, &zeros)).err(), ancient);
-    assert_eq!(rt; DebugInformation::parse(stream(&rt, &zeros)).err(), ancient);
-    assert_eq!(rt;
-        DebugInformation::parse(stream(&rt, &zeros[..63])).err(),
-        Some(Error::UnexpectedEof)
+    is(
+        &rt,
+        "DBIHeader::parse(stream(&rt, &zeros)).err()",
+        &DBIHeader::parse(stream(&rt, &zeros)).err(),
+        &ancient,
+    );
+    is(
+        &rt,
+        "DebugInformation::parse(stream(&rt, &zeros))",
+        &DebugInformation::parse(stream(&rt, &zeros)).err(),
+        &ancient,
+    );
+    is(
+        &rt,
+        "DebugInformation::parse(stream(&rt, &zeros[.",
+        &DebugInformation::parse(stream(&rt, &zeros[..63])).err(),
+        &Some(Error::UnexpectedEof),
     );
 }
 
@@ -64,8 +143,13 @@ fn age_0_and_an_unlisted_machine_say_nothing(rt: HostRuntime) -> Result<()> {
     bytes[58] = 0x34;
     bytes[59] = 0x12;
     let information = DebugInformation::parse(stream(&rt, &bytes))?;
-    assert_eq!(rt; information.age(), None);
-    assert_eq!(rt; information.machine_type()?, MachineType::Unknown);
+    is(&rt, "information.age()", &information.age(), &None);
+    is(
+        &rt,
+        "information.machine_type()?",
+        &information.machine_type()?,
+        &MachineType::Unknown,
+    );
     Ok(())
 }
 
@@ -120,19 +204,29 @@ fn number_of(machine: MachineType) -> u16 {
 #[test]
 fn machines_have_numbers(rt: HostRuntime) {
     for (number, machine) in MACHINES {
-        assert!(rt; MachineType::from(number) == machine, "{number:x}");
-        assert!(rt; number_of(machine) == number, "{number:x}");
+        is(
+            &rt,
+            "MachineType::from(number)",
+            &MachineType::from(number),
+            &machine,
+        );
+        is(&rt, "number_of(machine)", &number_of(machine), &number);
     }
-    assert_eq!(rt; MachineType::from(0x1234), MachineType::Unknown);
+    is(
+        &rt,
+        "MachineType::from(0x1234)",
+        &MachineType::from(0x1234),
+        &MachineType::Unknown,
+    );
 }
 
 #[test]
 fn machines_show_their_names(rt: HostRuntime) -> std::result::Result<(), Fail> {
     let shown = MachineType::Amd64.to_string(rt.alloc())?;
-    assert_eq!(rt; shown.as_str(), "Amd64");
+    is(&rt, "shown.as_str()", &shown.as_str(), &("Amd64"));
     let shown = MachineType::WceMipsV2.to_string(rt.alloc())?;
-    assert_eq!(rt; shown.as_str(), "WceMipsV2");
+    is(&rt, "shown.as_str()", &shown.as_str(), &("WceMipsV2"));
     let shown = MachineType::Unknown.to_string(rt.alloc())?;
-    assert_eq!(rt; shown.as_str(), "Unknown");
+    is(&rt, "shown.as_str()", &shown.as_str(), &("Unknown"));
     Ok(())
 }

@@ -1,5 +1,6 @@
 //! The information stream, and the names of streams.
 
+use super::is;
 use crate::tests::sample::{information, joined, stream};
 use crate::*;
 use pdb_base::{Error, Result, StreamIndex};
@@ -28,8 +29,13 @@ fn assert_names(rt: &impl Abort, names: &StreamNames<'_>, wanted: &[(&[u8], u16)
     let mut rest = wanted.iter();
     for name in names {
         let (text, stream_id) = rest.next().expect(rt, "no further name");
-        assert_eq!(rt; name.name.as_bytes(), *text);
-        assert_eq!(rt; name.stream_id, StreamIndex(*stream_id));
+        is(rt, "name.name.as_bytes()", &name.name.as_bytes(), &(*text));
+        is(
+            rt,
+            "name.stream_id",
+            &name.stream_id,
+            &StreamIndex(*stream_id),
+        );
     }
     assert!(rt; rest.next().is_none());
 }
@@ -51,19 +57,19 @@ fn assert_listed(
 /// Asserts that the names of an information stream are refused.
 fn assert_refused(rt: &impl Abort, alloc: Global, read: &PDBInformation<'_>) {
     let refused = read.stream_names(alloc).err();
-    assert_eq!(rt; refused, Some(Error::UnexpectedEof));
+    is(rt, "refused", &refused, &Some(Error::UnexpectedEof));
 }
 
 #[test]
 fn the_sample_says_which_file_it_is(rt: HostRuntime) -> Result<()> {
     let read = PDBInformation::parse(stream(&rt, information()))?;
     assert!(rt; matches!(read.version, HeaderVersion::OtherValue(20000404)));
-    assert_eq!(rt; read.signature, 1);
-    assert_eq!(rt; read.age, 2);
+    is(&rt, "read.signature", &read.signature, &1);
+    is(&rt, "read.age", &read.age, &2);
     let guid = b"\x00\x11\x22\x33\x44\x55\x66\x77\x88\x99\xaa\xbb\xcc\xdd\xee\xff";
-    assert_eq!(rt; read.guid, *guid);
-    assert_eq!(rt; read.names_offset, 32);
-    assert_eq!(rt; read.names_size, 7);
+    is(&rt, "read.guid", &read.guid, &(*guid));
+    is(&rt, "read.names_offset", &read.names_offset, &32);
+    is(&rt, "read.names_size", &read.names_size, &7);
     Ok(())
 }
 
@@ -74,8 +80,13 @@ fn the_sample_names_one_stream(rt: HostRuntime) -> Result<()> {
     assert_names(&rt, &names, &[(b"/names", 7)]);
     let mut all = names.iter();
     let name = all.next().expect(&rt, "a name");
-    assert_eq!(rt; name.name.as_bytes(), b"/names".as_slice());
-    assert_eq!(rt; name.stream_id, StreamIndex(7));
+    is(
+        &rt,
+        "name.name.as_bytes()",
+        &name.name.as_bytes(),
+        &b"/names".as_slice(),
+    );
+    is(&rt, "name.stream_id", &name.stream_id, &StreamIndex(7));
     assert!(rt; all.next().is_none());
     Ok(())
 }
@@ -84,7 +95,7 @@ fn the_sample_names_one_stream(rt: HostRuntime) -> Result<()> {
 fn a_stream_below_32_bytes_is_refused(rt: HostRuntime) {
     for k in 0..32 {
         let parsed = PDBInformation::parse(stream(&rt, &information()[..k]));
-        assert_eq!(rt; parsed.err(), Some(Error::UnexpectedEof), "cut to {k}");
+        is(&rt, "cut to", &parsed.err(), &Some(Error::UnexpectedEof));
     }
 }
 

@@ -1,5 +1,6 @@
 //! The lists of modules and of section contributions.
 
+use super::is;
 use crate::tests::sample::{changed, dbi, debug_information, joined, stream};
 use crate::*;
 use pdb_base::{
@@ -59,15 +60,35 @@ fn assert_fault_after<I: FallibleIterator>(rt: &impl Abort, items: usize, it: &m
 
 /// Asserts that a module has the sample's numbers, and these names.
 fn assert_module(rt: &impl Abort, module: &Module<'_>, name: &[u8], object: &[u8]) {
-    assert_eq!(rt; module.stream(), StreamIndex(6));
-    assert_eq!(rt; module.sizes(), (84, 0, 176));
-    assert_eq!(rt; module.raw_module_name().as_bytes(), name);
-    assert_eq!(rt; module.raw_object_file_name().as_bytes(), object);
+    is(rt, "module.stream()", &module.stream(), &StreamIndex(6));
+    is(rt, "module.sizes()", &module.sizes(), &(84, 0, 176));
+    is(
+        rt,
+        "module.raw_module_name().as_bytes()",
+        &module.raw_module_name().as_bytes(),
+        &name,
+    );
+    is(
+        rt,
+        "module.raw_object_file_name().as_bytes()",
+        &module.raw_object_file_name().as_bytes(),
+        &object,
+    );
 }
 
 fn assert_text(rt: &impl Abort, text: &CowStr<'_>, wanted: &[u8], is_owned: bool) {
-    assert_eq!(rt; text.as_str().as_bytes(), wanted);
-    assert_eq!(rt; matches!(text, CowStr::Owned(_)), is_owned);
+    is(
+        rt,
+        "text.as_str().as_bytes()",
+        &text.as_str().as_bytes(),
+        &wanted,
+    );
+    is(
+        rt,
+        "matches!(text, CowStr::Owned(_))",
+        &matches!(text, CowStr::Owned(_)),
+        &is_owned,
+    );
 }
 
 #[test]
@@ -101,9 +122,24 @@ fn a_modules_fields_have_their_places(rt: HostRuntime) -> Result<()> {
     let bytes = with_modules(rt.alloc(), &[RECORD])?;
     let information = DebugInformation::parse(stream(&rt, &bytes))?;
     let module = information.modules()?.next()?.expect(&rt, "a module");
-    assert_eq!(rt; module.stream(), StreamIndex(0x2322));
-    assert_eq!(rt; module.sizes(), (0x2726_2524, 0x2b2a_2928, 0x2f2e_2d2c));
-    assert_eq!(rt; module.raw_module_name().as_bytes(), b"".as_slice());
+    is(
+        &rt,
+        "module.stream()",
+        &module.stream(),
+        &StreamIndex(0x2322),
+    );
+    is(
+        &rt,
+        "module.sizes()",
+        &module.sizes(),
+        &(0x2726_2524, 0x2b2a_2928, 0x2f2e_2d2c),
+    );
+    is(
+        &rt,
+        "module.raw_module_name().as_bytes()",
+        &module.raw_module_name().as_bytes(),
+        &b"".as_slice(),
+    );
     Ok(())
 }
 
@@ -112,8 +148,13 @@ fn a_module_may_have_no_stream(rt: HostRuntime) -> Result<()> {
     let bytes = changed(rt.alloc(), 98, 0x0054_ffff)?;
     let information = DebugInformation::parse(stream(&rt, &bytes))?;
     let module = information.modules()?.next()?.expect(&rt, "a module");
-    assert_eq!(rt; module.stream(), StreamIndex::none());
-    assert_eq!(rt; module.sizes(), (84, 0, 176));
+    is(
+        &rt,
+        "module.stream()",
+        &module.stream(),
+        &StreamIndex::none(),
+    );
+    is(&rt, "module.sizes()", &module.sizes(), &(84, 0, 176));
     Ok(())
 }
 
@@ -153,19 +194,29 @@ fn a_module_stands_behind_the_padding_of_another(rt: HostRuntime) -> Result<()> 
 #[test]
 fn modules_are_collected_and_counted(rt: HostRuntime) -> Result<()> {
     let bytes = two_modules(rt.alloc())?;
-    assert_eq!(rt; count_modules(&rt, &bytes), Ok(2));
+    is(
+        &rt,
+        "count_modules(&rt, &bytes)",
+        &count_modules(&rt, &bytes),
+        &Ok(2),
+    );
     let information = DebugInformation::parse(stream(&rt, &bytes))?;
     let modules = information.modules()?.collect(rt.alloc())?;
-    assert_eq!(rt; modules.len(), 2);
+    is(&rt, "modules.len()", &modules.len(), &2);
     for module in &modules {
-        assert_eq!(rt; module.sizes(), (84, 0, 176));
+        is(&rt, "module.sizes()", &module.sizes(), &(84, 0, 176));
     }
     Ok(())
 }
 
 /// Asserts that a DBI stream gives so many modules, then `UnexpectedEof`, and then nothing.
 fn assert_modules_fault(rt: &impl Abort, items: usize, bytes: &[u8]) -> Result<()> {
-    assert_eq!(rt; count_modules(rt, bytes), Err(Error::UnexpectedEof));
+    is(
+        rt,
+        "count_modules(rt, bytes)",
+        &count_modules(rt, bytes),
+        &Err(Error::UnexpectedEof),
+    );
     let information = DebugInformation::parse(stream(rt, bytes))?;
     assert_fault_after(rt, items, &mut information.modules()?);
     Ok(())
@@ -208,7 +259,7 @@ fn modules_that_are_not_all_there_are_refused(rt: HostRuntime) {
         } else {
             Ok(1)
         };
-        assert_eq!(rt; count_modules(&rt, &dbi()[..k]), wanted, "cut to {k}");
+        is(&rt, "cut to", &count_modules(&rt, &dbi()[..k]), &wanted);
     }
 }
 
@@ -220,7 +271,12 @@ fn contributions_that_are_not_all_there_are_refused(rt: HostRuntime) {
         } else {
             Ok(1)
         };
-        assert_eq!(rt; count_contributions(&rt, &dbi()[..k]), wanted, "cut to {k}");
+        is(
+            &rt,
+            "cut to",
+            &count_contributions(&rt, &dbi()[..k]),
+            &wanted,
+        );
     }
 }
 
@@ -233,7 +289,7 @@ fn only_the_size_of_the_modules_moves_their_end(rt: HostRuntime) -> Result<()> {
             Ok(1)
         };
         let bytes = changed(rt.alloc(), at, 0xffff_ffff)?;
-        assert_eq!(rt; count_modules(&rt, &bytes), wanted, "the number at {at}");
+        is(&rt, "the number at", &count_modules(&rt, &bytes), &wanted);
     }
     Ok(())
 }
@@ -247,10 +303,11 @@ fn only_two_sizes_move_the_end_of_contributions(rt: HostRuntime) -> Result<()> {
             Ok(1)
         };
         let bytes = changed(rt.alloc(), at, 0xffff_ffff)?;
-        assert_eq!(rt;
-            count_contributions(&rt, &bytes),
-            wanted,
-            "the number at {at}"
+        is(
+            &rt,
+            "the number at",
+            &count_contributions(&rt, &bytes),
+            &wanted,
         );
     }
     Ok(())
@@ -261,12 +318,22 @@ fn the_sample_has_one_section_contribution(rt: HostRuntime) -> Result<()> {
     let information = DebugInformation::parse(stream(&rt, dbi()))?;
     let mut contributions = information.section_contributions()?;
     let first = contributions.next()?.expect(&rt, "a contribution");
-    assert_eq!(rt; first.offset, PdbInternalSectionOffset::new(1, 0x100));
-    assert_eq!(rt; first.size, 48);
-    assert_eq!(rt; first.characteristics, SectionCharacteristics(0x6050_0020));
-    assert_eq!(rt; first.module, 0);
-    assert_eq!(rt; first.data_crc, 0);
-    assert_eq!(rt; first.reloc_crc, 0);
+    is(
+        &rt,
+        "first.offset",
+        &first.offset,
+        &PdbInternalSectionOffset::new(1, 0x100),
+    );
+    is(&rt, "first.size", &first.size, &48);
+    is(
+        &rt,
+        "first.characteristics",
+        &first.characteristics,
+        &SectionCharacteristics(0x6050_0020),
+    );
+    is(&rt, "first.module", &first.module, &0);
+    is(&rt, "first.data_crc", &first.data_crc, &0);
+    is(&rt, "first.reloc_crc", &first.reloc_crc, &0);
     assert_ended(&rt, &mut contributions);
     Ok(())
 }
@@ -284,15 +351,27 @@ const MORE: &[u8; 4] = b"\xaa\xbb\xcc\xdd";
 
 fn assert_contribution(rt: &impl Abort, contribution: &DBISectionContribution) {
     let offset = PdbInternalSectionOffset::new(0x0100, 0x0706_0504);
-    assert_eq!(rt; contribution.offset, offset);
-    assert_eq!(rt; contribution.size, 0x0b0a_0908);
-    assert_eq!(rt;
-        contribution.characteristics,
-        SectionCharacteristics(0x0f0e_0d0c)
+    is(rt, "contribution.offset", &contribution.offset, &offset);
+    is(rt, "contribution.size", &contribution.size, &0x0b0a_0908);
+    is(
+        rt,
+        "contribution.characteristics",
+        &contribution.characteristics,
+        &SectionCharacteristics(0x0f0e_0d0c),
     );
-    assert_eq!(rt; contribution.module, 0x1110);
-    assert_eq!(rt; contribution.data_crc, 0x1716_1514);
-    assert_eq!(rt; contribution.reloc_crc, 0x1b1a_1918);
+    is(rt, "contribution.module", &contribution.module, &0x1110);
+    is(
+        rt,
+        "contribution.data_crc",
+        &contribution.data_crc,
+        &0x1716_1514,
+    );
+    is(
+        rt,
+        "contribution.reloc_crc",
+        &contribution.reloc_crc,
+        &0x1b1a_1918,
+    );
 }
 
 #[test]
@@ -321,10 +400,15 @@ fn a_contribution_has_28_bytes_in_the_first_version(rt: HostRuntime) -> Result<(
 fn contributions_are_collected_and_counted(rt: HostRuntime) -> Result<()> {
     let pieces: [&[u8]; 5] = [VERSION_2, CONTRIBUTION, MORE, CONTRIBUTION, MORE];
     let bytes = with_contributions(rt.alloc(), &pieces)?;
-    assert_eq!(rt; count_contributions(&rt, &bytes), Ok(2));
+    is(
+        &rt,
+        "count_contributions(&rt, &bytes)",
+        &count_contributions(&rt, &bytes),
+        &Ok(2),
+    );
     let information = DebugInformation::parse(stream(&rt, &bytes))?;
     let all = information.section_contributions()?.collect(rt.alloc())?;
-    assert_eq!(rt; all.len(), 2);
+    is(&rt, "all.len()", &all.len(), &2);
     for contribution in &all {
         assert_contribution(&rt, contribution);
     }
@@ -340,14 +424,19 @@ fn a_part_of_contributions_has_a_version(rt: HostRuntime) -> Result<()> {
             Ok(0)
         };
         let bytes = with_contributions(rt.alloc(), &[&VERSION_1[..size]])?;
-        assert_eq!(rt; count_contributions(&rt, &bytes), wanted, "{size} bytes");
+        is(&rt, "bytes", &count_contributions(&rt, &bytes), &wanted);
     }
     Ok(())
 }
 
 /// Asserts that a DBI stream gives so many contributions, then `UnexpectedEof`, and then nothing.
 fn assert_contributions_fault(rt: &impl Abort, items: usize, bytes: &[u8]) -> Result<()> {
-    assert_eq!(rt; count_contributions(rt, bytes), Err(Error::UnexpectedEof));
+    is(
+        rt,
+        "count_contributions(rt, bytes)",
+        &count_contributions(rt, bytes),
+        &Err(Error::UnexpectedEof),
+    );
     let information = DebugInformation::parse(stream(rt, bytes))?;
     assert_fault_after(rt, items, &mut information.section_contributions()?);
     Ok(())

@@ -1,7 +1,8 @@
 //! The information, the names, the modules and the contributions.
 
-use super::{TEXT, ran};
+use super::{TEXT, lists};
 use crate::command::Command;
+use crate::fakes::is;
 use crate::{sample, streams};
 use pdb::{Error, MemorySource, PDB};
 use std::alloc::Global;
@@ -85,7 +86,7 @@ fn the_sample_tells_its_information_names_modules_and_contributions(
             CONTRIBUTIONS_TEXT,
         ],
     )?;
-    assert!(rt; ran(rt.alloc(), &file, &commands, &text).is_none());
+    lists(&rt, rt.alloc(), &file, &commands, &text);
     Ok(())
 }
 
@@ -101,19 +102,20 @@ fn long_sample(alloc: Global) -> Result<Vec<u8>, Fail> {
 #[test]
 fn a_bad_page_refuses_the_whole_stream_alone(rt: HostRuntime) -> Result<(), Fail> {
     let file = long_sample(rt.alloc())?;
-    assert!(rt; file.get(7216) == Some(&5) && file.get(7220) == Some(&6));
+    is(&rt, "second page", &file.get(7216), &Some(&5));
+    is(&rt, "third page", &file.get(7220), &Some(&6));
     let bad = changed(rt.alloc(), &file, 7220, b"\x10")?;
     let text = joined(rt.alloc(), &[TEXT, b"error 5\n", TEXT])?;
     let commands = [Command::Globals, Command::Modules, Command::Globals];
-    assert!(rt; ran(rt.alloc(), &bad, &commands, &text).is_none());
+    lists(&rt, rt.alloc(), &bad, &commands, &text);
     let text = joined(rt.alloc(), &[b"error 5\n", TEXT])?;
     let commands = [Command::Modules, Command::Globals];
-    assert!(rt; ran(rt.alloc(), &bad, &commands, &text).is_none());
+    lists(&rt, rt.alloc(), &bad, &commands, &text);
     let text = joined(rt.alloc(), &[INFORMATION_TEXT, b"error 5\nerror 5\n"])?;
     let commands = [Command::Info, Command::Contributions];
-    assert!(rt; ran(rt.alloc(), &bad, &commands, &text).is_none());
+    lists(&rt, rt.alloc(), &bad, &commands, &text);
     let swapped = changed(rt.alloc(), &file, 7216, b"\x06\0\0\0\x05")?;
-    assert!(rt; ran(rt.alloc(), &swapped, &[Command::Modules], MODULES_TEXT).is_none());
+    lists(&rt, rt.alloc(), &swapped, &[Command::Modules], MODULES_TEXT);
     Ok(())
 }
 
@@ -123,7 +125,7 @@ fn versions_ages_and_machines_are_shown(rt: HostRuntime) -> Result<(), Fail> {
     let dbi = changed(rt.alloc(), &dbi, 58, b"\x34\x12")?;
     let file = with_dbi(rt.alloc(), &dbi)?;
     let text = joined(rt.alloc(), &[INFORMATION_TEXT, b"dbi - Unknown\n"])?;
-    assert!(rt; ran(rt.alloc(), &file, &[Command::Info], &text).is_none());
+    lists(&rt, rt.alloc(), &file, &[Command::Info], &text);
     let versions: [(u32, &[u8]); 6] = [
         (930803, b"info V41"),
         (19960307, b"info V50"),
@@ -137,10 +139,7 @@ fn versions_ages_and_machines_are_shown(rt: HostRuntime) -> Result<(), Fail> {
         let file = with_information(rt.alloc(), &information)?;
         let rest: &[u8] = b" 1 2 00112233445566778899aabbccddeeff\n";
         let text = joined(rt.alloc(), &[begins, rest, HEADER_TEXT])?;
-        assert!(rt;
-            ran(rt.alloc(), &file, &[Command::Info], &text).is_none(),
-            "version {number}"
-        );
+        lists(&rt, rt.alloc(), &file, &[Command::Info], &text);
     }
     Ok(())
 }
@@ -150,11 +149,11 @@ fn streams_and_names_are_shown_as_they_are(rt: HostRuntime) -> Result<(), Fail> 
     let dbi = changed(rt.alloc(), &streams::DBI, 98, b"\xff\xff")?;
     let file = with_dbi(rt.alloc(), &dbi)?;
     let text = b"module 0 - 84 0 176 a.obj\nobject a.obj\n";
-    assert!(rt; ran(rt.alloc(), &file, &[Command::Modules], text).is_none());
+    lists(&rt, rt.alloc(), &file, &[Command::Modules], text);
     let dbi = changed(rt.alloc(), &streams::DBI, 128, b"\xff\x0a\0\0ab\0")?;
     let file = with_dbi(rt.alloc(), &dbi)?;
     let text = b"module 0 6 84 0 176 \xff\x0a\nobject \nerror 1\n";
-    assert!(rt; ran(rt.alloc(), &file, &[Command::Modules], text).is_none());
+    lists(&rt, rt.alloc(), &file, &[Command::Modules], text);
     Ok(())
 }
 
@@ -166,15 +165,30 @@ const TWICE: &[u8; 75] =
 fn the_first_name_is_taken(rt: HostRuntime) -> Result<(), Fail> {
     let file = with_information(rt.alloc(), TWICE)?;
     let text = b"name - /names\nname 7 /names\n";
-    assert!(rt; ran(rt.alloc(), &file, &[Command::Names], text).is_none());
+    lists(&rt, rt.alloc(), &file, &[Command::Names], text);
     let mut pdb = PDB::open(rt.alloc(), MemorySource::new(&file))?;
     let refused = pdb.named_stream(b"/names").err();
-    assert!(rt; refused == Some(Error::StreamNameNotFound));
+    is(&rt, "refused", &refused, &Some(Error::StreamNameNotFound));
     let file = sample::file(rt.alloc())?;
     let mut pdb = PDB::open(rt.alloc(), MemorySource::new(&file))?;
-    assert!(rt; pdb.named_stream(b"/names")?.as_slice() == streams::STRINGS.as_slice());
-    assert!(rt; pdb.named_stream(b"/name").err() == Some(Error::StreamNameNotFound));
-    assert!(rt; pdb.named_stream(b"").err() == Some(Error::StreamNameNotFound));
+    is(
+        &rt,
+        "pdb.named_stream(..)?.as_slice()",
+        &pdb.named_stream(b"/names")?.as_slice(),
+        &streams::STRINGS.as_slice(),
+    );
+    is(
+        &rt,
+        "pdb.named_stream(..).err()",
+        &pdb.named_stream(b"/name").err(),
+        &Some(Error::StreamNameNotFound),
+    );
+    is(
+        &rt,
+        "pdb.named_stream(..).err()",
+        &pdb.named_stream(b"").err(),
+        &Some(Error::StreamNameNotFound),
+    );
     Ok(())
 }
 
@@ -198,14 +212,11 @@ fn a_part_past_the_end_is_refused(rt: HostRuntime) -> Result<(), Fail> {
         };
         let text = joined(rt.alloc(), &[first, second])?;
         let commands = [Command::Modules, Command::Contributions];
-        assert!(rt;
-            ran(rt.alloc(), &file, &commands, &text).is_none(),
-            "at {at}"
-        );
+        lists(&rt, rt.alloc(), &file, &commands, &text);
     }
     let information = changed(rt.alloc(), &streams::INFORMATION, 28, b"\xff\xff\xff\xff")?;
     let file = with_information(rt.alloc(), &information)?;
-    assert!(rt; ran(rt.alloc(), &file, &[Command::Names], b"error 1\n").is_none());
+    lists(&rt, rt.alloc(), &file, &[Command::Names], b"error 1\n");
     Ok(())
 }
 
@@ -220,10 +231,7 @@ fn an_information_stream_cut_at_each_place(rt: HostRuntime) -> Result<(), Fail> 
             _ => joined(rt.alloc(), &[INFORMATION_TEXT, HEADER_TEXT, NAMES_TEXT])?,
         };
         let commands = [Command::Info, Command::Names];
-        assert!(rt;
-            ran(rt.alloc(), &file, &commands, &text).is_none(),
-            "cut to {k}"
-        );
+        lists(&rt, rt.alloc(), &file, &commands, &text);
     }
     Ok(())
 }
@@ -239,10 +247,7 @@ fn a_dbi_stream_cut_at_each_place(rt: HostRuntime) -> Result<(), Fail> {
         let texts = [INFORMATION_TEXT, header, modules, contributions];
         let text = joined(rt.alloc(), &texts)?;
         let commands = [Command::Info, Command::Modules, Command::Contributions];
-        assert!(rt;
-            ran(rt.alloc(), &file, &commands, &text).is_none(),
-            "cut to {k}"
-        );
+        lists(&rt, rt.alloc(), &file, &commands, &text);
     }
     Ok(())
 }
@@ -252,20 +257,24 @@ fn contributions_are_told_up_to_the_fault(rt: HostRuntime) -> Result<(), Fail> {
     let longer = changed(rt.alloc(), &streams::DBI, 28, b"\x24\0\0\0")?;
     let file = with_dbi(rt.alloc(), &longer)?;
     let text = joined(rt.alloc(), &[CONTRIBUTIONS_TEXT, b"error 1\n"])?;
-    assert!(rt; ran(rt.alloc(), &file, &[Command::Contributions], &text).is_none());
+    lists(&rt, rt.alloc(), &file, &[Command::Contributions], &text);
     let second_version = changed(rt.alloc(), &longer, 140, b"\xe4\x51\x31\xf1")?;
     let file = with_dbi(rt.alloc(), &second_version)?;
-    assert!(rt;
-        ran(
-            rt.alloc(),
-            &file,
-            &[Command::Contributions],
-            CONTRIBUTIONS_TEXT
-        )
-        .is_none()
+    lists(
+        &rt,
+        rt.alloc(),
+        &file,
+        &[Command::Contributions],
+        CONTRIBUTIONS_TEXT,
     );
     let none = changed(rt.alloc(), &streams::DBI, 28, b"\0")?;
     let file = with_dbi(rt.alloc(), &none)?;
-    assert!(rt; ran(rt.alloc(), &file, &[Command::Contributions], b"error 1\n").is_none());
+    lists(
+        &rt,
+        rt.alloc(),
+        &file,
+        &[Command::Contributions],
+        b"error 1\n",
+    );
     Ok(())
 }
