@@ -57,4 +57,4 @@ gives_then view io io' r read x next e f h = rw e (gives_weaken view io io' r (n
 -- a read at a place answers what stands there
 pub answers_reads : {X Y : Type 0} (view : X → Y) (old new : Cursor) (r : Result X Error) (there read : Result Y Error) (width : Y → ℕ) → there ≡ read → Reads view old new r there width → Answers view r read
 answers_reads view old new (Ok x) there read width e h = rw (← e) h.0
-answers_reads view old new (Err d) there read width e h = (rw (← e) h.0, h.2)
+answers_reads view old new (Err d) there read width e h = (rw (← e) h.0, h.2, h.3)

@@ -50,10 +50,10 @@ abbrev pub ◌>>=◌ : {A B : Type 0} → Result A Error → (A → Result B Err
 (Ok x) >>= f = f x
 (Err e) >>= f = Err e
 
--- A call that takes no memory answers what is read, seen by view, or its refusal.
+-- A call that takes no memory and asks for no view answers what is read, seen by view, or its refusal.
 abbrev pub Answers : {X Y : Type 0} → (X → Y) → Result X Error → Result Y Error → Type 0
 Answers view (Ok x) read = read ≡ Ok (view x)
-Answers view (Err e) read = (read ≡ Err e) × (e ≢ OutOfMemory)
+Answers view (Err e) read = (read ≡ Err e) × (e ≢ OutOfMemory) × (e ≢ IoError)
 
 -- What an error says where reading gives read: want of memory at any time, that the source
 -- failed only where io holds, and else what reading is refused for.

@@ -18,7 +18,7 @@ returns-in_err-parse_cstring c =
     let p = err_from_is_err_and c.from_residual.result c.from_residual.ensures.1 in
     let same = same_place c.args.part.now c.from-buffer.result c.seek.new.self c.u32_at.result c.from-buffer.ensures c.seek.ensures in
     let missing = c.in_err-parse_cstring.ensures in
-    rw (p.1, p.2) (name_refused c.args.part.now c.args.pairs.now c.args.k c.u32_at.result _ c.u32_at.ensures (rw same at missing.0), missing.2)
+    rw (p.1, p.2) (name_refused c.args.part.now c.args.pairs.now c.args.k c.u32_at.result _ c.u32_at.ensures (rw same at missing.0), missing.2, missing.3)
 
 pub returns : goal.returns
 returns c =

@@ -8,4 +8,4 @@ returns-in-Some c =
     rw (← c.self.view_is) (there.0, refl, ap (λ n. c.self.inside.at + (n + 1)) (sym there.1))
 
 pub returns-in-None : goal.returns-in-None
-returns-in-None c = rw (← c.self.view_is) (cstring_not c.self.inside.buf.now _ c.self.inside.at c.split_at.ensures.back (sym c.first_zero.ensures.place ∙ c.in-None.is), refl, λ h. cc)
+returns-in-None c = rw (← c.self.view_is) (cstring_not c.self.inside.buf.now _ c.self.inside.at c.split_at.ensures.back (sym c.first_zero.ensures.place ∙ c.in-None.is), refl, λ h. cc, λ h. cc)
