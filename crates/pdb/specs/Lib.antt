@@ -1,4 +1,10 @@
+pub mod Tables
 pub mod Answers
+pub use Rattle.pdb_base.specs.SectionHeader
+pub use Rattle.pdb_base.specs.StringTable
+pub use Rattle.pdb_base.specs.declared.section_header.ImageSectionHeader
+pub use Rattle.pdb_dbi.specs.ExtraStreams
+pub use Rattle.pdb_dbi.specs.declared.extra_streams.DBIExtraStreams
 pub use Rattle.pdb_base.specs.Refusal
 pub use Rattle.pdb_base.specs.Source
 pub use Rattle.pdb_base.specs.Container

@@ -2,10 +2,12 @@
 
 ghost use Rattle.pdb_dbi.specs.DbiViews.{information};
 ghost use Rattle.pdb.specs.Answers.{GoesOn, made};
-ghost use Rattle.pdb.specs.Answers.Call.{PdbInformation, NamedStream, DebugInformation as DebugInformationCall, GlobalSymbols, RawStream};
+ghost use Rattle.pdb.specs.Answers.Call.{PdbInformation, NamedStream, DebugInformation as DebugInformationCall, GlobalSymbols, TypeInformation as TypesCall, IdInformation as IdsCall, Sections, FrameTable as FrameTableCall, AddressMap as AddressMapCall, StringTable as StringTableCall, RawStream};
+ghost use Rattle.std.specs.Option.{option_map};
 
+use crate::holders::{AddressMap, FrameTable, IdInformation, TypeInformation};
 use crate::pdb::PDB;
-use pdb_base::{Result, Source, Stream, StreamIndex};
+use pdb_base::{ImageSectionHeader, Result, Source, Stream, StreamIndex, StringTable};
 use pdb_dbi::{DebugInformation, PDBInformation};
 use pdb_symbols::SymbolTable;
 
@@ -40,4 +42,40 @@ fn raw_stream<'s, S: Source<'s>>(
     ensures { GoesOn (made pdb.old pdb.new (RawStream index.0) (λ s. s) result) }
 {
     pdb.raw_stream(index)
+}
+
+fn type_information<'s, S: Source<'s>>(pdb: &mut PDB<'s, S>) -> Result<TypeInformation<'s>>
+    ensures { GoesOn (made pdb.old pdb.new TypesCall (λ t. t) result) }
+{
+    pdb.type_information()
+}
+
+fn id_information<'s, S: Source<'s>>(pdb: &mut PDB<'s, S>) -> Result<IdInformation<'s>>
+    ensures { GoesOn (made pdb.old pdb.new IdsCall (λ i. i) result) }
+{
+    pdb.id_information()
+}
+
+fn sections<'s, S: Source<'s>>(pdb: &mut PDB<'s, S>) -> Result<Option<Vec<ImageSectionHeader>>>
+    ensures { GoesOn (made pdb.old pdb.new Sections (option_map (λ v. v.items)) result) }
+{
+    pdb.sections()
+}
+
+fn frame_table<'s, S: Source<'s>>(pdb: &mut PDB<'s, S>) -> Result<FrameTable<'s>>
+    ensures { GoesOn (made pdb.old pdb.new FrameTableCall (λ t. t) result) }
+{
+    pdb.frame_table()
+}
+
+fn address_map<'s, S: Source<'s>>(pdb: &mut PDB<'s, S>) -> Result<AddressMap<'s>>
+    ensures { GoesOn (made pdb.old pdb.new AddressMapCall (λ m. m) result) }
+{
+    pdb.address_map()
+}
+
+fn string_table<'s, S: Source<'s>>(pdb: &mut PDB<'s, S>) -> Result<StringTable<'s>>
+    ensures { GoesOn (made pdb.old pdb.new StringTableCall (λ t. t) result) }
+{
+    pdb.string_table()
 }

@@ -2,10 +2,13 @@
 #![tactic(auto)]
 
 mod calls;
+mod holders;
 pub mod laws;
 mod named;
 mod pdb;
+mod sections;
 
+pub use holders::{AddressMap, FrameTable, IdInformation, OMAPTable, TypeInformation};
 pub use pdb::{PDB, StreamIndexExt};
 pub use pdb_base::{
     Error, FallibleIterator, Feature, FileIndex, IdIndex, ImageSectionHeader, ItemIndex, Local,

@@ -1,4 +1,4 @@
-//! The number of a named stream.
+//! The index of a named stream.
 
 ghost use Rattle.std.specs.Prelude.{◌≡◌};
 ghost use Rattle.std.specs.List.{find};
@@ -6,7 +6,7 @@ ghost use Rattle.std.specs.Option.{option_map};
 ghost use Rattle.std.specs.Str.{bytes_eq};
 ghost use Rattle.pdb_base.specs.Refusal.{Answers};
 ghost use Rattle.pdb_dbi.specs.DbiViews.{stream_name};
-ghost use Rattle.pdb.specs.Answers.{listed_number, number_named};
+ghost use Rattle.pdb.specs.Answers.{number_named};
 
 use pdb_base::{Error, Result, StreamIndex};
 use pdb_dbi::{StreamName, StreamNames};
@@ -18,19 +18,12 @@ fn first_named<'a, 'n>(names: &'a StreamNames<'n>, name: &[u8]) -> Option<&'a St
     names.iter().find(|listed| listed.name.as_bytes() == name)
 }
 
-/// The number of a stream that has a name.
-fn listed_number(index: StreamIndex) -> Result<u32>
-    ensures { Answers (λ n. n) result (listed_number index.0) }
-{
-    index.msf_number().ok_or(Error::StreamNameNotFound)
-}
-
-/// The number of the stream of the first name that is this one.
-pub(crate) fn number_named(names: &StreamNames<'_>, name: &[u8]) -> Result<u32>
-    ensures { Answers (λ n. n) result (number_named names.now name.now) }
+/// The index of the stream of the first name that is this one. It may be that of no stream.
+pub(crate) fn index_named(names: &StreamNames<'_>, name: &[u8]) -> Result<StreamIndex>
+    ensures { Answers (λ n. n.0) result (number_named names.now name.now) }
 {
     match first_named(names, name) {
-        Some(listed) => listed_number(listed.stream_id),
+        Some(listed) => Ok(listed.stream_id),
         None => Err(Error::StreamNameNotFound),
     }
 }

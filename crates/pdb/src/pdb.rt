@@ -1,20 +1,33 @@
 //! An opened PDB file, and its streams.
 
-ghost use Rattle.std.specs.Prelude.{◌≡◌, ℕ, List, IfOk, false};
+ghost use Rattle.std.specs.Prelude.{◌≡◌, ◌≢◌, ℕ, List, IfOk, false, None};
 ghost use Rattle.std.specs.Option.{option_map};
 ghost use Rattle.pdb_base.specs.Refusal.{Gives};
 ghost use Rattle.pdb_base.specs.Source.{State, Continues, MayFail};
-ghost use Rattle.pdb_base.specs.Container.{opens};
+ghost use Rattle.pdb_base.specs.Container.{opens, stream_of};
 ghost use Rattle.pdb_dbi.specs.Header.{header_in};
 ghost use Rattle.pdb_dbi.specs.DbiViews.{information};
-ghost use Rattle.pdb.specs.Answers.{information_in, named_stream_in, debug_information_in, global_symbols_in, raw_stream_in};
+ghost use Rattle.pdb.specs.Answers.{information_in, named_stream_in, debug_information_in, global_symbols_in, raw_stream_in, listed_stream as listed_stream_in, extra_streams_of_file, headers_in, sections_in, frame_table_in, transformed_in, address_map_in, string_table_in};
 
-use crate::named::number_named;
-use pdb_base::{Error, Meaning, Msf, Result, Source, Stream, StreamIndex};
-use pdb_dbi::{DBIHeader, DebugInformation, PDBInformation};
+use crate::holders::{AddressMap, FrameTable, IdInformation, OMAPTable, TypeInformation};
+use crate::named::index_named;
+use crate::sections::section_headers;
+use pdb_base::{
+    Error, ImageSectionHeader, Meaning, Msf, Result, Source, Stream, StreamIndex, StringTable,
+};
+use pdb_dbi::{DBIExtraStreams, DBIHeader, DebugInformation, PDBInformation};
 use pdb_symbols::SymbolTable;
 use std::alloc::Global;
 use std::marker::Model;
+
+/// The stream of type records.
+const TYPE_STREAM: u32 = 2;
+
+/// The stream of id records.
+const ID_STREAM: u32 = 4;
+
+/// The name of the string table's stream.
+const NAMES: &[u8; 6] = b"/names";
 
 /// The information stream.
 const INFORMATION_STREAM: u32 = 1;
@@ -36,17 +49,18 @@ pub struct PDB<'s, S: Meaning> {
     alloc: Global,
     msf: Msf<'s, S>,
     header: Option<DBIHeader>,
+    extra_streams: Option<DBIExtraStreams>,
 }
 
 impl<'s, S: Meaning> Model for PDB<'s, S> {
     ghost use Rattle.pdb_base.specs.Source.{State};
-    ghost use Rattle.pdb.specs.Answers.{IsKept};
+    ghost use Rattle.pdb.specs.Answers.{AreKept};
 
     ghost Value = { State };
 
     ghost view = { λ p. p.msf };
 
-    ghost invariant = { λ p. IsKept p.msf.file p.header };
+    ghost invariant = { λ p. AreKept p.msf.file p.header p.extra_streams };
 }
 
 impl<'s, S: Source<'s>> PDB<'s, S> {
@@ -60,6 +74,7 @@ impl<'s, S: Source<'s>> PDB<'s, S> {
             alloc,
             msf: Msf::open(alloc, source)?,
             header: None,
+            extra_streams: None,
         })
     }
 
@@ -97,8 +112,20 @@ impl<'s, S: Source<'s>> PDB<'s, S> {
     {
         let information = self.pdb_information()?;
         let names = information.stream_names(self.alloc)?;
-        let number = number_named(&names, name)?;
-        self.msf.get(number, None)
+        let index = index_named(&names, name)?;
+        self.listed_stream(index, Error::StreamNameNotFound)
+    }
+
+    /// The stream of this index, unparsed, or this refusal for the index of no stream.
+    fn listed_stream(&mut self, index: StreamIndex, refusal: Error) -> Result<Stream<'s>>
+        requires { refusal ≢ Error.IoError }
+        ensures continues { Continues self.old self.new }
+        ensures answer { Gives (λ s. s) (MayFail self.old self.new) result (listed_stream_in self.old.file index.0 refusal) }
+    {
+        match index.msf_number() {
+            Some(number) => self.msf.get(number, None),
+            None => Err(refusal),
+        }
     }
 
     /// The header in the front of the DBI stream; read once.
@@ -137,11 +164,124 @@ impl<'s, S: Source<'s>> PDB<'s, S> {
         ensures answer { Gives (λ t. t) (MayFail self.old self.new) result (global_symbols_in self.old.file) }
     {
         let header = self.dbi_header()?;
-        let Some(number) = header.symbol_records_stream.msf_number() else {
-            return Err(Error::GlobalSymbolsNotFound);
-        };
-        let stream = self.msf.get(number, None)?;
+        let records = header.symbol_records_stream;
+        let stream = self.listed_stream(records, Error::GlobalSymbolsNotFound)?;
         Ok(SymbolTable::new(stream))
+    }
+
+    /// The stream of type records, stream 2, unparsed.
+    pub fn type_information(&mut self) -> Result<TypeInformation<'s>>
+        ensures continues { Continues self.old self.new }
+        ensures answer { Gives (λ t. t) (MayFail self.old self.new) result (stream_of self.old.file 2 None) }
+    {
+        Ok(TypeInformation::new(self.msf.get(TYPE_STREAM, None)?))
+    }
+
+    /// The stream of id records, stream 4, unparsed.
+    pub fn id_information(&mut self) -> Result<IdInformation<'s>>
+        ensures continues { Continues self.old self.new }
+        ensures answer { Gives (λ i. i) (MayFail self.old self.new) result (stream_of self.old.file 4 None) }
+    {
+        Ok(IdInformation::new(self.msf.get(ID_STREAM, None)?))
+    }
+
+    /// The numbers of further streams; read once, and the header with them.
+    #[tactic(auto, using(pdb_base::proofs::Passing::may_after), unfolding(crate::specs::Answers::extra_streams_of_file))]
+    fn extra_streams(&mut self) -> Result<DBIExtraStreams>
+        ensures continues { Continues self.old self.new }
+        ensures answer { Gives (λ x. x) (MayFail self.old self.new) result (extra_streams_of_file self.old.file) }
+    {
+        if let Some(extra_streams) = self.extra_streams {
+            return Ok(extra_streams);
+        }
+        let information = self.debug_information()?;
+        let extra_streams = DBIExtraStreams::new(&information)?;
+        self.extra_streams = Some(extra_streams);
+        Ok(extra_streams)
+    }
+
+    /// The section headers in a stream; none for the index of no stream.
+    #[tactic(auto, using(pdb_base::proofs::Passing::may_after), unfolding(crate::specs::Answers::headers_in))]
+    fn headers(&mut self, index: StreamIndex) -> Result<Option<Vec<ImageSectionHeader>>>
+        ensures continues { Continues self.old self.new }
+        ensures answer { Gives (option_map (λ v. v.items)) (MayFail self.old self.new) result (headers_in self.old.file index.0) }
+    {
+        let Some(stream) = self.raw_stream(index)? else {
+            return Ok(None);
+        };
+        Ok(Some(section_headers(self.alloc, stream.as_slice())?))
+    }
+
+    /// The section headers of the image, one for each section; none where the file has no stream of them. It reads
+    /// the numbers of further streams, as `frame_table` and `address_map` do, unless these were read before:
+    /// `UnimplementedFeature` for an ancient header, `UnexpectedEof` where the numbers aren't there, and
+    /// `InvalidStreamLength` where they are of an odd length. `UnexpectedEof` where the last header is cut.
+    #[tactic(auto, using(pdb_base::proofs::Passing::may_after), unfolding(crate::specs::Answers::sections_in))]
+    pub fn sections(&mut self) -> Result<Option<Vec<ImageSectionHeader>>>
+        ensures continues { Continues self.old self.new }
+        ensures answer { Gives (option_map (λ v. v.items)) (MayFail self.old self.new) result (sections_in self.old.file) }
+    {
+        let extra_streams = self.extra_streams()?;
+        self.headers(extra_streams.section_headers)
+    }
+
+    /// The streams of frame data, unparsed, of the older form and then of the newer one, each where the file has it.
+    #[tactic(auto, using(pdb_base::proofs::Passing::may_after), unfolding(crate::specs::Answers::frame_table_in))]
+    pub fn frame_table(&mut self) -> Result<FrameTable<'s>>
+        ensures continues { Continues self.old self.new }
+        ensures answer { Gives (λ t. t) (MayFail self.old self.new) result (frame_table_in self.old.file) }
+    {
+        let extra_streams = self.extra_streams()?;
+        let old_stream = self.raw_stream(extra_streams.fpo)?;
+        let new_stream = self.raw_stream(extra_streams.framedata)?;
+        Ok(FrameTable::new(old_stream, new_stream))
+    }
+
+    /// How addresses of a rearranged image are those of the image before. `AddressMapNotFound` where the file has the
+    /// section headers of the image before, and lacks one of the two tables.
+    #[tactic(auto, using(pdb_base::proofs::Passing::may_after), unfolding(crate::specs::Answers::address_map_in))]
+    pub fn address_map(&mut self) -> Result<AddressMap<'s>>
+        ensures continues { Continues self.old self.new }
+        ensures answer { Gives (λ m. m) (MayFail self.old self.new) result (address_map_in self.old.file) }
+    {
+        let extra_streams = self.extra_streams()?;
+        let sections = match self.headers(extra_streams.section_headers)? {
+            Some(sections) => sections,
+            None => Vec::new(self.alloc),
+        };
+        match self.headers(extra_streams.original_section_headers)? {
+            Some(original) => self.transformed(extra_streams, sections, original),
+            None => Ok(AddressMap::of_original(sections)),
+        }
+    }
+
+    /// The address map of an image that was rearranged.
+    #[tactic(auto, using(pdb_base::proofs::Passing::may_after), unfolding(crate::specs::Answers::transformed_in))]
+    fn transformed(
+        &mut self,
+        extra_streams: DBIExtraStreams,
+        sections: Vec<ImageSectionHeader>,
+        original: Vec<ImageSectionHeader>,
+    ) -> Result<AddressMap<'s>>
+        ensures continues { Continues self.old self.new }
+        ensures answer { Gives (λ m. m) (MayFail self.old self.new) result (transformed_in self.old.file extra_streams sections.items original.items) }
+    {
+        let missing = Error::AddressMapNotFound;
+        let from_src = self.listed_stream(extra_streams.omap_from_src, missing)?;
+        let to_src = self.listed_stream(extra_streams.omap_to_src, missing)?;
+        let (from_src, to_src) = (OMAPTable::new(from_src), OMAPTable::new(to_src));
+        Ok(AddressMap::of_transformed(original, sections, from_src, to_src))
+    }
+
+    /// The string table, which is the stream of the name `/names`, as `named_stream` gives it; then as
+    /// `StringTable::parse`.
+    #[tactic(auto, using(pdb_base::proofs::Passing::answers_give), unfolding(crate::specs::Answers::string_table_in))]
+    pub fn string_table(&mut self) -> Result<StringTable<'s>>
+        ensures continues { Continues self.old self.new }
+        ensures answer { Gives (λ t. t) (MayFail self.old self.new) result (string_table_in self.old.file) }
+    {
+        let stream = self.named_stream(NAMES)?;
+        StringTable::parse(stream)
     }
 
     /// The stream of this number, unparsed; none for the index of no stream, `0xffff`.

@@ -1,5 +1,5 @@
 -- Passing on what a call answered.
-use Rattle.std.proofs.Common.{◌≡◌, ℕ, inl, inr, Bool, true, false, Result, Ok, Err, refl, ◌∙◌, arith}
+use Rattle.std.proofs.Common.{◌≡◌, ◌≢◌, ℕ, inl, inr, Bool, true, false, Result, Ok, Err, refl, ◌∙◌, arith}
 use Rattle.pdb_base.specs.declared.error.Error.{Error}
 use Rattle.pdb_base.specs.declared.error.Error.TheVariants.{IoError, OutOfMemory}
 use Rattle.pdb_base.specs.Refusal.{Answers, Fails, Gives, ◌>>=◌}
@@ -58,3 +58,14 @@ gives_then view io io' r read x next e f h = rw e (gives_weaken view io io' r (n
 pub answers_reads : {X Y : Type 0} (view : X → Y) (old new : Cursor) (r : Result X Error) (there read : Result Y Error) (width : Y → ℕ) → there ≡ read → Reads view old new r there width → Answers view r read
 answers_reads view old new (Ok x) there read width e h = rw (← e) h.0
 answers_reads view old new (Err d) there read width e h = (rw (← e) h.0, h.2, h.3)
+
+-- a refusal that isn't the source's is passed on
+pub refused_fails : {Y : Type 0} (io : Type 0) (e : Error) (read : Result Y Error) → read ≡ Err e → e ≢ IoError → Fails io e read
+refused_fails io IoError read h sure = absurd (sure refl)
+refused_fails io OutOfMemory read h sure = tt
+refused_fails io e read h sure = h
+
+-- what takes no memory and asks for no view answers also where both may fail
+pub answers_give : {X Y : Type 0} (view : X → Y) (io : Type 0) (r : Result X Error) (read : Result Y Error) → Answers view r read → Gives view io r read
+answers_give view io (Ok x) read h = h
+answers_give view io (Err e) read h = refused_fails io e read h.0 h.2

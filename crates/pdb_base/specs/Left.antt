@@ -15,6 +15,15 @@ pub record Left (A : Type 0) : Type 0 where
 abbrev pub ended : {A : Type 0} → Left A
 ended = record { items = []; fault = None }
 
+-- all items, or the fault alone
+abbrev pub all_or : {A : Type 0} → List A → Option Error → Result (List A) Error
+all_or items None = Ok items
+all_or items (Some e) = Err e
+
+-- a list that is taken whole: all its items, or its fault alone
+abbrev pub whole : {A : Type 0} → Left A → Result (List A) Error
+whole left = all_or left.items left.fault
+
 -- the items xs come, and then what `new` has
 abbrev pub Follows : {A : Type 0} → Left A → List A → Left A → Type 0
 Follows old xs new = (old.items ≡ xs ++ new.items) × (old.fault ≡ new.fault)

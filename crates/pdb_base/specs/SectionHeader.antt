@@ -5,6 +5,9 @@ use Rattle.pdb_base.specs.declared.error.Error.{Error}
 use Rattle.pdb_base.specs.declared.error.Error.TheVariants.{UnexpectedEof}
 use Rattle.pdb_base.specs.declared.section_header.ImageSectionHeader.{ImageSectionHeader}
 use Rattle.pdb_base.specs.Fields.{number}
+use Rattle.pdb_base.specs.Left.{whole}
+use Rattle.pdb_base.specs.Tiling.{Row, listing}
+use Rattle.pdb_base.specs.Reading.{read_row}
 
 -- the fields of the header of which the bytes are h
 abbrev pub header_of : List ℕ → ImageSectionHeader
@@ -28,3 +31,11 @@ header_at b p = if nat_le (p + 40) (length b) then Ok (header_of (take 40 (drop 
 -- the bytes of a header's name before the first zero byte, or all eight
 abbrev pub name_of : ImageSectionHeader → List ℕ
 name_of h = take (unwrap_or (position (λ x. x == 0) h.name) 8) h.name
+
+-- headers one after another
+abbrev pub headers : Row ImageSectionHeader
+headers = read_row header_at (λ p h. 40)
+
+-- the headers that bytes are, or what is wrong
+unfoldable pub headers_of : List ℕ → Result (List ImageSectionHeader) Error
+headers_of b = whole (listing headers b 0)

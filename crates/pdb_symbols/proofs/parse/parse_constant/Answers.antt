@@ -8,4 +8,4 @@ returns-in_err-name c =
     let first = c.in_ok-parse_u32.ensures in
     let value = c.in_ok-value.ensures in
     let name = c.in_err-name.ensures in
-    rw (p.1, p.2) (constant_name_refused c.args.kind _ _ _ _ _ _ _ _ _ c.requires first.0 first.1 first.2 value.0 value.1 value.2 name.0, name.2)
+    rw (p.1, p.2) (constant_name_refused c.args.kind _ _ _ _ _ _ _ _ _ c.requires first.0 first.1 first.2 value.0 value.1 value.2 name.0, name.2, name.3)

@@ -9,5 +9,7 @@ returns-in_err-information-clause-answer g c =
     rw (p.1, p.2) (information_refused _ c.in_err-information.field-0.0 c.args.self.now.file c.in_ok-stream.stream stream c.in_err-information.ensures.0)
 
 pub invariant_of-self-2 : goal.invariant_of-self-2
-invariant_of-self-2 g c =
-    kept_header _ _ c.in_ok-stream.stream c.in_ok-information.information c.header.result c.in_ok-stream.ensures.continues.file c.in_ok-stream.ensures.bytes c.in_ok-information.ensures c.header.ensures
+invariant_of-self-2 g c = record {
+  header = kept_header _ _ c.in_ok-stream.stream c.in_ok-information.information c.header.result c.in_ok-stream.ensures.continues.file c.in_ok-stream.ensures.bytes c.in_ok-information.ensures c.header.ensures;
+  extra_streams = rw c.in_ok-stream.ensures.continues.file c.self.invariant.extra_streams;
+}
