@@ -4,3 +4,4 @@ pub mod Records
 pub mod Clauses
 pub mod SymbolSteps
 pub mod SymbolLaws
+pub mod AnnotationSteps

@@ -5,3 +5,6 @@ pub mod GlobalForms
 pub mod Forms
 pub mod SymbolList
 pub mod Views
+pub mod Spelling
+pub mod Annotations
+pub mod AnnotationViews

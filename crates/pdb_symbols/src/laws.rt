@@ -4,6 +4,8 @@ ghost use Rattle.std.specs.Prelude.{◌≡◌, ℕ, ◌-◌, ◌*◌, ◌≤◌,
 ghost use Rattle.pdb_base.specs.Left.{Left};
 ghost use Rattle.pdb_base.specs.Tiling.{IsListing};
 ghost use Rattle.pdb_base.specs.declared.error.Error.{Error};
+ghost use Rattle.pdb_symbols.specs.declared.annotations.BinaryAnnotation.{BinaryAnnotation};
+ghost use Rattle.pdb_symbols.specs.Annotations.{annotations, annotations_of};
 ghost use Rattle.pdb_symbols.specs.Data.{Data};
 ghost use Rattle.pdb_symbols.specs.Forms.{Is, Refusal, record_at};
 ghost use Rattle.pdb_symbols.specs.SymbolList.{Entry, symbols, symbols_from, StandsBehind};
@@ -38,4 +40,10 @@ pub fn reading_is_what_the_bytes_say()
     ensures says { (b : List ℕ) (d : Data) → record_at b ≡ Ok d → Is b d }
     ensures reads { (b : List ℕ) (d : Data) → Is b d → record_at b ≡ Ok d }
     ensures refused { (b : List ℕ) (e : Error) → record_at b ≡ Err e → Refusal b e }
+{}
+
+/// Bytes have one list of annotations, and it is the one that the contracts name.
+pub fn one_list_of_annotations()
+    ensures is { (b : List ℕ) → IsListing annotations b 0 (annotations_of b) }
+    ensures only { (b : List ℕ) (left : Left BinaryAnnotation) → IsListing annotations b 0 left → left ≡ annotations_of b }
 {}
