@@ -1,5 +1,5 @@
--- What contracts see of the types with private fields.
-use Rattle.std.specs.Prelude.{ℕ, List}
+-- What contracts see of lists of annotations and their iterators.
+use Rattle.std.specs.Prelude.{ℕ, ◌≤◌, List, length}
 use Rattle.pdb_base.specs.Left.{Left}
 use Rattle.pdb_base.specs.Tiling.{listing}
 use Rattle.pdb_symbols.specs.declared.annotations.BinaryAnnotation.{BinaryAnnotation}
@@ -20,3 +20,7 @@ annotations_bytes it = it.bytes.now
 
 abbrev pub annotations_steps : BinaryAnnotationsIter → ℕ
 annotations_steps it = it.steps.count
+
+-- an iterator has ended: no byte is left
+abbrev pub AnnotationsEnded : BinaryAnnotationsIter → Type 0
+AnnotationsEnded it = length it.bytes.now ≤ it.at
