@@ -1,5 +1,8 @@
 -- What stands at a place of a list of bytes, as facts on places alone.
-use Rattle.std.specs.Prelude.{ℕ, ◌+◌, ◌≡◌, ◌≢◌, ◌<◌, ◌≤◌, List, length, take, drop, slice_index}
+use Rattle.std.specs.Prelude.{ℕ, ℤ, ◌+◌, ◌≡◌, ◌≢◌, ◌<◌, ◌≤◌, ◌⊎◌, List, length, take, drop, slice_index}
+use Rattle.std.specs.Int.{Width, w16, w32, w64, cast_signed, byte_len}
+use Rattle.pdb_base.specs.declared.variant.Variant.{Variant}
+use Rattle.pdb_base.specs.declared.variant.Variant.TheVariants.{U8, U16, U32, U64, I8, I16, I32, I64}
 use Rattle.pdb_base.specs.Fields.{number}
 
 -- n is the number of the w bytes at p
@@ -23,3 +26,20 @@ pub record IsCString (b : List ℕ) (p : ℕ) (s : List ℕ) : Type 0 where
 pub record IsPascal (b : List ℕ) (p : ℕ) (s : List ℕ) : Type 0 where
   pub counted : IsNumber b p 1 (length s)
   pub value : IsSlice b (p + 1) (length s) s
+
+-- n is the number of the bytes of a width at p, the greatest bit of which is its sign
+pub record IsSigned (b : List ℕ) (p : ℕ) (w : Width) (n : ℤ) : Type 0 where
+  pub bits : ℕ
+  pub at : IsNumber b p (byte_len w) bits
+  pub value : n ≡ cast_signed w bits
+
+-- v is the number behind the prefix at p, which says its width and its sign; a prefix below 0x8000 is the number
+abbrev pub IsVariant : List ℕ → ℕ → Variant → Type 0
+IsVariant b p (U8 n) = IsNumber b p 2 0x8000 × IsNumber b (p + 2) 1 n
+IsVariant b p (I16 n) = IsNumber b p 2 0x8001 × IsSigned b (p + 2) w16 n
+IsVariant b p (U16 n) = (IsNumber b p 2 n × (n < 0x8000)) ⊎ (IsNumber b p 2 0x8002 × IsNumber b (p + 2) 2 n)
+IsVariant b p (I32 n) = IsNumber b p 2 0x8003 × IsSigned b (p + 2) w32 n
+IsVariant b p (U32 n) = IsNumber b p 2 0x8004 × IsNumber b (p + 2) 4 n
+IsVariant b p (I64 n) = IsNumber b p 2 0x8009 × IsSigned b (p + 2) w64 n
+IsVariant b p (U64 n) = IsNumber b p 2 0x800a × IsNumber b (p + 2) 8 n
+IsVariant b p (I8 n) = ⊥

@@ -1,10 +1,12 @@
 //! Laws of the definitions. Each is the contract of a function that does nothing.
 
-ghost use Rattle.std.specs.Prelude.{◌≡◌, ◌↔◌, ℕ, List, take, Some, None, Ok, Err};
+ghost use Rattle.std.specs.Prelude.{◌≡◌, ◌↔◌, ℕ, ℤ, List, take, Some, None, Ok, Err};
 ghost use Rattle.pdb_base.specs.Left.{Left};
 ghost use Rattle.pdb_base.specs.Tiling.{Row, IsInside, IsListing, listing};
-ghost use Rattle.pdb_base.specs.Fields.{number_at, bytes_at, cstring_at, pascal_at};
-ghost use Rattle.pdb_base.specs.Places.{IsNumber, IsSlice, IsCString, IsPascal};
+ghost use Rattle.pdb_base.specs.Fields.{number_at, bytes_at, cstring_at, pascal_at, signed_at, variant_at};
+ghost use Rattle.pdb_base.specs.Places.{IsNumber, IsSigned, IsSlice, IsCString, IsPascal, IsVariant};
+ghost use Rattle.pdb_base.specs.declared.variant.Variant.{Variant};
+ghost use Rattle.std.specs.Int.{Width};
 ghost use Rattle.pdb_base.specs.Container.{stream_of, page_numbers_of};
 
 use crate::error::Error;
@@ -15,13 +17,15 @@ pub fn one_listing<A>()
     ensures only { (row : Row A) (b : List ℕ) (p : ℕ) (left : Left A) → IsInside row → IsListing row b p left → left ≡ listing row b p }
 {}
 
-/// What a read gives is what stands at the place: the number of so many bytes, that slice, the bytes before the
-/// least place of a zero byte, or as many bytes as the byte there says.
+/// What a read gives is what stands at the place: the number of so many bytes, also a signed one, that slice, the
+/// bytes before the least place of a zero byte, as many bytes as the byte there says, or the number behind a prefix.
 pub fn fields_stand_at_their_places()
     ensures number { (b : List ℕ) (p w n : ℕ) → (number_at b p w ≡ Ok n) ↔ IsNumber b p w n }
     ensures slice { (b : List ℕ) (p n : ℕ) (s : List ℕ) → (bytes_at b p n ≡ Ok s) ↔ IsSlice b p n s }
     ensures cstring { (b : List ℕ) (p : ℕ) (s : List ℕ) → (cstring_at b p ≡ Ok s) ↔ IsCString b p s }
     ensures pascal { (b : List ℕ) (p : ℕ) (s : List ℕ) → (pascal_at b p ≡ Ok s) ↔ IsPascal b p s }
+    ensures signed { (b : List ℕ) (p : ℕ) (w : Width) (n : ℤ) → (signed_at b p w ≡ Ok n) ↔ IsSigned b p w n }
+    ensures variant { (b : List ℕ) (p : ℕ) (v : Variant) → (variant_at b p ≡ Ok v) ↔ IsVariant b p v }
 {}
 
 /// Where a stream can be had whole, its front is its first bytes. Where all its page numbers are there, a number in

@@ -1,6 +1,11 @@
 pub mod Parts
-pub mod GlobalForms
+pub mod Layouts
+pub mod FormTable
 pub mod Records
+pub mod Memory
+pub mod ScopeLaws
 pub mod Clauses
+pub mod RegisterLoop
+pub mod AnnotationSteps
 pub mod SymbolSteps
 pub mod SymbolLaws

@@ -1,10 +1,14 @@
 -- What is read of a part at a place is what stands there, and it is refused only at the end.
-use Rattle.std.proofs.Common.{◌≡◌, ℕ, ◌+◌, Bool, true, false, List, Option, Some, None, Ok, refl, arith, MatchBool, cond}
-use Rattle.std.specs.Prelude.{nat_lt}
+use Rattle.std.proofs.Common.{◌≡◌, ℕ, ◌+◌, Bool, true, false, List, length, take, drop, Option, Some, None, Result, Ok, Err, refl, sym, ap, ◌∙◌, arith, MatchBool, cond, length-drop}
+use Rattle.std.proofs.Math.Seq.{take-length}
+use Rattle.std.specs.Prelude.{nat_lt, IfOk}
+use Rattle.pdb_base.specs.declared.error.Error.{Error}
+use Rattle.pdb_base.specs.Cursor.{Cursor, Reads}
+use Rattle.pdb_base.proofs.Numbers.{bytes_there}
 use Rattle.std.proofs.lemmas.Bool.Decides.{nat_tests}
 use Rattle.pdb_base.specs.declared.index.PdbInternalSectionOffset.{PdbInternalSectionOffset}
 use Rattle.pdb_base.specs.Refusal.{◌>>=◌}
-use Rattle.pdb_base.specs.Fields.{cstring_at, pascal_at}
+use Rattle.pdb_base.specs.Fields.{bytes_at, cstring_at, pascal_at}
 use Rattle.pdb_base.specs.Places.{IsCString, IsPascal}
 use Rattle.pdb_base.proofs.Places.{bind_ok, OnlyEof, bind_eof, ok_eof, number_is, is_number, number_eof, pascal_is, is_pascal, pascal_eof, cstring_is, is_cstring, cstring_eof}
 use Rattle.pdb_symbols.specs.Parts.{IsOffset, IsName, IsOptionalName, offset_at, name_at, optional_name_at, module_at}
@@ -79,3 +83,20 @@ optional_name_eof kind b p = optional_eof_at (nat_lt kind 0x1100) b p
 
 pub module_eof : (b : List ℕ) (p : ℕ) → OnlyEof (module_at b p)
 module_eof b p = bind_eof _ _ (number_eof b p 2) (λ _. ok_eof _)
+
+-- ---- the bytes that are left
+
+rest_there : (b : List ℕ) (p n : ℕ) → n + p ≡ length b → bytes_at b p n ≡ Ok (drop p b)
+rest_there b p n h =
+    let all : take (length (drop p b)) (drop p b) ≡ drop p b = take-length (drop p b) in
+    let size : length (drop p b) ≡ n = simp length-drop (omega arith) in
+    bytes_there b p n (omega arith) ∙ ap Ok (rw size at all)
+
+pub rest_taken : {X : Type 0} (view : X → List ℕ) (old new : Cursor) (n : ℕ) (r : Result X Error) → n + old.place ≡ length old.bytes → Reads view old new r (bytes_at old.bytes old.place n) (λ _. n) → IfOk r (λ s. length (view s) ≡ n) → Reads view old new r (Ok (drop old.place old.bytes)) (λ s. length s)
+rest_taken view old new n (Ok x) room read size =
+    let there = rest_there old.bytes old.place n room in
+    (sym there ∙ read.0, read.1, rw size read.2)
+rest_taken view old new n (Err e) room read size =
+    let there = rest_there old.bytes old.place n room in
+    let refused = read.0 in
+    absurd cc

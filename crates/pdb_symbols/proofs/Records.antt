@@ -11,28 +11,19 @@ use Rattle.pdb_symbols.specs.declared.form.Form.{Form}
 use Rattle.pdb_symbols.specs.declared.form.Form.TheVariants as form
 use Rattle.pdb_symbols.specs.Kinds.{row}
 use Rattle.pdb_symbols.specs.Data.{Data}
-use Rattle.pdb_symbols.specs.GlobalForms.{constant_at}
+use Rattle.pdb_symbols.specs.FormTable.{read_of}
+use Rattle.pdb_symbols.specs.Layouts.{together_at}
 use Rattle.pdb_symbols.specs.Forms.{kind_at, IsForm, Is, IsUnlistedPrefix, Refusal, fields_at, record_at}
 use Rattle.pdb_symbols.proofs.Parts.{name_eof}
-use Rattle.pdb_symbols.proofs.GlobalForms.{public_is, is_public, public_eof, user_defined_type_is, is_user_defined_type, user_defined_type_eof, procedure_reference_is, is_procedure_reference, procedure_reference_eof, constant_is, is_constant, data_is, is_data, data_eof, thread_storage_is, is_thread_storage, thread_storage_eof}
+use Rattle.pdb_symbols.proofs.FormTable.{of_is, is_of, form_ends, ends_of}
 
 fields_are : (f : Option Form) (kind : ℕ) (b : List ℕ) (d : Data) → fields_at f kind b ≡ Ok d → IsForm f kind b d
 fields_are None kind b d e = absurd cc
-fields_are (Some form.Public) kind b d e = public_is kind b d e
-fields_are (Some form.UserDefinedType) kind b d e = user_defined_type_is kind b d e
-fields_are (Some form.ProcedureReference) kind b d e = procedure_reference_is kind b d e
-fields_are (Some form.Constant) kind b d e = constant_is kind b d e
-fields_are (Some form.Data) kind b d e = data_is kind b d e
-fields_are (Some form.ThreadStorage) kind b d e = thread_storage_is kind b d e
+fields_are (Some f) kind b d e = of_is f kind b d e
 
 are_fields : (f : Option Form) (kind : ℕ) (b : List ℕ) (d : Data) → IsForm f kind b d → fields_at f kind b ≡ Ok d
 are_fields None kind b d h = absurd h
-are_fields (Some form.Public) kind b d h = is_public kind b d h
-are_fields (Some form.UserDefinedType) kind b d h = is_user_defined_type kind b d h
-are_fields (Some form.ProcedureReference) kind b d h = is_procedure_reference kind b d h
-are_fields (Some form.Constant) kind b d h = is_constant kind b d h
-are_fields (Some form.Data) kind b d h = is_data kind b d h
-are_fields (Some form.ThreadStorage) kind b d h = is_thread_storage kind b d h
+are_fields (Some f) kind b d h = is_of f kind b d h
 
 pub record_is : (b : List ℕ) (d : Data) → record_at b ≡ Ok d → Is b d
 record_is b d e = fields_are (row (kind_at b)) (kind_at b) b d e
@@ -47,21 +38,21 @@ RefusedBy f kind b e = (e ≡ UnexpectedEof) ⊎ (((f ≡ None) × (e ≡ Unimpl
 ConstantRefusal : List ℕ → Error → Type 0
 ConstantRefusal b e = (e ≡ UnexpectedEof) ⊎ ((n : ℕ) × IsNumber b 6 2 n × (is_listed n ≡ false) × (e ≡ UnexpectedNumericPrefix n))
 
-constant_refuses : (kind : ℕ) (b : List ℕ) → Refuses (ConstantRefusal b) (constant_at kind b)
-unfolding constant_at ConstantRefusal
-constant_refuses kind b = bind_refuses (ConstantRefusal b) _ _ (eof_refuses _ _ (inl refl) (number_eof b 2 4))
-    (λ _ _. bind_refuses (ConstantRefusal b) _ _ (variant_refuses b 6)
-    (λ _ _. eof_refuses _ _ (inl refl) (bind_eof _ _ (name_eof kind b (6 + variant_width b 6)) (λ _. ok_eof _))))
+constant_refuses : (kind : ℕ) (b : List ℕ) → Refuses (ConstantRefusal b) (read_of form.Constant kind b)
+unfolding read_of together_at ConstantRefusal
+constant_refuses kind b =
+    let P : Error → Type 0 = ConstantRefusal b in
+    bind_refuses P _ _ (bind_refuses P _ _
+    (bind_refuses P _ _ (eof_refuses _ _ (inl refl) (bind_eof _ _ (number_eof b 2 4) (λ _. ok_eof _)))
+    (λ _ _. bind_refuses P _ _ (variant_refuses b 6) (λ _ _. eof_refuses _ _ (inl refl) (ok_eof _))))
+    (λ x _. eof_refuses _ _ (inl refl) (bind_eof _ _ (name_eof kind b (2 + (4 + variant_width b 6))) (λ _. ok_eof _))))
+    (λ _ _. eof_refuses _ _ (inl refl) (ok_eof _))
 
 fields_refused : (f : Option Form) (kind : ℕ) (b : List ℕ) (e : Error) → fields_at f kind b ≡ Err e → RefusedBy f kind b e
 unfolding ConstantRefusal
 fields_refused None kind b e h = inr (inl (refl, cc))
-fields_refused (Some form.Public) kind b e h = inl (public_eof kind b e h)
-fields_refused (Some form.UserDefinedType) kind b e h = inl (user_defined_type_eof kind b e h)
-fields_refused (Some form.ProcedureReference) kind b e h = inl (procedure_reference_eof kind b e h)
 fields_refused (Some form.Constant) kind b e h = elim (constant_refuses kind b e h) [ inl p ↦ inl p | inr p ↦ inr (inr (p.0, refl, p.1, p.2, p.3)) ]
-fields_refused (Some form.Data) kind b e h = inl (data_eof kind b e h)
-fields_refused (Some form.ThreadStorage) kind b e h = inl (thread_storage_eof kind b e h)
+fields_refused (Some f) kind b e h = inl (ends_of f (form_ends f) kind b e h)
 
 pub record_refused : (b : List ℕ) (e : Error) → record_at b ≡ Err e → Refusal b e
 record_refused b e h = elim (fields_refused (row (kind_at b)) (kind_at b) b e h) [
@@ -75,8 +66,8 @@ record_refused b e h = elim (fields_refused (row (kind_at b)) (kind_at b) b e h)
 pub no_row : (b : List ℕ) → row (kind_at b) ≡ None → record_at b ≡ Err (UnimplementedSymbolKind (kind_at b))
 no_row b h = ap (λ f. fields_at f (kind_at b) b) h
 
-constant_unlisted : (kind : ℕ) (b : List ℕ) (n : ℕ) → IsNumber b 6 2 n → is_listed n ≡ false → constant_at kind b ≡ Err (UnexpectedNumericPrefix n)
-unfolding constant_at
+constant_unlisted : (kind : ℕ) (b : List ℕ) (n : ℕ) → IsNumber b 6 2 n → is_listed n ≡ false → read_of form.Constant kind b ≡ Err (UnexpectedNumericPrefix n)
+unfolding read_of together_at
 constant_unlisted kind b n at h =
     let e = unlisted_refused b 6 n at h in
     let room = at.there in

@@ -8,7 +8,7 @@ use Rattle.pdb_symbols.specs.declared.form.Form.{Form}
 use Rattle.pdb_symbols.specs.declared.form.Form.TheVariants as form
 use Rattle.pdb_symbols.specs.Kinds.{row}
 use Rattle.pdb_symbols.specs.Data.{Data}
-use Rattle.pdb_symbols.specs.GlobalForms.{IsPublic, IsUserDefinedType, IsProcedureReference, IsConstant, IsData, IsThreadStorage, public_at, user_defined_type_at, procedure_reference_at, constant_at, data_at, thread_storage_at}
+use Rattle.pdb_symbols.specs.FormTable.{IsOf, read_of}
 
 -- the kind of a record: the number in its first two bytes
 abbrev pub kind_at : List ℕ → ℕ
@@ -17,12 +17,7 @@ kind_at b = number b 0 2
 -- a record of a kind, of bytes b, has the form and says d
 abbrev pub IsForm : Option Form → ℕ → List ℕ → Data → Type 0
 IsForm None kind b d = ⊥
-IsForm (Some form.Public) kind b d = IsPublic kind b d
-IsForm (Some form.UserDefinedType) kind b d = IsUserDefinedType kind b d
-IsForm (Some form.ProcedureReference) kind b d = IsProcedureReference kind b d
-IsForm (Some form.Constant) kind b d = IsConstant kind b d
-IsForm (Some form.Data) kind b d = IsData kind b d
-IsForm (Some form.ThreadStorage) kind b d = IsThreadStorage kind b d
+IsForm (Some f) kind b d = IsOf f kind b d
 
 -- a record of bytes b says d
 abbrev pub Is : List ℕ → Data → Type 0
@@ -45,13 +40,13 @@ Refusal b e = (e ≡ UnexpectedEof) ⊎ (((row (kind_at b) ≡ None) × (e ≡ U
 -- what is read of a record of a form, or the refusal
 abbrev pub fields_at : Option Form → ℕ → List ℕ → Result Data Error
 fields_at None kind b = Err (UnimplementedSymbolKind kind)
-fields_at (Some form.Public) kind b = public_at kind b
-fields_at (Some form.UserDefinedType) kind b = user_defined_type_at kind b
-fields_at (Some form.ProcedureReference) kind b = procedure_reference_at kind b
-fields_at (Some form.Constant) kind b = constant_at kind b
-fields_at (Some form.Data) kind b = data_at kind b
-fields_at (Some form.ThreadStorage) kind b = thread_storage_at kind b
+fields_at (Some f) kind b = read_of f kind b
 
 -- what is read of a record, or the refusal
 abbrev pub record_at : List ℕ → Result Data Error
 record_at b = fields_at (row (kind_at b)) (kind_at b) b
+
+-- the form takes memory
+abbrev pub TakesMemory : Option Form → Type 0
+TakesMemory (Some form.MultiRegisterVariable) = Unit {0}
+TakesMemory f = ⊥

@@ -1,15 +1,10 @@
 -- Parts that several forms have: what is read at a place, and what stands there as facts on places.
-use Rattle.std.specs.Prelude.{ℕ, ◌+◌, ◌-◌, ◌≡◌, ◌<◌, ◌≤◌, Bool, not, List, Option, Some, None, Result, Ok, MatchBool, nat_lt, ◌==◌, if◌then◌else◌, bit_and}
+use Rattle.std.specs.Prelude.{ℕ, ◌+◌, ◌-◌, ◌<◌, ◌≤◌, List, Option, Some, None, Result, Ok, MatchBool, nat_lt, ◌==◌, if◌then◌else◌}
 use Rattle.pdb_base.specs.declared.error.Error.{Error}
 use Rattle.pdb_base.specs.declared.index.PdbInternalSectionOffset.{PdbInternalSectionOffset}
-use Rattle.pdb_base.specs.declared.variant.Variant.{Variant}
 use Rattle.pdb_base.specs.Refusal.{◌>>=◌}
-use Rattle.pdb_base.specs.Fields.{number_at, cstring_at, pascal_at, variant_at}
+use Rattle.pdb_base.specs.Fields.{number_at, cstring_at, pascal_at}
 use Rattle.pdb_base.specs.Places.{IsNumber, IsCString, IsPascal}
-
--- a bit of the flags is set
-abbrev pub has : ℕ → ℕ → Bool
-has flags bit = not (bit_and flags bit == 0)
 
 -- 0 is no module, and any other number the module before it
 abbrev pub module_of : ℕ → Option ℕ
@@ -30,10 +25,6 @@ IsName kind b p s = MatchBool (nat_lt kind 0x1100) (IsPascal b p s) (IsCString b
 abbrev pub IsOptionalName : ℕ → List ℕ → ℕ → Option (List ℕ) → Type 0
 IsOptionalName kind b p None = kind < 0x1100
 IsOptionalName kind b p (Some s) = (0x1100 ≤ kind) × IsCString b p s
-
--- a number with its prefix
-abbrev pub IsVariant : List ℕ → ℕ → Variant → Type 0
-IsVariant b p v = variant_at b p ≡ Ok v
 
 -- ---- what is read there, or the refusal
 

@@ -1,5 +1,5 @@
 -- What contracts see of the types with private fields.
-use Rattle.std.specs.Prelude.{ℕ, List, ◌++◌, length, false, codes}
+use Rattle.std.specs.Prelude.{ℕ, List, ◌++◌, ◌≤◌, length, false, codes}
 use Rattle.std.specs.Fmt.{digits, decimal}
 use Rattle.pdb_base.specs.Left.{Left}
 use Rattle.pdb_base.specs.Tiling.{listing}
@@ -23,6 +23,10 @@ symbols_left it = listing symbols it.buffer.bytes it.buffer.place
 -- the bytes that an iterator stands over
 abbrev pub symbols_bytes : SymbolIter → List ℕ
 symbols_bytes it = it.buffer.bytes
+
+-- an iterator has ended: no byte is left
+abbrev pub SymbolsEnded : SymbolIter → Type 0
+SymbolsEnded it = length it.buffer.bytes ≤ it.buffer.place
 
 -- an iterator's steps since its start, or since the last `seek` or `skip_to`
 abbrev pub symbols_steps : SymbolIter → ℕ

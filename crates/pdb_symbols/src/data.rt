@@ -1,130 +1,160 @@
-//! What records say: a struct for each form, with the record's fields in the order in which they stand.
+//! What a record says, by its form.
 
-ghost use Rattle.std.specs.Prelude.{◌≡◌};
+ghost use Rattle.std.specs.Prelude.{◌≡◌, IfOk, IfErr};
 ghost use Rattle.std.specs.Option.{option_map};
 ghost use Rattle.pdb_base.specs.Text.{name_bytes};
-ghost use Rattle.pdb_symbols.specs.Data.{shown, name_of};
+ghost use Rattle.pdb_symbols.specs.Data.{shown, name_of, HasMemory};
+ghost use Rattle.pdb_base.specs.declared.error.Error.{Error};
 
-use pdb_base::{PdbInternalSectionOffset, RawString, SymbolIndex, TypeIndex, Variant};
+use crate::compilers::{
+    BuildInfoSymbol, CompileFlagsSymbol, ExportSymbol, ObjNameSymbol, UsingNamespaceSymbol,
+};
+use crate::procedures::{
+    BlockSymbol, InlineSiteSymbol, LabelSymbol, ProcedureSymbol, SeparatedCodeSymbol,
+};
+use crate::references::{AnnotationReferenceSymbol, DataReferenceSymbol, ProcedureReferenceSymbol};
+use crate::registers::MultiRegisterVariableSymbol;
+use crate::thunks::{ThunkSymbol, TrampolineSymbol};
+use crate::variables::{
+    ConstantSymbol, DataSymbol, LocalSymbol, PublicSymbol, RegisterRelativeSymbol,
+    RegisterVariableSymbol, ThreadStorageSymbol, UserDefinedTypeSymbol,
+};
+use pdb_base::{RawString, Result};
+use std::alloc::Global;
 
-/// A symbol that other modules can see: `PUBSYM32` of `cvinfo.h`, in records `S_PUB32` (0x110e) and `S_PUB32_ST`
-/// (0x1009).
-#[derive(Clone, Copy, Debug, Eq, PartialEq)]
-pub struct PublicSymbol<'t> {
-    /// Whether the symbol is code: bit 0 of the flags.
-    pub code: bool,
-    /// Whether the symbol is a function: bit 1 of the flags.
-    pub function: bool,
-    /// Whether the symbol is managed, code or data: bit 2 of the flags.
-    pub managed: bool,
-    /// Whether the symbol is code in the intermediate language MSIL: bit 3 of the flags.
-    pub msil: bool,
-    /// Where the symbol stands.
-    pub offset: PdbInternalSectionOffset,
-    /// The symbol's name, mostly decorated.
-    pub name: RawString<'t>,
-}
-
-/// A name for a type: `UDTSYM` of `cvinfo.h`, in records `S_UDT` (0x1108), `S_COBOLUDT` (0x1109), `S_UDT_ST`
-/// (0x1003) and `S_COBOLUDT_ST` (0x1004).
-#[derive(Clone, Copy, Debug, Eq, PartialEq)]
-pub struct UserDefinedTypeSymbol<'t> {
-    /// The type that is named.
-    pub type_index: TypeIndex,
-    /// The name.
-    pub name: RawString<'t>,
-}
-
-/// A reference to a procedure of a module: `REFSYM2` of `cvinfo.h`, in records `S_PROCREF` (0x1125), `S_LPROCREF`
-/// (0x1127), `S_PROCREF_ST` (0x0400) and `S_LPROCREF_ST` (0x0403).
-#[derive(Clone, Copy, Debug, Eq, PartialEq)]
-pub struct ProcedureReferenceSymbol<'t> {
-    /// Whether the procedure is global: kinds 0x1125 and 0x0400.
-    pub global: bool,
-    /// The checksum of the name.
-    pub sum_name: u32,
-    /// The place of the procedure's record in its module's stream.
-    pub symbol_index: SymbolIndex,
-    /// The module's number, counted from 0; the record counts from 1, and says 0 for none.
-    pub module: Option<usize>,
-    /// The procedure's name; kinds below 0x1100 have none.
-    pub name: Option<RawString<'t>>,
-}
-
-/// A constant: `CONSTSYM` of `cvinfo.h`, in records `S_CONSTANT` (0x1107), `S_MANCONSTANT` (0x112d) and
-/// `S_CONSTANT_ST` (0x1002).
-#[derive(Clone, Copy, Debug, Eq, PartialEq)]
-pub struct ConstantSymbol<'t> {
-    /// Whether the constant is managed: kind 0x112d.
-    pub managed: bool,
-    /// The constant's type, or the enumeration that lists it.
-    pub type_index: TypeIndex,
-    /// The value.
-    pub value: Variant,
-    /// The name.
-    pub name: RawString<'t>,
-}
-
-/// Data at a fixed place: `DATASYM32` of `cvinfo.h`, in records `S_LDATA32` (0x110c), `S_GDATA32` (0x110d),
-/// `S_LMANDATA` (0x111c), `S_GMANDATA` (0x111d) and, as older linkers wrote them, `S_LDATA32_ST` (0x1007),
-/// `S_GDATA32_ST` (0x1008), `S_LMANDATA_ST` (0x1020) and `S_GMANDATA_ST` (0x1021).
-#[derive(Clone, Copy, Debug, Eq, PartialEq)]
-pub struct DataSymbol<'t> {
-    /// Whether the data is global: kinds 0x110d, 0x1008, 0x111d and 0x1021.
-    pub global: bool,
-    /// Whether the data is managed: kinds 0x111c, 0x1020, 0x111d and 0x1021.
-    pub managed: bool,
-    /// The data's type.
-    pub type_index: TypeIndex,
-    /// Where the data stands.
-    pub offset: PdbInternalSectionOffset,
-    /// The name.
-    pub name: RawString<'t>,
-}
-
-/// Data of which each thread has its own: `THREADSYM32` of `cvinfo.h`, in records `S_LTHREAD32` (0x1112),
-/// `S_GTHREAD32` (0x1113) and, as older linkers wrote them, `S_LTHREAD32_ST` (0x100e) and `S_GTHREAD32_ST` (0x100f).
-#[derive(Clone, Copy, Debug, Eq, PartialEq)]
-pub struct ThreadStorageSymbol<'t> {
-    /// Whether the data is global: kinds 0x1113 and 0x100f.
-    pub global: bool,
-    /// The data's type.
-    pub type_index: TypeIndex,
-    /// Where the data stands in the thread's storage.
-    pub offset: PdbInternalSectionOffset,
-    /// The name.
-    pub name: RawString<'t>,
-}
-
-/// What a record says. Names borrow the record's bytes.
+/// What a record says. Names and annotations borrow the record's bytes; a list of registers has memory of its own.
 #[derive(Debug, Drop, Eq, PartialEq)]
 pub enum SymbolData<'t> {
-    /// A symbol that other modules can see.
-    Public(PublicSymbol<'t>),
-    /// A name for a type.
-    UserDefinedType(UserDefinedTypeSymbol<'t>),
-    /// A reference to a procedure of a module.
-    ProcedureReference(ProcedureReferenceSymbol<'t>),
+    /// The end of a scope: `S_END` (0x0006).
+    ScopeEnd,
+    /// The name of an object file.
+    ObjName(ObjNameSymbol<'t>),
+    /// A variable in a register.
+    RegisterVariable(RegisterVariableSymbol<'t>),
     /// A constant.
     Constant(ConstantSymbol<'t>),
+    /// A name for a type.
+    UserDefinedType(UserDefinedTypeSymbol<'t>),
+    /// A variable in several registers.
+    MultiRegisterVariable(MultiRegisterVariableSymbol<'t>),
     /// Data at a fixed place.
     Data(DataSymbol<'t>),
+    /// A symbol that other modules can see.
+    Public(PublicSymbol<'t>),
+    /// A procedure.
+    Procedure(ProcedureSymbol<'t>),
     /// Data of which each thread has its own.
     ThreadStorage(ThreadStorageSymbol<'t>),
+    /// How a module was compiled.
+    CompileFlags(CompileFlagsSymbol<'t>),
+    /// A namespace that is used.
+    UsingNamespace(UsingNamespaceSymbol<'t>),
+    /// A reference to a procedure of a module.
+    ProcedureReference(ProcedureReferenceSymbol<'t>),
+    /// A reference to data of a module.
+    DataReference(DataReferenceSymbol<'t>),
+    /// A reference to an annotation of a module.
+    AnnotationReference(AnnotationReferenceSymbol<'t>),
+    /// A jump that the linker made.
+    Trampoline(TrampolineSymbol),
+    /// A symbol that the image exports.
+    Export(ExportSymbol<'t>),
+    /// A local variable.
+    Local(LocalSymbol<'t>),
+    /// What a module was built with.
+    BuildInfo(BuildInfoSymbol),
+    /// An inlined call.
+    InlineSite(InlineSiteSymbol<'t>),
+    /// The end of an inlined call: `S_INLINESITE_END` (0x114e).
+    InlineSiteEnd,
+    /// The end of a procedure: `S_PROC_ID_END` (0x114f).
+    ProcedureEnd,
+    /// A label in code.
+    Label(LabelSymbol<'t>),
+    /// A block of a procedure.
+    Block(BlockSymbol<'t>),
+    /// A variable at an offset from a register's value.
+    RegisterRelative(RegisterRelativeSymbol<'t>),
+    /// A thunk.
+    Thunk(ThunkSymbol<'t>),
+    /// Code of a procedure that stands apart from it.
+    SeparatedCode(SeparatedCodeSymbol),
 }
 
 impl<'t> SymbolData<'t> {
-    /// The symbol's name. A reference to a procedure in a record of a kind below 0x1100 has none.
+    /// The symbol's name. These have none: ends of scopes, variables in registers, what a compiler says of itself,
+    /// trampolines, inlined calls, what a module was built with, separated code, and references in records of kinds
+    /// below 0x1100.
     pub fn name(&self) -> Option<RawString<'t>>
         ensures { option_map name_bytes result ≡ name_of (shown self.now) }
     {
         match self {
-            SymbolData::Public(symbol) => Some(symbol.name),
-            SymbolData::UserDefinedType(symbol) => Some(symbol.name),
-            SymbolData::ProcedureReference(symbol) => symbol.name,
+            SymbolData::ScopeEnd => None,
+            SymbolData::ObjName(symbol) => Some(symbol.name),
+            SymbolData::RegisterVariable(_) => None,
             SymbolData::Constant(symbol) => Some(symbol.name),
+            SymbolData::UserDefinedType(symbol) => Some(symbol.name),
+            SymbolData::MultiRegisterVariable(_) => None,
             SymbolData::Data(symbol) => Some(symbol.name),
+            SymbolData::Public(symbol) => Some(symbol.name),
+            SymbolData::Procedure(symbol) => Some(symbol.name),
             SymbolData::ThreadStorage(symbol) => Some(symbol.name),
+            SymbolData::CompileFlags(_) => None,
+            SymbolData::UsingNamespace(symbol) => Some(symbol.name),
+            SymbolData::ProcedureReference(symbol) => symbol.name,
+            SymbolData::DataReference(symbol) => symbol.name,
+            SymbolData::AnnotationReference(symbol) => Some(symbol.name),
+            SymbolData::Trampoline(_) => None,
+            SymbolData::Export(symbol) => Some(symbol.name),
+            SymbolData::Local(symbol) => Some(symbol.name),
+            SymbolData::BuildInfo(_) => None,
+            SymbolData::InlineSite(_) => None,
+            SymbolData::InlineSiteEnd => None,
+            SymbolData::ProcedureEnd => None,
+            SymbolData::Label(symbol) => Some(symbol.name),
+            SymbolData::Block(symbol) => Some(symbol.name),
+            SymbolData::RegisterRelative(symbol) => Some(symbol.name),
+            SymbolData::Thunk(symbol) => Some(symbol.name),
+            SymbolData::SeparatedCode(_) => None,
         }
+    }
+
+    /// The same value. A variable in several registers takes memory for its list and is `OutOfMemory` without it; the
+    /// others take none.
+    pub fn try_clone(&self, alloc: Global) -> Result<Self>
+        ensures same { IfOk result (λ d. shown d ≡ shown self.now) }
+        ensures memory { IfErr result (λ e. (e ≡ Error.OutOfMemory) × HasMemory (shown self.now)) }
+    {
+        Ok(match self {
+            SymbolData::ScopeEnd => SymbolData::ScopeEnd,
+            SymbolData::ObjName(symbol) => SymbolData::ObjName(*symbol),
+            SymbolData::RegisterVariable(symbol) => SymbolData::RegisterVariable(*symbol),
+            SymbolData::Constant(symbol) => SymbolData::Constant(*symbol),
+            SymbolData::UserDefinedType(symbol) => SymbolData::UserDefinedType(*symbol),
+            SymbolData::MultiRegisterVariable(symbol) => SymbolData::MultiRegisterVariable(
+                symbol.try_clone(alloc)?,
+            ),
+            SymbolData::Data(symbol) => SymbolData::Data(*symbol),
+            SymbolData::Public(symbol) => SymbolData::Public(*symbol),
+            SymbolData::Procedure(symbol) => SymbolData::Procedure(*symbol),
+            SymbolData::ThreadStorage(symbol) => SymbolData::ThreadStorage(*symbol),
+            SymbolData::CompileFlags(symbol) => SymbolData::CompileFlags(*symbol),
+            SymbolData::UsingNamespace(symbol) => SymbolData::UsingNamespace(*symbol),
+            SymbolData::ProcedureReference(symbol) => SymbolData::ProcedureReference(*symbol),
+            SymbolData::DataReference(symbol) => SymbolData::DataReference(*symbol),
+            SymbolData::AnnotationReference(symbol) => SymbolData::AnnotationReference(*symbol),
+            SymbolData::Trampoline(symbol) => SymbolData::Trampoline(*symbol),
+            SymbolData::Export(symbol) => SymbolData::Export(*symbol),
+            SymbolData::Local(symbol) => SymbolData::Local(*symbol),
+            SymbolData::BuildInfo(symbol) => SymbolData::BuildInfo(*symbol),
+            SymbolData::InlineSite(symbol) => SymbolData::InlineSite(*symbol),
+            SymbolData::InlineSiteEnd => SymbolData::InlineSiteEnd,
+            SymbolData::ProcedureEnd => SymbolData::ProcedureEnd,
+            SymbolData::Label(symbol) => SymbolData::Label(*symbol),
+            SymbolData::Block(symbol) => SymbolData::Block(*symbol),
+            SymbolData::RegisterRelative(symbol) => SymbolData::RegisterRelative(*symbol),
+            SymbolData::Thunk(symbol) => SymbolData::Thunk(*symbol),
+            SymbolData::SeparatedCode(symbol) => SymbolData::SeparatedCode(*symbol),
+        })
     }
 }

@@ -1,17 +1,115 @@
 //! Which kind has which form.
 
 ghost use Rattle.std.specs.Prelude.{◌≡◌};
-ghost use Rattle.pdb_symbols.specs.Kinds.{row};
+ghost use Rattle.pdb_symbols.specs.Kinds.{row, row_in, older_rows, middle_rows, newer_rows};
 
 // How the fields of a record stand.
 #[derive(Clone, Copy)]
 pub(crate) enum Form {
-    Public,
-    UserDefinedType,
-    ProcedureReference,
+    ScopeEnd,
+    ObjName,
+    RegisterVariable,
     Constant,
+    UserDefinedType,
+    MultiRegisterVariable,
     Data,
+    Public,
+    Procedure,
     ThreadStorage,
+    CompileFlags,
+    UsingNamespace,
+    ProcedureReference,
+    DataReference,
+    AnnotationReference,
+    Trampoline,
+    Export,
+    Local,
+    BuildInfo,
+    InlineSite,
+    InlineSiteEnd,
+    ProcedureEnd,
+    Label,
+    Block,
+    RegisterRelative,
+    Thunk,
+    SeparatedCode,
+}
+
+// Kinds below 0x1100.
+#[inline]
+fn older_form(kind: u16) -> Option<Form>
+    ensures { result ≡ row_in older_rows kind }
+{
+    match kind {
+        0x0006 => Some(Form::ScopeEnd),
+        0x0009 => Some(Form::ObjName),
+        0x1001 => Some(Form::RegisterVariable),
+        0x1002 => Some(Form::Constant),
+        0x1003 | 0x1004 => Some(Form::UserDefinedType),
+        0x1005 | 0x1014 => Some(Form::MultiRegisterVariable),
+        0x1007 | 0x1008 | 0x1020 | 0x1021 => Some(Form::Data),
+        0x1009 => Some(Form::Public),
+        0x100a | 0x100b => Some(Form::Procedure),
+        0x100e | 0x100f => Some(Form::ThreadStorage),
+        0x1013 => Some(Form::CompileFlags),
+        0x1029 => Some(Form::UsingNamespace),
+        0x0400 | 0x0403 => Some(Form::ProcedureReference),
+        0x0401 => Some(Form::DataReference),
+        0x0209 => Some(Form::Label),
+        0x0207 => Some(Form::Block),
+        0x0206 => Some(Form::Thunk),
+        _ => None,
+    }
+}
+
+// Kinds from 0x1100 to 0x1113.
+#[inline]
+fn middle_form(kind: u16) -> Option<Form>
+    ensures { result ≡ row_in middle_rows kind }
+{
+    match kind {
+        0x1101 => Some(Form::ObjName),
+        0x1106 => Some(Form::RegisterVariable),
+        0x1107 => Some(Form::Constant),
+        0x1108 | 0x1109 => Some(Form::UserDefinedType),
+        0x110a => Some(Form::MultiRegisterVariable),
+        0x110c | 0x110d => Some(Form::Data),
+        0x110e => Some(Form::Public),
+        0x110f | 0x1110 => Some(Form::Procedure),
+        0x1112 | 0x1113 => Some(Form::ThreadStorage),
+        0x1105 => Some(Form::Label),
+        0x1103 => Some(Form::Block),
+        0x1111 => Some(Form::RegisterRelative),
+        0x1102 => Some(Form::Thunk),
+        _ => None,
+    }
+}
+
+// The others.
+#[inline]
+fn newer_form(kind: u16) -> Option<Form>
+    ensures { result ≡ row_in newer_rows kind }
+{
+    match kind {
+        0x112d => Some(Form::Constant),
+        0x1117 => Some(Form::MultiRegisterVariable),
+        0x111c | 0x111d => Some(Form::Data),
+        0x1146 | 0x1147 | 0x1155 | 0x1156 => Some(Form::Procedure),
+        0x1116 | 0x113c => Some(Form::CompileFlags),
+        0x1124 => Some(Form::UsingNamespace),
+        0x1125 | 0x1127 => Some(Form::ProcedureReference),
+        0x1126 => Some(Form::DataReference),
+        0x1128 => Some(Form::AnnotationReference),
+        0x112c => Some(Form::Trampoline),
+        0x1138 => Some(Form::Export),
+        0x113e => Some(Form::Local),
+        0x114c => Some(Form::BuildInfo),
+        0x114d | 0x115d => Some(Form::InlineSite),
+        0x114e => Some(Form::InlineSiteEnd),
+        0x114f => Some(Form::ProcedureEnd),
+        0x1132 => Some(Form::SeparatedCode),
+        _ => None,
+    }
 }
 
 // The form of the records of a kind.
@@ -20,12 +118,8 @@ pub(crate) fn form_of(kind: u16) -> Option<Form>
     ensures { result ≡ row kind }
 {
     match kind {
-        0x110e | 0x1009 => Some(Form::Public),
-        0x1108 | 0x1003 | 0x1109 | 0x1004 => Some(Form::UserDefinedType),
-        0x1125 | 0x0400 | 0x1127 | 0x0403 => Some(Form::ProcedureReference),
-        0x1107 | 0x1002 | 0x112d => Some(Form::Constant),
-        0x110c | 0x1007 | 0x110d | 0x1008 | 0x111c | 0x1020 | 0x111d | 0x1021 => Some(Form::Data),
-        0x1112 | 0x100e | 0x1113 | 0x100f => Some(Form::ThreadStorage),
-        _ => None,
+        0..0x1100 => older_form(kind),
+        0x1100..0x1114 => middle_form(kind),
+        _ => newer_form(kind),
     }
 }

@@ -1,12 +1,22 @@
 //! Laws of the definitions. Each is the contract of a function that does nothing.
 
-ghost use Rattle.std.specs.Prelude.{◌≡◌, ℕ, ◌-◌, ◌*◌, ◌≤◌, List, ◌∷◌, ◌++◌, length, Ok, Err};
+ghost use Rattle.std.specs.Prelude.{true, false, ◌≡◌, ℕ, ◌-◌, ◌*◌, ◌≤◌, List, ◌∷◌, ◌++◌, length, Ok, Err};
 ghost use Rattle.pdb_base.specs.Left.{Left};
 ghost use Rattle.pdb_base.specs.Tiling.{IsListing};
 ghost use Rattle.pdb_base.specs.declared.error.Error.{Error};
+ghost use Rattle.pdb_symbols.specs.declared.annotations.BinaryAnnotation.{BinaryAnnotation};
+ghost use Rattle.pdb_symbols.specs.Annotations.{annotations, annotations_of};
 ghost use Rattle.pdb_symbols.specs.Data.{Data};
-ghost use Rattle.pdb_symbols.specs.Forms.{Is, Refusal, record_at};
+ghost use Rattle.pdb_symbols.specs.Forms.{Is, Refusal, kind_at, record_at};
+ghost use Rattle.pdb_symbols.specs.Scopes.{starts_of, ends_of, StartsScope, EndsScope};
+ghost use Rattle.pdb_symbols.specs.Processors.{cpu_of, cpu_number};
+ghost use Rattle.pdb_symbols.specs.Languages.{language_of, language_number};
+ghost use Rattle.pdb_symbols.specs.declared.processor.CPUType.{CPUType};
+ghost use Rattle.pdb_symbols.specs.declared.language.SourceLanguage.{SourceLanguage};
 ghost use Rattle.pdb_symbols.specs.SymbolList.{Entry, symbols, symbols_from, StandsBehind};
+
+use crate::language::SourceLanguage;
+use crate::processor::CPUType;
 
 /// Bytes have one list of symbols from each place on, and it is the one that the contracts name.
 pub fn one_list_of_symbols()
@@ -39,3 +49,37 @@ pub fn reading_is_what_the_bytes_say()
     ensures reads { (b : List ℕ) (d : Data) → Is b d → record_at b ≡ Ok d }
     ensures refused { (b : List ℕ) (e : Error) → record_at b ≡ Err e → Refusal b e }
 {}
+
+/// Bytes have one list of annotations, and it is the one that the contracts name.
+pub fn one_list_of_annotations()
+    ensures is { (b : List ℕ) → IsListing annotations b 0 (annotations_of b) }
+    ensures only { (b : List ℕ) (left : Left BinaryAnnotation) → IsListing annotations b 0 left → left ≡ annotations_of b }
+{}
+
+/// A record that says a procedure, a block, a thunk, separated code or an inlined call is of a kind that starts a
+/// scope; the end of a scope, of a procedure or of an inlined call is of a kind that ends one; no kind does both.
+pub fn scopes_are_exclusive()
+    ensures starts { (b : List ℕ) (d : Data) → Is b d → StartsScope d → starts_of (kind_at b) ≡ true }
+    ensures ends { (b : List ℕ) (d : Data) → Is b d → EndsScope d → ends_of (kind_at b) ≡ true }
+    ensures exclusive { (kind : ℕ) → ends_of kind ≡ true → starts_of kind ≡ false }
+{}
+
+/// The number of each processor and of each language means that processor and that language.
+pub fn enum_numbers_round_trip()
+    ensures processors { (cpu : CPUType) → cpu_of (cpu_number cpu) ≡ cpu }
+    ensures languages { (language : SourceLanguage) → language_of (language_number language) ≡ language }
+{}
+
+/// The number of a processor, as the law on numbers has it: its discriminant.
+pub fn number_of_processor(cpu: CPUType) -> u16
+    ensures { result ≡ cpu_number cpu }
+{
+    cpu as u16
+}
+
+/// The number of a language, as the law on numbers has it: its discriminant.
+pub fn number_of_language(language: SourceLanguage) -> u8
+    ensures { result ≡ language_number language }
+{
+    language as u8
+}

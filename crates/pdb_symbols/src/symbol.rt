@@ -5,6 +5,7 @@ ghost use Rattle.pdb_base.specs.Fields.{number};
 
 use crate::data::SymbolData;
 use crate::parse::parse_record;
+use crate::scopes::{kind_ends_scope, kind_starts_scope};
 use pdb_base::{Result, SymbolIndex};
 use std::alloc::Global;
 use std::fmt;
@@ -31,10 +32,12 @@ pub struct Symbol<'t> {
 }
 
 impl<'t> Symbol<'t> {
-    ghost use Rattle.std.specs.Prelude.{◌≢◌, ◌↔◌, IfSome, IsSome, IfOk, IfErr, IsOkAnd, IsErrOf, ℕ};
+    ghost use Rattle.std.specs.Prelude.{◌↔◌, ◌⊎◌, IfSome, IsSome, IfOk, IfErr, IsOkAnd, IsErrOf, IsTrue, ℕ, [], ◌∷◌};
     ghost use Rattle.pdb_base.specs.declared.error.Error.{Error};
     ghost use Rattle.pdb_base.specs.Refusal.{Gives};
     ghost use Rattle.pdb_symbols.specs.Data.{Data, shown};
+    ghost use Rattle.pdb_symbols.specs.Kinds.{is_in};
+    ghost use Rattle.pdb_symbols.specs.Scopes.{starts_of, ends_of};
     ghost use Rattle.pdb_symbols.specs.Forms.{Is, IsUnlistedKind, IsUnlistedPrefix, Refusal, kind_at, record_at};
     ghost use Rattle.pdb_symbols.specs.Views.{symbol_of};
 
@@ -83,29 +86,47 @@ impl<'t> Symbol<'t> {
         self.bytes
     }
 
+    /// Whether records of the kind start a scope, which a later record ends.
+    #[inline]
+    pub fn starts_scope(&self) -> bool
+        ensures { result ≡ starts_of (kind_at (symbol_of self.now).bytes) }
+    {
+        kind_starts_scope(self.raw_kind())
+    }
+
+    /// Whether records of the kind end a scope.
+    #[inline]
+    pub fn ends_scope(&self) -> bool
+        ensures { result ≡ ends_of (kind_at (symbol_of self.now).bytes) }
+    {
+        kind_ends_scope(self.raw_kind())
+    }
+
     /// What the record says. Its kind picks the form; the fields stand in the form's order, and bytes behind the last
     /// field are free. A kind with no form is `UnimplementedSymbolKind`, a constant's value with a prefix that isn't
-    /// listed is `UnexpectedNumericPrefix`, and fields that aren't all there are `UnexpectedEof`. The forms of today
-    /// take no memory.
-    #[tactic(auto, using(crate::proofs::Clauses::reads_of, crate::proofs::Clauses::only_of, crate::proofs::Clauses::refused_of, crate::proofs::Clauses::memory_of))]
-    pub fn parse(&self, _alloc: Global) -> Result<SymbolData<'t>>
+    /// listed is `UnexpectedNumericPrefix`, and fields that aren't all there are `UnexpectedEof`. Variables in several
+    /// registers (kinds 0x110a, 0x1005, 0x1117 and 0x1014) take memory for their list and may be `OutOfMemory`; no
+    /// other kind takes any.
+    #[tactic(auto, using(crate::proofs::Clauses::reads_of, crate::proofs::Clauses::only_of))]
+    pub fn parse(&self, alloc: Global) -> Result<SymbolData<'t>>
         // The answer is a function of the bytes, want of memory aside.
         ensures reads { Gives shown ⊥ result (record_at (symbol_of self.now).bytes) }
         // What is answered is what the bytes say.
         ensures found { IfOk result (λ d. Is (symbol_of self.now).bytes (shown d)) }
-        // What the bytes say is answered.
-        ensures only { (d : Data) → Is (symbol_of self.now).bytes d → IsOkAnd result (λ s. shown s ≡ d) }
+        // What the bytes say is answered, want of memory aside.
+        ensures only { (d : Data) → Is (symbol_of self.now).bytes d → IsOkAnd result (λ s. shown s ≡ d) ⊎ IsErrOf result Error.OutOfMemory }
         // A kind with no row is refused as such.
         ensures kind { (k : ℕ) → IsErrOf result (Error.UnimplementedSymbolKind k)
             ↔ IsUnlistedKind (symbol_of self.now).bytes k }
         // So is a constant's prefix that is there and unlisted.
         ensures prefix { (n : ℕ) → IsErrOf result (Error.UnexpectedNumericPrefix n)
             ↔ IsUnlistedPrefix (symbol_of self.now).bytes n }
-        // Every other refusal is the end of the bytes: no form of today takes memory.
-        ensures refused { IfErr result (Refusal (symbol_of self.now).bytes) }
-        ensures memory { IfErr result (λ e. e ≢ Error.OutOfMemory) }
+        // Every other refusal is the end of the bytes, want of memory aside.
+        ensures refused { IfErr result (λ e. (e ≡ Error.OutOfMemory) ⊎ Refusal (symbol_of self.now).bytes e) }
+        // Memory is wanted for variables in several registers alone.
+        ensures memory { IfErr result (λ e. e ≡ Error.OutOfMemory → IsTrue (is_in (0x110a ∷ 0x1005 ∷ 0x1117 ∷ 0x1014 ∷ []) (kind_at (symbol_of self.now).bytes))) }
     {
-        parse_record(self.bytes)
+        parse_record(alloc, self.bytes)
     }
 }
 

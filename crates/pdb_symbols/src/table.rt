@@ -108,10 +108,10 @@ impl<'t> SymbolIter<'t> {
 }
 
 impl<'t> FallibleIterator for SymbolIter<'t> {
-    ghost use Rattle.std.specs.Prelude.{IfOk, IfErr, IfSome};
+    ghost use Rattle.std.specs.Prelude.{IfOk, IfErr, IfSome, IfNone};
     ghost use Rattle.pdb_base.specs.Left.{Yields};
     ghost use Rattle.pdb_symbols.specs.SymbolList.{Entry};
-    ghost use Rattle.pdb_symbols.specs.Views.{symbol_of, symbols_left, symbols_bytes, symbols_steps};
+    ghost use Rattle.pdb_symbols.specs.Views.{symbol_of, symbols_left, symbols_bytes, symbols_steps, SymbolsEnded};
 
     type Item = Symbol<'t>;
 
@@ -130,6 +130,11 @@ impl<'t> FallibleIterator for SymbolIter<'t> {
         ensures bound { symbols_steps self.new ≤ length (symbols_bytes self.new) + 1 }
         ensures stepped { IfOk result (λ o. IfSome o (λ _. symbols_steps self.old < symbols_steps self.new)) }
         ensures stepped_to_fault { IfErr result (λ _. symbols_steps self.old < symbols_steps self.new) }
+        // An iterator that has ended makes no step, and steps are never forgotten.
+        ensures rests { SymbolsEnded self.old → symbols_steps self.new ≡ symbols_steps self.old }
+        ensures grows { symbols_steps self.old ≤ symbols_steps self.new }
+        ensures ends { IfOk result (λ o. IfNone o (SymbolsEnded self.new)) }
+        ensures ends_at_fault { IfErr result (λ _. SymbolsEnded self.new) }
     {
         while !self.buffer.is_empty() {
             self.steps.tick();

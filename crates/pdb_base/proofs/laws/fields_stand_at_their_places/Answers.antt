@@ -1,4 +1,5 @@
 use Rattle.pdb_base.proofs.Places.{number_is, is_number, slice_is, is_slice, cstring_is, is_cstring, pascal_is, is_pascal}
+use Rattle.pdb_base.proofs.Variants.{signed_is, is_signed, variant_is, is_variant}
 use Rattle.pdb_base.proofs.laws.fields_stand_at_their_places.Goals as goal
 
 pub returns-clause-number : goal.returns-clause-number
@@ -12,3 +13,9 @@ returns-clause-cstring c b p s = (cstring_is b p s, is_cstring b p s)
 
 pub returns-clause-pascal : goal.returns-clause-pascal
 returns-clause-pascal c b p s = (pascal_is b p s, is_pascal b p s)
+
+pub returns-clause-signed : goal.returns-clause-signed
+returns-clause-signed c b p w n = (signed_is b p w n, is_signed b p w n)
+
+pub returns-clause-variant : goal.returns-clause-variant
+returns-clause-variant c b p v = (variant_is b p v, is_variant b p v)
