@@ -4,12 +4,13 @@ ghost use Rattle.std.specs.Prelude.{◌≡◌, ◌+◌, ◌-◌, ◌≤◌, [], 
 ghost use Rattle.pdb_modules.specs.KeptRows.{given_count, subsection_of};
 ghost use Rattle.pdb_modules.specs.LineOrder.{InOrder};
 
+use crate::files::{FileInfo, FileIterator, file_info};
 use crate::line_subsection::LineSubsection;
 use crate::lines::LineIterator;
 use crate::parts::ordered_parts;
 use crate::rows::{Row, add_part, most_rows};
 use crate::search::count_upto;
-use pdb_base::{Error, PdbInternalSectionOffset, Result, Steps};
+use pdb_base::{Error, FileIndex, PdbInternalSectionOffset, Result, Steps};
 use std::alloc::Global;
 use std::marker::Model;
 
@@ -92,7 +93,10 @@ fn list_part<'a>(
 impl<'a> LineProgram<'a> {
     ghost use Rattle.std.specs.Prelude.{ℕ, ◌<◌, ◌^◌, slice_index_or, sum_by};
     ghost use Rattle.pdb_modules.specs.LineOrder.{lines_for, part_for};
-    ghost use Rattle.pdb_base.specs.Refusal.{Gives};
+    ghost use Rattle.pdb_base.specs.Refusal.{Answers, Gives};
+    ghost use Rattle.pdb_modules.specs.Files.{files_of, file_at};
+    ghost use Rattle.pdb_modules.specs.FileViews.{shown_file};
+    ghost use Rattle.pdb_modules.specs.ModuleViews.{files_left, files_part, files_steps};
     ghost use Rattle.pdb_modules.specs.LineProgram.{part_bytes, program_of};
     ghost use Rattle.pdb_modules.specs.Lines.{Subsection, lines_of};
     ghost use Rattle.pdb_modules.specs.LineViews.{lines_left, lines_part, lines_steps};
@@ -203,5 +207,23 @@ impl<'a> LineProgram<'a> {
         ensures begins { lines_steps result ≡ 0 }
     {
         self.lines_for_symbol_counted(offset, &mut Steps::new())
+    }
+
+    /// The module's files, in the order of their checksums.
+    pub fn files(&self) -> FileIterator<'a>
+        ensures left { files_left result ≡ files_of self.now.checksums }
+        ensures part { files_part result ≡ self.now.checksums }
+        ensures steps { files_steps result ≡ 0 }
+    {
+        FileIterator::new(self.checksums)
+    }
+
+    /// The file of an index, which a line record names. Where the index is the checksums' end it is
+    /// `InvalidFileChecksumOffset`; where it is past it, or its record isn't all there, `UnexpectedEof`; and a kind
+    /// of checksum above 3 is `UnimplementedFileChecksumKind`.
+    pub fn get_file_info(&self, index: FileIndex) -> Result<FileInfo<'a>>
+        ensures { Answers shown_file result (file_at self.now.checksums index.0) }
+    {
+        file_info(self.checksums, index.0)
     }
 }

@@ -1,12 +1,15 @@
 //! Lists of line records.
 
-ghost use Rattle.std.specs.Prelude.{◌+◌, ◌≤◌, ◌<◌, length, IsSome};
+ghost use Rattle.std.specs.Prelude.{◌≡◌, ◌+◌, ◌≤◌, ◌<◌, length, IsSome, ⊤};
 
 use crate::line_info::LineInfo;
 use crate::rows::Row;
 use pdb_base::{Error, FallibleIterator, Result, Steps};
+use std::alloc::AllocError;
 
-/// Line records, in their order.
+/// Line records, in the order of their subsections. Where a block is damaged, the last record before it isn't given;
+/// its fault comes in that record's place, and then the list has ended. It is `UnexpectedEof` where the block isn't
+/// all there, and `InvalidStreamLength(LinesBlock)` where its size is below 12 or its entries don't fit.
 #[derive(Drop)]
 pub struct LineIterator<'a> {
     pub(crate) rows: &'a [Row],
@@ -22,7 +25,7 @@ pub struct LineIterator<'a> {
 }
 
 impl<'a> LineIterator<'a> {
-    ghost use Rattle.std.specs.Prelude.{◌≡◌, map};
+    ghost use Rattle.std.specs.Prelude.{map};
     ghost use Rattle.pdb_modules.specs.KeptRows.{view_of};
     ghost use Rattle.pdb_modules.specs.LineViews.{lines_left, lines_part, lines_steps};
 
@@ -68,7 +71,8 @@ impl<'a> FallibleIterator for LineIterator<'a> {
         ensures part { lines_part self.new ≡ lines_part self.old }
         ensures bound { lines_steps self.new ≤ length (lines_part self.new) + 1 }
         ensures stepped { lines_steps self.new ≤ lines_steps self.old + 1 }
-        ensures ended { IfOk result (λ o. IfNone o (lines_steps self.new ≡ lines_steps self.old)) }
+        ensures grows { lines_steps self.old ≤ lines_steps self.new }
+        ensures rests { IfOk result (λ o. IfNone o (lines_steps self.new ≡ lines_steps self.old)) }
     {
         if self.rows.is_empty() {
             return match self.fault {
@@ -85,5 +89,37 @@ impl<'a> FallibleIterator for LineIterator<'a> {
         self.rows = rest;
         self.steps.tick();
         Ok(Some(record))
+    }
+}
+
+/// The same records, and the same steps so far.
+impl Clone for LineIterator<'_> {
+    ghost use Rattle.pdb_modules.specs.LineViews.{lines_left, lines_part, lines_steps};
+
+    ghost is_clone = { λ a b. (lines_left b ≡ lines_left a) × (lines_part b ≡ lines_part a) × (lines_steps b ≡ lines_steps a) };
+
+    ghost is_infallible = { λ _. ⊤ };
+
+    fn clone(&self) -> std::result::Result<Self, AllocError> {
+        Ok(LineIterator {
+            rows: self.rows,
+            is_own: self.is_own,
+            fault: self.fault,
+            steps: self.steps.clone()?,
+            part: self.part,
+        })
+    }
+}
+
+/// No records.
+impl Default for LineIterator<'_> {
+    ghost use Rattle.std.specs.Prelude.{[]};
+    ghost use Rattle.pdb_base.specs.Left.{ended};
+    ghost use Rattle.pdb_modules.specs.LineViews.{lines_left, lines_part, lines_steps};
+
+    ghost is_default = { λ it. (lines_left it ≡ ended) × (lines_part it ≡ []) × (lines_steps it ≡ 0) };
+
+    fn default() -> Self {
+        LineIterator::new(&[], false, None, &[])
     }
 }
