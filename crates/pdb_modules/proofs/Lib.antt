@@ -11,6 +11,9 @@ pub mod Chosen
 pub mod Sorting
 pub mod BlockLemmas
 pub mod Turns
+pub mod InlineeLemmas
+pub mod ImportLemmas
+pub mod ExportLemmas
 pub mod FileLemmas
 pub mod Refusals
 pub mod SubsectionLemmas

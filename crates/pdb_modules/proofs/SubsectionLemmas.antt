@@ -3,7 +3,7 @@ use Rattle.std.proofs.Common.{◌≡◌, ℕ, ◌+◌, ◌<◌, ◌≤◌, Bool,
 use Rattle.std.specs.List.{find}
 use Rattle.std.proofs.lemmas.Bool.{eq-eqb, ne_eqb}
 use Rattle.pdb_base.specs.declared.error.Error.{Error}
-use Rattle.pdb_base.specs.declared.error.Error.TheVariants.{UnimplementedDebugSubsection}
+use Rattle.pdb_base.specs.declared.error.Error.TheVariants.{UnimplementedDebugSubsection, IoError}
 use Rattle.pdb_base.specs.Cursor.{Cursor, Reads}
 use Rattle.pdb_base.specs.Fields.{number_at, bytes_at}
 use Rattle.pdb_base.specs.Left.{Follows}
@@ -44,6 +44,10 @@ piece_not_io b p =
     not_io_then (number_at b (p + 4) 4) (λ size. bytes_at b (p + 8) size >>= λ body. piece_of kind body) (number_not_io b (p + 4) 4) (λ size.
     not_io_then (bytes_at b (p + 8) size) (λ body. piece_of kind body) (bytes_not_io b (p + 8) size) (λ body.
     kind_not_io (is_known kind) kind (record { kind = kind; body = body }))))
+
+-- a refused subsection doesn't tell that a source failed
+pub piece_error : (b : List ℕ) (p : ℕ) (e : Error) → piece_at b p ≡ Err e → e ≡ IoError → ⊥
+piece_error b p e is io = subst (λ (d : Error). NotIo (let r : Result PieceBytes Error = Err d in r)) io (subst (λ (r : Result PieceBytes Error). NotIo r) is (piece_not_io b p))
 
 module _ (kind : ℕ) (b : List ℕ) where
   -- none of the kind stands before a place

@@ -10,8 +10,8 @@ use Rattle.pdb_symbols.specs.AnnotationViews.{annotations_left, annotations_byte
 abbrev pub inlined_left : InlineeLineIterator → Left LineInfo
 inlined_left it = lines_left it.lines.section it.lines.seen it.lines.pending (annotations_left it.annotations)
 
-abbrev pub inlined_bytes : InlineeLineIterator → List ℕ
-inlined_bytes it = annotations_bytes it.annotations
+abbrev pub inlined_part : InlineeLineIterator → List ℕ
+inlined_part it = annotations_bytes it.annotations
 
 abbrev pub inlined_steps : InlineeLineIterator → ℕ
 inlined_steps it = it.steps.count

@@ -14,5 +14,9 @@ pub mod InlinedViews
 pub mod InlinedSums
 pub mod Files
 pub mod FileViews
+pub mod CrossModule
+pub mod ExportViews
+pub mod ImportViews
+pub mod Inlinees
 pub mod ModuleViews
 pub mod ModuleStream

@@ -5,10 +5,12 @@ use Rattle.pdb_base.specs.declared.error.Error.TheVariants.{UnimplementedFeature
 use Rattle.pdb_base.specs.declared.error.Feature.TheVariants.{SymbolDataFormat, C11LinePrograms}
 use Rattle.pdb_base.specs.Refusal.{◌>>=◌}
 use Rattle.pdb_base.specs.Fields.{number_at, bytes_at}
-use Rattle.pdb_base.specs.Left.{Left}
+use Rattle.pdb_base.specs.Left.{Left, ended}
 use Rattle.pdb_symbols.specs.SymbolList.{Entry, symbols_from}
 use Rattle.pdb_modules.specs.LineProgram.{ProgramOf, program_of}
 use Rattle.pdb_modules.specs.Subsections.{first_part}
+use Rattle.pdb_modules.specs.Inlinees.{InlineeEntry, inlinees_in}
+use Rattle.pdb_modules.specs.CrossModule.{ImportedModule, imports_in, exports_in}
 
 -- a module's stream: its bytes, and the sizes of its parts
 pub record ModuleBytes : Type 0 where
@@ -48,3 +50,19 @@ line_program_of m = if nat_lt 0 m.lines_size then Err (UnimplementedFeature C11L
 -- the first part of a kind, if there is one; none where the lines are of the older form
 unfoldable pub part_of_kind : ℕ → ModuleBytes → Result (Option (List ℕ)) Error
 part_of_kind kind m = if nat_lt 0 m.lines_size then Ok None else lines_data_of m >>= first_part kind
+
+-- ---- what the first part of a kind holds; nothing where there is no such part
+
+-- what is read of a part, or what there is where none is
+abbrev pub in_part : {A : Type 0} → A → (List ℕ → Result A Error) → Option (List ℕ) → Result A Error
+in_part nothing read None = Ok nothing
+in_part nothing read (Some part) = read part
+
+unfoldable pub inlinees_of : ModuleBytes → Result (Left InlineeEntry) Error
+inlinees_of m = part_of_kind 0xf6 m >>= in_part ended inlinees_in
+
+unfoldable pub imports_of : ModuleBytes → Result (List ImportedModule) Error
+imports_of m = part_of_kind 0xf7 m >>= in_part [] imports_in
+
+unfoldable pub exports_of : ModuleBytes → Result (List (ℕ × ℕ)) Error
+exports_of m = part_of_kind 0xf8 m >>= in_part [] exports_in

@@ -8,43 +8,9 @@ ghost use Rattle.pdb_symbols.specs.AnnotationViews.{annotation_bytes, annotation
 use crate::line_info::LineInfo;
 use crate::pending::Lines;
 use crate::seen::Seen;
-use pdb_base::{FallibleIterator, FileIndex, IdIndex, PdbInternalSectionOffset, Result, Steps};
+use pdb_base::{FallibleIterator, FileIndex, PdbInternalSectionOffset, Result, Steps};
 use pdb_symbols::{BinaryAnnotations, BinaryAnnotationsIter};
 use std::alloc::AllocError;
-
-/// A function that is inlined in places: where its source stands.
-#[derive(Clone, Copy, Debug)]
-pub struct Inlinee {
-    pub index: IdIndex,
-    pub file_index: FileIndex,
-    pub line: u32,
-}
-
-impl Inlinee {
-    ghost use Rattle.pdb_modules.specs.InlinedViews.{inlined_left, inlined_bytes, inlined_steps};
-
-    /// The line records of an inline site of this function, in the procedure that begins at `parent`.
-    #[tactic(auto, using(pdb_base::proofs::Tilings::few))]
-    pub fn lines<'a>(
-        &self,
-        parent: PdbInternalSectionOffset,
-        annotations: BinaryAnnotations<'a>,
-    ) -> InlineeLineIterator<'a>
-        ensures left { inlined_left result ≡ inlined_lines parent self.now.file_index self.now.line (annotation_bytes annotations.entry) }
-        ensures bytes { inlined_bytes result ≡ annotation_bytes annotations.entry }
-        ensures steps { inlined_steps result ≡ 0 }
-    {
-        InlineeLineIterator {
-            annotations: annotations.iter(),
-            lines: Lines {
-                section: parent.section,
-                seen: Seen::new(parent.offset, self.file_index, self.line),
-                pending: None,
-            },
-            steps: Steps::new(),
-        }
-    }
-}
 
 /// The line records of an inline site, in the order of its annotations. Where the annotations have a fault, the last
 /// record before it isn't given, and after the fault the list has ended.
@@ -57,11 +23,38 @@ pub struct InlineeLineIterator<'a> {
     ghost room: { length (annotations_left annotations).items + option_len lines.pending ≤ length (annotations_bytes annotations) },
 }
 
+impl<'a> InlineeLineIterator<'a> {
+    ghost use Rattle.pdb_modules.specs.InlinedViews.{inlined_left, inlined_part, inlined_steps};
+
+    // The records of a function that begins in this file and line, inlined in the procedure that begins at `parent`.
+    #[tactic(auto, using(pdb_base::proofs::Tilings::few))]
+    pub(crate) fn new(
+        parent: PdbInternalSectionOffset,
+        file_index: FileIndex,
+        line: u32,
+        annotations: BinaryAnnotations<'a>,
+    ) -> Self
+        ensures left { inlined_left result ≡ inlined_lines parent file_index line (annotation_bytes annotations.entry) }
+        ensures part { inlined_part result ≡ annotation_bytes annotations.entry }
+        ensures steps { inlined_steps result ≡ 0 }
+    {
+        InlineeLineIterator {
+            annotations: annotations.iter(),
+            lines: Lines {
+                section: parent.section,
+                seen: Seen::new(parent.offset, file_index, line),
+                pending: None,
+            },
+            steps: Steps::new(),
+        }
+    }
+}
+
 impl<'a> FallibleIterator for InlineeLineIterator<'a> {
     ghost use Rattle.std.specs.Prelude.{IfOk, IfErr, IfSome};
     ghost use Rattle.pdb_base.specs.Left.{Yields};
     ghost use Rattle.pdb_modules.specs.declared.line_info.LineInfo.{LineInfo};
-    ghost use Rattle.pdb_modules.specs.InlinedViews.{inlined_left, inlined_bytes, inlined_steps};
+    ghost use Rattle.pdb_modules.specs.InlinedViews.{inlined_left, inlined_part, inlined_steps};
 
     type Item = LineInfo;
 
@@ -75,10 +68,10 @@ impl<'a> FallibleIterator for InlineeLineIterator<'a> {
     fn next(&mut self) -> Result<Option<LineInfo>>
         ensures yields { Yields (λ l. l) (inlined_left self.old) result (inlined_left self.new) }
         ensures few { length (inlined_left self.old).items < 2 ^ 64 }
-        ensures bytes { inlined_bytes self.new ≡ inlined_bytes self.old }
+        ensures part { inlined_part self.new ≡ inlined_part self.old }
         // A step is a turn that reads an annotation or meets the fault.
-        ensures bound { inlined_steps self.new ≤ length (inlined_bytes self.new) + 1 }
-        ensures stepped { inlined_steps self.old ≤ inlined_steps self.new }
+        ensures bound { inlined_steps self.new ≤ length (inlined_part self.new) + 1 }
+        ensures grows { inlined_steps self.old ≤ inlined_steps self.new }
         ensures stepped_to_fault { IfErr result (λ _. inlined_steps self.old < inlined_steps self.new) }
     {
         loop {
@@ -103,11 +96,11 @@ impl<'a> FallibleIterator for InlineeLineIterator<'a> {
 }
 
 impl Default for InlineeLineIterator<'_> {
-    ghost use Rattle.pdb_modules.specs.InlinedViews.{inlined_left, inlined_bytes, inlined_steps};
+    ghost use Rattle.pdb_modules.specs.InlinedViews.{inlined_left, inlined_part, inlined_steps};
     ghost use Rattle.std.specs.Prelude.{[]};
     ghost use Rattle.pdb_base.specs.Left.{ended};
 
-    ghost is_default = { λ it. (inlined_left it ≡ ended) × (inlined_bytes it ≡ []) × (inlined_steps it ≡ 0) };
+    ghost is_default = { λ it. (inlined_left it ≡ ended) × (inlined_part it ≡ []) × (inlined_steps it ≡ 0) };
 
     #[tactic(auto, using(crate::proofs::InlinedSteps::nothing_left))]
     fn default() -> Self {
@@ -124,9 +117,9 @@ impl Default for InlineeLineIterator<'_> {
 }
 
 impl Clone for InlineeLineIterator<'_> {
-    ghost use Rattle.pdb_modules.specs.InlinedViews.{inlined_left, inlined_bytes, inlined_steps};
+    ghost use Rattle.pdb_modules.specs.InlinedViews.{inlined_left, inlined_part, inlined_steps};
 
-    ghost is_clone = { λ a b. (inlined_left b ≡ inlined_left a) × (inlined_bytes b ≡ inlined_bytes a) × (inlined_steps b ≡ inlined_steps a) };
+    ghost is_clone = { λ a b. (inlined_left b ≡ inlined_left a) × (inlined_part b ≡ inlined_part a) × (inlined_steps b ≡ inlined_steps a) };
 
     ghost is_infallible = { λ _. ⊤ };
 

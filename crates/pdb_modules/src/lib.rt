@@ -3,8 +3,11 @@
 #![tactic(auto)]
 
 mod blocks;
+mod exports;
 mod files;
+mod imports;
 mod inlined_lines;
+mod inlinees;
 pub mod laws;
 mod line;
 mod line_info;
@@ -21,8 +24,11 @@ mod seen;
 mod sort;
 mod subsections;
 
+pub use exports::{CrossModuleExport, CrossModuleExportIter, CrossModuleExports};
 pub use files::{FileChecksum, FileInfo, FileIterator};
-pub use inlined_lines::{Inlinee, InlineeLineIterator};
+pub use imports::{CrossModuleImports, CrossModuleRef, ModuleRef};
+pub use inlined_lines::InlineeLineIterator;
+pub use inlinees::{Inlinee, InlineeIterator};
 pub use line_info::{LineInfo, LineInfoKind};
 pub use line_program::LineProgram;
 pub use lines::LineIterator;

@@ -1,14 +1,18 @@
 //! The stream of a module.
 
-ghost use Rattle.std.specs.Prelude.{◌≡◌, ◌≤◌, length, Ok, IfOk, IfErr};
+ghost use Rattle.std.specs.Prelude.{◌≡◌, ◌≢◌, ◌≤◌, length, Ok, IfOk, IfErr};
 ghost use Rattle.pdb_base.specs.Refusal.{Answers, Gives};
 ghost use Rattle.pdb_base.specs.Fields.{bytes_at};
 ghost use Rattle.pdb_symbols.specs.Views.{symbols_left, symbols_bytes, symbols_steps};
-ghost use Rattle.pdb_modules.specs.ModuleStream.{checked_part, symbols_part_of, symbols_of, symbols_at_of, lines_data_of, line_program_of, part_of_kind};
+ghost use Rattle.pdb_modules.specs.ModuleStream.{checked_part, symbols_part_of, symbols_of, symbols_at_of, lines_data_of, line_program_of, part_of_kind, inlinees_of, imports_of, exports_of};
+ghost use Rattle.pdb_modules.specs.ModuleViews.{inlinees_left, inlinees_steps};
 ghost use Rattle.pdb_modules.specs.SubsectionViews.{seen_part};
 
+use crate::exports::CrossModuleExports;
+use crate::imports::CrossModuleImports;
+use crate::inlinees::InlineeIterator;
 use crate::line_program::LineProgram;
-use crate::subsections::first_of_kind;
+use crate::subsections::{EXPORTS, IMPORTS, INLINEE_LINES, first_of_kind};
 use pdb_base::{Error, Feature, ParseBuffer, Result, Stream, SymbolIndex};
 use pdb_dbi::Module;
 use pdb_symbols::SymbolIter;
@@ -130,7 +134,8 @@ impl<'s> ModuleInfo<'s> {
     // The first part of a kind among the subsections, if there is one.
     #[tactic(auto, unfolding(crate::specs::ModuleStream::part_of_kind))]
     fn part_of_kind(&self, kind: u32) -> Result<Option<&[u8]>>
-        ensures { Answers seen_part result (part_of_kind kind self.now) }
+        ensures part { Answers seen_part result (part_of_kind kind self.now) }
+        ensures refused { IfErr result (λ e. e ≢ Error.IoError) }
     {
         if self.lines_size > 0 {
             return Ok(None);
@@ -151,5 +156,45 @@ impl<'s> ModuleInfo<'s> {
             return Err(Error::UnimplementedFeature(Feature::C11LinePrograms));
         }
         LineProgram::parse(alloc, self.lines_data()?)
+    }
+
+    /// The module's inlined functions. It is `UnexpectedEof` where the lines data isn't all there, or its first part
+    /// of inlined functions is shorter than four bytes; and where no such part stands before a subsection that isn't
+    /// all there or of a kind that isn't known, that subsection's refusal. There are none where the module has lines
+    /// of the older form.
+    #[tactic(auto, unfolding(crate::specs::ModuleStream::inlinees_of))]
+    pub fn inlinees(&self) -> Result<InlineeIterator<'_>>
+        ensures left { Answers inlinees_left result (inlinees_of self.now) }
+        ensures steps { IfOk result (λ it. inlinees_steps it ≡ 0) }
+    {
+        match self.part_of_kind(INLINEE_LINES)? {
+            Some(part) => InlineeIterator::parse(part),
+            None => Ok(InlineeIterator::default()),
+        }
+    }
+
+    /// What the module imports from others, by its first part of imports. It is refused as `inlinees` is, where that
+    /// part isn't whole (`UnexpectedEof`), and for want of memory.
+    #[tactic(auto, unfolding(crate::specs::ModuleStream::imports_of))]
+    pub fn imports(&self, alloc: Global) -> Result<CrossModuleImports<'_>>
+        ensures { Gives (λ x. x) ⊥ result (imports_of self.now) }
+    {
+        match self.part_of_kind(IMPORTS)? {
+            Some(part) => CrossModuleImports::parse(alloc, part),
+            None => Ok(CrossModuleImports::empty(alloc)),
+        }
+    }
+
+    /// What the module exports to others, by its first part of exports. It is refused as `inlinees` is, with
+    /// `InvalidStreamLength(CrossScopeExports)` where that part's size is no multiple of eight, and for want of
+    /// memory.
+    #[tactic(auto, unfolding(crate::specs::ModuleStream::exports_of))]
+    pub fn exports(&self, alloc: Global) -> Result<CrossModuleExports>
+        ensures { Gives (λ x. x) ⊥ result (exports_of self.now) }
+    {
+        match self.part_of_kind(EXPORTS)? {
+            Some(part) => CrossModuleExports::parse(alloc, part),
+            None => Ok(CrossModuleExports::empty(alloc)),
+        }
     }
 }

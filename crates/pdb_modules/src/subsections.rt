@@ -1,6 +1,6 @@
 //! The subsections of a module's lines data.
 
-ghost use Rattle.std.specs.Prelude.{◌≡◌, ◌+◌, ◌≤◌, length, IfOk};
+ghost use Rattle.std.specs.Prelude.{◌≡◌, ◌≢◌, IfErr};
 ghost use Rattle.pdb_base.specs.Cursor.{Reads};
 ghost use Rattle.pdb_base.specs.Refusal.{Answers};
 ghost use Rattle.pdb_modules.specs.Subsections.{is_known, first_part, piece_at, piece_length};
@@ -49,7 +49,8 @@ pub(crate) fn read_piece<'a>(buffer: &mut ParseBuffer<'a>) -> Result<Piece<'a>>
 
 /// The bytes of the first subsection of a kind, if there is one. A fault behind it isn't met.
 pub(crate) fn first_of_kind(lines_data: &[u8], kind: u32) -> Result<Option<&[u8]>>
-    ensures { Answers seen_part result (first_part kind lines_data.entry.now) }
+    ensures part { Answers seen_part result (first_part kind lines_data.entry.now) }
+    ensures refused { IfErr result (λ e. e ≢ Error.IoError) }
 {
     let mut buffer = ParseBuffer::from(lines_data);
     while !buffer.is_empty() {
