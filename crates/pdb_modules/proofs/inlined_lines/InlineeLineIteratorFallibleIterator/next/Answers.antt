@@ -1,0 +1,51 @@
+use Rattle.std.proofs.Common.{Some, Ok, Err, length, arith, rules, ap, ◌∙◌}
+use Rattle.pdb_symbols.specs.AnnotationViews.{annotations_left}
+use Rattle.pdb_modules.proofs.InlinedSteps.{turn_gives, turn_opens, turn_passes, taken_turn, fault_turn, yields_from, lines_few}
+use Rattle.pdb_modules.proofs.inlined_lines.InlineeLineIteratorFallibleIterator.next.Goals as goal
+
+pub returns-in-Some-emit-clause-yields : goal.returns-in-Some-emit-clause-yields
+returns-in-Some-emit-clause-yields c =
+    let read = rw c.in-Ok-Some.field-0-is at c.in-Ok-Some.ensures.yields in
+    let taken = c.take_in.ensures in
+    yields_from _ _ _ (Ok (Some c.in-Some-emit.line)) c.loop-annotation.invariant.left
+    (turn_gives c.loop-annotation.self.lines c.take_in.new.self c.in-Ok-Some.annotation _ _ c.take_in.result read taken.section taken.seen taken.quiet taken.emits
+    c.emit.new.self c.in-Some.length c.emit.result c.in-Some.is c.emit.ensures.gives c.emit.ensures.pending c.in-Some-emit.line c.in-Some-emit.is)
+
+pub returns-in-Some-emit-clause-few : goal.returns-in-Some-emit-clause-few
+returns-in-Some-emit-clause-few c =
+    let before = c.args.self.now in
+    let few = lines_few before.lines.section before.lines.seen before.lines.pending (annotations_left before.annotations) in
+    let same = ap length (c.in-Ok-Some.ensures.bytes ∙ c.loop-annotation.invariant.bytes) in
+    omega (arith, few, before.room, same, c.in-Ok-Some.ensures.small)
+
+pub loop-annotation-preserved-in_default-emit : goal.loop-annotation-preserved-in_default-emit
+loop-annotation-preserved-in_default-emit c =
+    let read = rw c.in-Ok-Some.field-0-is at c.in-Ok-Some.ensures.yields in
+    let taken = c.take_in.ensures in
+    record {
+      left = c.loop-annotation.invariant.left ∙ turn_opens c.loop-annotation.self.lines c.take_in.new.self c.in-Ok-Some.annotation _ _ c.take_in.result read taken.section taken.seen taken.quiet taken.emits
+          c.emit.new.self c.in-Some.length c.emit.result c.in-Some.is c.emit.ensures.gives c.emit.ensures.pending (search rules);
+      bytes = search rules;
+      steps = omega (arith, c.loop-annotation.invariant.steps, c.tick.ensures);
+    }
+
+pub loop-annotation-preserved : goal.loop-annotation-preserved
+loop-annotation-preserved c =
+    let read = rw c.in-Ok-Some.field-0-is at c.in-Ok-Some.ensures.yields in
+    let taken = c.take_in.ensures in
+    record {
+      left = c.loop-annotation.invariant.left ∙ turn_passes c.loop-annotation.self.lines c.take_in.new.self c.in-Ok-Some.annotation _ _ c.take_in.result read taken.section taken.seen taken.quiet taken.emits (search rules);
+      bytes = search rules;
+      steps = omega (arith, c.loop-annotation.invariant.steps, c.tick.ensures);
+    }
+
+pub returns-in-Ok-None-clause-yields : goal.returns-in-Ok-None-clause-yields
+returns-in-Ok-None-clause-yields c =
+    let read = rw c.in-Ok-None.field-0-is at c.in-Ok-None.ensures.yields in
+    yields_from _ _ _ (Ok c.take.result) c.loop-annotation.invariant.left
+    (taken_turn c.loop-annotation.self.lines.section c.loop-annotation.self.lines.seen _ _ c.loop-annotation.self.lines.pending c.take.result c.take.new.self c.take.ensures.value c.take.ensures.after read)
+
+pub returns-in-Err-clause-yields : goal.returns-in-Err-clause-yields
+returns-in-Err-clause-yields c =
+    yields_from _ _ _ (Err c.in-Err.error) c.loop-annotation.invariant.left
+    (fault_turn c.loop-annotation.self.lines.section c.loop-annotation.self.lines.seen _ _ c.loop-annotation.self.lines.pending c.in-Err.error c.in-Err.ensures.yields)

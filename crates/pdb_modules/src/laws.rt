@@ -1,0 +1,51 @@
+//! Laws of the definitions.
+
+ghost use Rattle.std.specs.Prelude.{◌≡◌, ℕ, suc, ◌+◌, ◌%◌, ◌^◌, ◌<◌, ◌++◌, List, take, Some, None};
+ghost use Rattle.std.specs.List.{sum_by};
+ghost use Rattle.pdb_symbols.specs.declared.annotations.BinaryAnnotation.{BinaryAnnotation};
+ghost use Rattle.pdb_modules.specs.declared.seen.Seen.{Seen};
+ghost use Rattle.pdb_modules.specs.Inlined.{seen, latest, since, sets_offset, sets_base, record_at};
+ghost use Rattle.pdb_modules.specs.InlinedSums.{adds_offset, adds_line};
+ghost use Rattle.pdb_base.specs.declared.index.PdbInternalSectionOffset.{PdbInternalSectionOffset};
+ghost use Rattle.pdb_modules.specs.declared.line_info.LineInfo.{LineInfo};
+ghost use Rattle.pdb_modules.specs.Lines.{Mark, Subsection, AreRecords, records, lines_of};
+ghost use Rattle.pdb_modules.specs.KeptRows.{StandAmong};
+ghost use Rattle.pdb_modules.specs.LineOrder.{IsOrdering, ordered, IsLastUpto, last_upto, lines_for};
+
+/// The records of marks are those whose lengths are the least forward distances, and no others are.
+pub fn records_reach_the_nearest_mark()
+    ensures are { (ms : List Mark) → AreRecords ms (records ms) }
+    ensures only { (ms : List Mark) (rs : List LineInfo) → AreRecords ms rs → rs ≡ records ms }
+{}
+
+/// There is one order of subsections by section and offset in which those at one place stand as in the file.
+pub fn subsections_have_one_order()
+    ensures is { (ss : List Subsection) → IsOrdering ss (ordered ss) }
+    ensures only { (xs ys : List Subsection) → IsOrdering xs ys → ys ≡ ordered xs }
+{}
+
+/// The last subsection at or before a place is the one that is chosen.
+pub fn the_last_is_chosen()
+    ensures { (q : PdbInternalSectionOffset) (ss : List Subsection) (k : ℕ) (s : Subsection) → IsLastUpto q ss k s → last_upto q ss ≡ Some s }
+{}
+
+/// Where neither list has a fault, the records for a symbol stand one after the other among all records, the same but
+/// for the last one's length, which among all is there where the other is, and then at most it.
+pub fn records_of_a_symbol_stand_in_lines()
+    ensures { (q : PdbInternalSectionOffset) (ss : List Subsection) → (lines_of ss).fault ≡ None → (lines_for q ss).fault ≡ None
+        → StandAmong (lines_for q ss).items (lines_of ss).items }
+{}
+
+/// A record of an inline site stands at the last base plus the last code offset that was set plus all that moved it
+/// since, modulo 2^32; and in the line that was seen at first plus all line deltas, modulo 2^32.
+pub fn inlined_records_stand_at_sums()
+    ensures offset { (section : ℕ) (s : Seen) (xs : List BinaryAnnotation) (i : ℕ) → (record_at section s xs i).offset.offset
+        ≡ (latest sets_base s.base (take (suc i) xs) + latest sets_offset s.offset (take (suc i) xs) + sum_by adds_offset (since sets_offset (take (suc i) xs))) % 2 ^ 32 }
+    ensures line { (section : ℕ) (s : Seen) (xs : List BinaryAnnotation) (i : ℕ) → s.line < 2 ^ 32 → (record_at section s xs i).line_start
+        ≡ (s.line + sum_by adds_line (take (suc i) xs)) % 2 ^ 32 }
+{}
+
+/// What is seen behind some annotations and then some more is what is seen behind them all.
+pub fn what_is_seen_goes_on()
+    ensures { (s : Seen) (xs ys : List BinaryAnnotation) → seen (seen s xs) ys ≡ seen s (xs ++ ys) }
+{}

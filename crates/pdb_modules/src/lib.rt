@@ -1,0 +1,35 @@
+//! The streams of modules in Microsoft's program database (PDB) files: a module's symbols, its line records, the
+//! files that they name, its inlined functions, and what it imports from other modules and exports to them.
+#![tactic(auto)]
+
+mod blocks;
+mod exports;
+mod files;
+mod imports;
+mod inlined_lines;
+mod inlinees;
+pub mod laws;
+mod line;
+mod line_info;
+mod line_program;
+mod line_subsection;
+mod lines;
+mod module_info;
+mod numbers;
+mod parts;
+mod pending;
+mod rows;
+mod search;
+mod seen;
+mod sort;
+mod subsections;
+
+pub use exports::{CrossModuleExport, CrossModuleExportIter, CrossModuleExports};
+pub use files::{FileChecksum, FileInfo, FileIterator};
+pub use imports::{CrossModuleImports, CrossModuleRef, ModuleRef};
+pub use inlined_lines::InlineeLineIterator;
+pub use inlinees::{Inlinee, InlineeIterator};
+pub use line_info::{LineInfo, LineInfoKind};
+pub use line_program::LineProgram;
+pub use lines::LineIterator;
+pub use module_info::ModuleInfo;
