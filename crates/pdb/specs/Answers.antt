@@ -1,6 +1,7 @@
 -- What each accessor answers for a file: a function of the file and of the call's arguments, whatever was called before.
 use Rattle.std.specs.Prelude.{◌≡◌, ℕ, List, [], ◌∷◌, Option, Some, None, Result, Ok, Err, ◌==◌, if◌then◌else◌, codes}
-use Rattle.std.specs.Option.{unwrap_or}
+use Rattle.std.specs.Option.{unwrap_or, option_map}
+use Rattle.std.specs.List.{slice_get}
 use Rattle.pdb_base.specs.declared.error.Error.{Error}
 use Rattle.pdb_base.specs.declared.error.Error.TheVariants.{GlobalSymbolsNotFound, StreamNameNotFound, AddressMapNotFound}
 use Rattle.pdb_base.specs.declared.section_header.ImageSectionHeader.{ImageSectionHeader}
@@ -18,6 +19,9 @@ use Rattle.pdb_dbi.specs.Names.{Name, names_of}
 use Rattle.pdb_dbi.specs.Header.{header_in, debug_information_of}
 use Rattle.pdb_dbi.specs.declared.extra_streams.DBIExtraStreams.{DBIExtraStreams}
 use Rattle.pdb_dbi.specs.ExtraStreams.{extra_streams_in}
+use Rattle.pdb_dbi.specs.Modules.{ModuleEntry, modules_in}
+use Rattle.pdb_base.specs.Left.{Left}
+use Rattle.pdb_modules.specs.ModuleStream.{ModuleBytes}
 use Rattle.pdb.specs.Tables.{Frames, Addresses, as_original}
 
 -- the information stream, where it has its fields
@@ -108,6 +112,34 @@ address_map_in file = do
 unfoldable pub string_table_in : List ℕ → Result (List ℕ) Error
 string_table_in file = named_stream_in file (codes "/names") >>= names_of_table
 
+-- a module's stream, with the sizes that its record tells; none for a module without one
+abbrev pub with_sizes : ModuleEntry → Option (List ℕ) → Option ModuleBytes
+with_sizes m bytes = option_map (λ b. record { bytes = b; symbols_size = m.symbols_size; lines_size = m.lines_size; c13_lines_size = m.c13_lines_size }) bytes
+
+unfoldable pub module_info_in : List ℕ → ModuleEntry → Result (Option ModuleBytes) Error
+module_info_in file m = raw_stream_in file m.stream >>= λ bytes. Ok (with_sizes m bytes)
+
+-- item k of a list, whatever stands behind it; none where the whole list has at most k items
+abbrev pub item_or : {A : Type 0} → Option A → Option Error → Result (Option A) Error
+item_or (Some x) fault = Ok (Some x)
+item_or None None = Ok None
+item_or None (Some e) = Err e
+
+abbrev pub item_at : {A : Type 0} → ℕ → Left A → Result (Option A) Error
+item_at k left = item_or (slice_get left.items k) left.fault
+
+-- the module of a file with this place in the list of modules
+unfoldable pub module_listed : List ℕ → ℕ → Result (Option ModuleEntry) Error
+module_listed file k = debug_information_in file >>= modules_in >>= item_at k
+
+abbrev pub info_listed : List ℕ → Option ModuleEntry → Result (Option ModuleBytes) Error
+info_listed file None = Ok None
+info_listed file (Some m) = module_info_in file m
+
+-- its stream
+unfoldable pub module_of_file : List ℕ → ℕ → Result (Option ModuleBytes) Error
+module_of_file file k = module_listed file k >>= info_listed file
+
 -- what is kept of a file is what a reading of it gave
 abbrev pub IsKept : {A : Type 0} → Result A Error → Option A → Type 0
 IsKept reading None = Unit {0}
@@ -131,6 +163,7 @@ pub data Call : Type 0 where
   FrameTable : Call
   AddressMap : Call
   StringTable : Call
+  ModuleInfo : (listed : ModuleEntry) → Call
   RawStream : (number : ℕ) → Call
 
 -- what a contract sees of a call's answer
@@ -145,6 +178,7 @@ Seen Sections = Option (List ImageSectionHeader)
 Seen FrameTable = Frames
 Seen AddressMap = Addresses
 Seen StringTable = List ℕ
+Seen (ModuleInfo m) = Option ModuleBytes
 Seen (RawStream n) = Option (List ℕ)
 
 -- what a call answers for a file
@@ -159,6 +193,7 @@ answer file Sections = sections_in file
 answer file FrameTable = frame_table_in file
 answer file AddressMap = address_map_in file
 answer file StringTable = string_table_in file
+answer file (ModuleInfo m) = module_info_in file m
 answer file (RawStream n) = raw_stream_in file n
 
 -- a call that was made: the states before it and behind it, and what it gave

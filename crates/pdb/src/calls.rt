@@ -2,13 +2,14 @@
 
 ghost use Rattle.pdb_dbi.specs.DbiViews.{information};
 ghost use Rattle.pdb.specs.Answers.{GoesOn, made};
-ghost use Rattle.pdb.specs.Answers.Call.{PdbInformation, NamedStream, DebugInformation as DebugInformationCall, GlobalSymbols, TypeInformation as TypesCall, IdInformation as IdsCall, Sections, FrameTable as FrameTableCall, AddressMap as AddressMapCall, StringTable as StringTableCall, RawStream};
+ghost use Rattle.pdb.specs.Answers.Call.{PdbInformation, NamedStream, DebugInformation as DebugInformationCall, GlobalSymbols, TypeInformation as TypesCall, IdInformation as IdsCall, Sections, FrameTable as FrameTableCall, AddressMap as AddressMapCall, StringTable as StringTableCall, ModuleInfo as ModuleInfoCall, RawStream};
 ghost use Rattle.std.specs.Option.{option_map};
 
 use crate::holders::{AddressMap, FrameTable, IdInformation, TypeInformation};
 use crate::pdb::PDB;
 use pdb_base::{ImageSectionHeader, Result, Source, Stream, StreamIndex, StringTable};
-use pdb_dbi::{DebugInformation, PDBInformation};
+use pdb_dbi::{DebugInformation, Module, PDBInformation};
+use pdb_modules::ModuleInfo;
 use pdb_symbols::SymbolTable;
 
 fn pdb_information<'s, S: Source<'s>>(pdb: &mut PDB<'s, S>) -> Result<PDBInformation<'s>>
@@ -78,4 +79,13 @@ fn string_table<'s, S: Source<'s>>(pdb: &mut PDB<'s, S>) -> Result<StringTable<'
     ensures { GoesOn (made pdb.old pdb.new StringTableCall (λ t. t) result) }
 {
     pdb.string_table()
+}
+
+fn module_info<'s, S: Source<'s>>(
+    pdb: &mut PDB<'s, S>,
+    module: &Module<'_>,
+) -> Result<Option<ModuleInfo<'s>>>
+    ensures { GoesOn (made pdb.old pdb.new (ModuleInfoCall «module».now) (λ i. i) result) }
+{
+    pdb.module_info(module)
 }

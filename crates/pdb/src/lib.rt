@@ -21,9 +21,21 @@ pub use pdb_dbi::{
     DebugInformation, HeaderVersion, MachineType, Module, ModuleIter, NameIter, PDBInformation,
     StreamName, StreamNames,
 };
+pub use pdb_modules::{
+    CrossModuleExport, CrossModuleExportIter, CrossModuleExports, CrossModuleImports,
+    CrossModuleRef, FileChecksum, FileInfo, FileIterator, Inlinee, InlineeIterator,
+    InlineeLineIterator, LineInfo, LineInfoKind, LineIterator, LineProgram, ModuleInfo, ModuleRef,
+};
 pub use pdb_symbols::{
-    ConstantSymbol, DataSymbol, ProcedureReferenceSymbol, PublicSymbol, Symbol, SymbolData,
-    SymbolIter, SymbolKind, SymbolTable, ThreadStorageSymbol, UserDefinedTypeSymbol,
+    AnnotationReferenceSymbol, BinaryAnnotation, BinaryAnnotations, BinaryAnnotationsIter,
+    BlockSymbol, BuildInfoSymbol, CPUType, CompileFlags, CompileFlagsSymbol, CompilerVersion,
+    ConstantSymbol, DataReferenceSymbol, DataSymbol, ExportSymbol, ExportSymbolFlags,
+    InlineSiteSymbol, LabelSymbol, LocalSymbol, LocalVariableFlags, MultiRegisterVariableSymbol,
+    ObjNameSymbol, ProcedureFlags, ProcedureReferenceSymbol, ProcedureSymbol, PublicSymbol,
+    RegisterRelativeSymbol, RegisterVariableSymbol, SeparatedCodeFlags, SeparatedCodeSymbol,
+    SourceLanguage, Symbol, SymbolData, SymbolIter, SymbolKind, SymbolTable, ThreadStorageSymbol,
+    ThunkAdjustor, ThunkKind, ThunkSymbol, TrampolineSymbol, TrampolineType, UserDefinedTypeSymbol,
+    UsingNamespaceSymbol,
 };
 
 #[cfg(test)]

@@ -7,7 +7,7 @@ ghost use Rattle.pdb_base.specs.Source.{State, Continues, MayFail};
 ghost use Rattle.pdb_base.specs.Container.{opens, stream_of};
 ghost use Rattle.pdb_dbi.specs.Header.{header_in};
 ghost use Rattle.pdb_dbi.specs.DbiViews.{information};
-ghost use Rattle.pdb.specs.Answers.{information_in, named_stream_in, debug_information_in, global_symbols_in, raw_stream_in, listed_stream as listed_stream_in, extra_streams_of_file, headers_in, sections_in, frame_table_in, transformed_in, address_map_in, string_table_in};
+ghost use Rattle.pdb.specs.Answers.{information_in, named_stream_in, debug_information_in, global_symbols_in, raw_stream_in, listed_stream as listed_stream_in, extra_streams_of_file, headers_in, sections_in, frame_table_in, transformed_in, address_map_in, string_table_in, module_info_in};
 
 use crate::holders::{AddressMap, FrameTable, IdInformation, OMAPTable, TypeInformation};
 use crate::named::index_named;
@@ -15,7 +15,8 @@ use crate::sections::section_headers;
 use pdb_base::{
     Error, ImageSectionHeader, Meaning, Msf, Result, Source, Stream, StreamIndex, StringTable,
 };
-use pdb_dbi::{DBIExtraStreams, DBIHeader, DebugInformation, PDBInformation};
+use pdb_dbi::{DBIExtraStreams, DBIHeader, DebugInformation, Module, PDBInformation};
+use pdb_modules::ModuleInfo;
 use pdb_symbols::SymbolTable;
 use std::alloc::Global;
 use std::marker::Model;
@@ -282,6 +283,18 @@ impl<'s, S: Source<'s>> PDB<'s, S> {
     {
         let stream = self.named_stream(NAMES)?;
         StringTable::parse(stream)
+    }
+
+    /// The stream of a module, with the sizes of its parts; none where the module has no stream.
+    #[tactic(auto, unfolding(crate::specs::Answers::module_info_in))]
+    pub fn module_info(&mut self, module: &Module<'_>) -> Result<Option<ModuleInfo<'s>>>
+        ensures continues { Continues self.old self.new }
+        ensures answer { Gives (λ i. i) (MayFail self.old self.new) result (module_info_in self.old.file «module».now) }
+    {
+        let Some(stream) = self.raw_stream(module.stream())? else {
+            return Ok(None);
+        };
+        Ok(Some(ModuleInfo::parse(stream, module)))
     }
 
     /// The stream of this number, unparsed; none for the index of no stream, `0xffff`.

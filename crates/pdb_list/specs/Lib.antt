@@ -3,6 +3,10 @@ pub mod Written
 pub mod Faults
 pub mod Words
 pub mod Texts
+pub mod Chosen
+pub mod ModuleTexts
+pub mod Known
+pub mod CommandTexts
 pub mod Sample
 pub mod Plan
 pub mod Failing

@@ -2,7 +2,6 @@
 use Rattle.std.specs.Prelude.{ℕ, ◌+◌, List, [], ◌∷◌, ◌++◌, Option, Some, None, Result, Ok, Err, codes, flat_map, ◌==◌, if◌then◌else◌}
 use Rattle.std.specs.Fmt.{decimal}
 use Rattle.pdb.specs.Error.{Error}
-use Rattle.pdb.specs.Error.TheVariants.{OutOfMemory}
 use Rattle.pdb.specs.Refusal.{number_of}
 use Rattle.pdb.specs.Refusal.{◌>>=◌}
 use Rattle.pdb.specs.Left.{Left}
@@ -18,14 +17,12 @@ use Rattle.pdb.specs.Names.{Name, names_of}
 use Rattle.pdb.specs.Modules.{ModuleEntry, modules_in}
 use Rattle.pdb.specs.Contributions.{contributions_in}
 use Rattle.pdb.specs.Data.{Data, name_of}
-use Rattle.pdb.specs.Data.Data.{Public, UserDefinedType, ProcedureReference, Constant, DataItem, ThreadStorage}
+use Rattle.pdb.specs.Data.Data.{ScopeEnd, ObjName, RegisterVariable, Constant, UserDefinedType, MultiRegisterVariable, DataItem, Public, Procedure, ThreadStorage, Compiler, UsingNamespace, ProcedureReference, DataReference, AnnotationReference, Trampoline, Export, Local, BuildInfo, InlineSite, InlineSiteEnd, ProcedureEnd, Label, Block, RegisterRelative, Thunk, SeparatedCode}
 use Rattle.pdb.specs.Forms.{kind_at, record_at}
 use Rattle.pdb.specs.SymbolList.{Entry, symbols_from}
-use Rattle.pdb.specs.Answers.{information_in, debug_information_in, global_symbols_in}
-use Rattle.pdb_list.specs.declared.command.Command.{Command}
-use Rattle.pdb_list.specs.declared.command.Command.TheVariants.{Info, Names, Modules, Contributions, Globals}
-use Rattle.pdb_list.specs.declared.engine.RunError.{RunError}
-use Rattle.pdb_list.specs.declared.engine.RunError.TheVariants as run
+use Rattle.pdb.specs.ImageSectionHeader.{ImageSectionHeader}
+use Rattle.pdb.specs.SectionHeader.{name_of as section_name}
+use Rattle.pdb.specs.Answers.{information_in, debug_information_in, global_symbols_in, sections_in}
 use Rattle.pdb_list.specs.Digits.{hex}
 
 -- the line of a refusal
@@ -46,6 +43,11 @@ fault_text (Some e) = error_text e
 abbrev pub stream_text : ℕ → List ℕ
 stream_text n = if n == 0xffff then codes "-" else decimal n
 
+-- a number, `-` where there is none
+abbrev pub optional_text : Option ℕ → List ℕ
+optional_text None = codes "-"
+optional_text (Some n) = decimal n
+
 -- a section and an offset in it
 abbrev pub offset_text : PdbInternalSectionOffset → List ℕ
 offset_text o = hex 4 o.section ++ codes ":" ++ hex 8 o.offset
@@ -64,14 +66,9 @@ version_text (OtherValue n) = decimal n
 unfoldable pub information_text : Information → List ℕ
 information_text i = codes "info " ++ version_text i.version ++ codes " " ++ decimal i.signature ++ codes " " ++ decimal i.age ++ codes " " ++ flat_map (hex 2) i.guid ++ codes "\n"
 
--- an age, `-` where there is none
-abbrev pub age_text : Option ℕ → List ℕ
-age_text None = codes "-"
-age_text (Some n) = decimal n
-
 -- the line of a DBI stream with this header
 unfoldable pub header_text : DBIHeader → List ℕ
-header_text h = codes "dbi " ++ age_text (age_of h.age) ++ codes " " ++ machine_text (machine_of h.machine_type) ++ codes "\n"
+header_text h = codes "dbi " ++ optional_text (age_of h.age) ++ codes " " ++ machine_text (machine_of h.machine_type) ++ codes "\n"
 
 abbrev pub debug_information_text : List ℕ → List ℕ
 debug_information_text b = told (header_of b) header_text
@@ -132,21 +129,60 @@ contribution_list_text left = flat_map contribution_text left.items ++ fault_tex
 unfoldable pub contributions_text : List ℕ → List ℕ
 contributions_text file = told (debug_information_in file >>= contributions_in) contribution_list_text
 
+-- ---- sections
+
+-- the line of a section header: its sizes and places, its characteristics, and its name
+unfoldable pub section_text : ImageSectionHeader → List ℕ
+section_text h = codes "section " ++ hex 8 h.virtual_size ++ codes " " ++ hex 8 h.virtual_address ++ codes " " ++ hex 8 h.size_of_raw_data ++ codes " " ++ hex 8 h.pointer_to_raw_data ++ codes " " ++ hex 8 h.characteristics.0 ++ codes " " ++ section_name h ++ codes "\n"
+
+-- the lines of the section headers, or `none` where the file has no stream of them
+abbrev pub section_list_text : Option (List ImageSectionHeader) → List ℕ
+section_list_text None = codes "none\n"
+section_list_text (Some headers) = flat_map section_text headers
+
+unfoldable pub sections_text : List ℕ → List ℕ
+sections_text file = told (sections_in file) section_list_text
+
 -- ---- symbols
 
 -- the name of a form
 abbrev pub form_text : Data → List ℕ
-form_text (Public code function managed msil offset name) = codes "Public"
-form_text (UserDefinedType type_index name) = codes "UserDefinedType"
-form_text (ProcedureReference global sum_name symbol_index of_module name) = codes "ProcedureReference"
+form_text ScopeEnd = codes "ScopeEnd"
+form_text (ObjName signature name) = codes "ObjName"
+form_text (RegisterVariable type_index register name) = codes "RegisterVariable"
 form_text (Constant managed type_index value name) = codes "Constant"
+form_text (UserDefinedType type_index name) = codes "UserDefinedType"
+form_text (MultiRegisterVariable type_index registers) = codes "MultiRegisterVariable"
 form_text (DataItem global managed type_index offset name) = codes "Data"
+form_text (Public code function managed msil offset name) = codes "Public"
+form_text (Procedure s) = codes "Procedure"
 form_text (ThreadStorage global type_index offset name) = codes "ThreadStorage"
+form_text (Compiler s) = codes "CompileFlags"
+form_text (UsingNamespace name) = codes "UsingNamespace"
+form_text (ProcedureReference global sum_name symbol_index of_module name) = codes "ProcedureReference"
+form_text (DataReference sum_name symbol_index of_module name) = codes "DataReference"
+form_text (AnnotationReference sum_name symbol_index of_module name) = codes "AnnotationReference"
+form_text (Trampoline s) = codes "Trampoline"
+form_text (Export ordinal flags name) = codes "Export"
+form_text (Local type_index flags name) = codes "Local"
+form_text (BuildInfo s) = codes "BuildInfo"
+form_text (InlineSite s) = codes "InlineSite"
+form_text InlineSiteEnd = codes "InlineSiteEnd"
+form_text ProcedureEnd = codes "ProcedureEnd"
+form_text (Label offset flags name) = codes "Label"
+form_text (Block parent end len offset name) = codes "Block"
+form_text (RegisterRelative offset type_index register name) = codes "RegisterRelative"
+form_text (Thunk s) = codes "Thunk"
+form_text (SeparatedCode s) = codes "SeparatedCode"
 
--- a space and the name, where there is one
-abbrev pub name_text : Option (List ℕ) → List ℕ
-name_text None = []
-name_text (Some name) = codes " " ++ name
+-- a space before a name, and the name, where there is one
+abbrev pub space_text : Option (List ℕ) → List ℕ
+space_text None = []
+space_text (Some name) = codes " "
+
+abbrev pub bytes_of : Option (List ℕ) → List ℕ
+bytes_of None = []
+bytes_of (Some name) = name
 
 -- a refusal in a symbol's line
 abbrev pub refused_text : Error → List ℕ
@@ -154,7 +190,7 @@ refused_text e = codes "refused " ++ decimal (number_of e)
 
 -- what a record says, or its refusal
 abbrev pub record_text : Result Data Error → List ℕ
-record_text (Ok d) = form_text d ++ name_text (name_of d)
+record_text (Ok d) = form_text d ++ space_text (name_of d) ++ bytes_of (name_of d)
 record_text (Err e) = refused_text e
 
 -- the line of a symbol
@@ -167,24 +203,3 @@ symbols_text left = flat_map symbol_text left.items ++ fault_text left.fault
 
 unfoldable pub globals_text : List ℕ → List ℕ
 globals_text file = told (global_symbols_in file) (λ b. symbols_text (symbols_from b 0))
-
--- ---- commands
-
--- the text of a command over a file
-abbrev pub command_text : List ℕ → Command → List ℕ
-command_text file Info = info_text file
-command_text file Names = names_text file
-command_text file Modules = modules_text file
-command_text file Contributions = contributions_text file
-command_text file Globals = globals_text file
-
--- the texts of commands, joined
-abbrev pub texts : List ℕ → List Command → List ℕ
-texts file commands = flat_map (command_text file) commands
-
--- ---- a run that stopped
-
--- a file that can't be opened; want of memory is told as such
-abbrev pub run_error_of : Error → RunError
-run_error_of OutOfMemory = run.OutOfMemory
-run_error_of e = run.Open e

@@ -7,7 +7,7 @@ ghost use Rattle.pdb.specs.Error.TheVariants.{OutOfMemory};
 ghost use Rattle.pdb.specs.Source.{State, Continues};
 ghost use Rattle.pdb.specs.Container.{opens};
 ghost use Rattle.pdb_list.specs.Written.{WroteFirst, WroteFront};
-ghost use Rattle.pdb_list.specs.Texts.{command_text, run_error_of, texts};
+ghost use Rattle.pdb_list.specs.CommandTexts.{command_text, run_error_of, texts};
 
 use crate::command::Command;
 use crate::contributions::put_contributions;

@@ -1,12 +1,11 @@
 //! The lines of the information stream and of the DBI stream's header.
 
-ghost use Rattle.std.specs.Prelude.{◌≡◌, ◌++◌, true, OnOk, codes, flat_map};
+ghost use Rattle.std.specs.Prelude.{◌≡◌, ◌++◌, true, OnOk, codes};
 ghost use Rattle.pdb.specs.Source.{Continues};
 ghost use Rattle.pdb.specs.DbiViews.{information};
-ghost use Rattle.pdb_list.specs.Digits.{hex};
-ghost use Rattle.pdb_list.specs.Texts.{age_text, debug_information_text, header_text, info_text, information_text, version_text};
+ghost use Rattle.pdb_list.specs.Texts.{debug_information_text, header_text, info_text, information_text, version_text};
 
-use crate::text::{put_decimal, put_h2, put_line_end, put_refusal};
+use crate::text::{put_bytes, put_decimal, put_line_end, put_optional, put_refusal};
 use pdb::{DBIHeader, DebugInformation, HeaderVersion, MachineType, PDB, PDBInformation, Source};
 use std::alloc::{AllocError, Global};
 
@@ -22,16 +21,6 @@ fn put_version(out: &mut Vec<u8>, version: HeaderVersion) -> Result<(), AllocErr
         HeaderVersion::V110 => out.extend_from_slice(b"V110"),
         HeaderVersion::OtherValue(number) => put_decimal(out, u64::from(number)),
     }
-}
-
-/// The bytes in two hex digits each.
-fn put_bytes(out: &mut Vec<u8>, bytes: &[u8]) -> Result<(), AllocError>
-    ensures { OnOk result (out.new.items ≡ out.old.items ++ flat_map (hex 2) bytes.now) }
-{
-    for byte in bytes {
-        put_h2(out, *byte)?;
-    }
-    Ok(())
 }
 
 /// The line of the information stream.
@@ -50,19 +39,6 @@ fn put_information(out: &mut Vec<u8>, stream: &PDBInformation<'_>) -> Result<(),
     put_line_end(out)
 }
 
-/// An age, or `-` where there is none.
-fn put_age(out: &mut Vec<u8>, age: Option<u32>) -> Result<(), AllocError>
-    ensures { OnOk result (out.new.items ≡ out.old.items ++ age_text age) }
-{
-    match age {
-        Some(age) => put_decimal(out, u64::from(age)),
-        None => {
-            out.push(b'-')?;
-            Ok(())
-        }
-    }
-}
-
 /// The line of a DBI stream.
 #[tactic(auto, unfolding(crate::specs::Texts::header_text))]
 fn put_debug_information(
@@ -75,7 +51,7 @@ fn put_debug_information(
     let header = stream.header();
     let machine = MachineType::from(header.machine_type).to_string(alloc)?;
     out.extend_from_slice(b"dbi ")?;
-    put_age(out, stream.age())?;
+    put_optional(out, stream.age())?;
     out.push(b' ')?;
     out.extend_from_slice(machine.as_bytes())?;
     put_line_end(out)

@@ -1,52 +1,98 @@
 //! The lines of symbols.
 
-ghost use Rattle.std.specs.Prelude.{◌≡◌, ◌++◌, true, OnOk, codes};
+ghost use Rattle.std.specs.Prelude.{◌≡◌, ◌≢◌, ◌++◌, true, OnOk, codes};
+ghost use Rattle.std.specs.Fmt.{decimal};
+ghost use Rattle.std.specs.Option.{option_map};
+ghost use Rattle.pdb.specs.Error.TheVariants.{OutOfMemory};
 ghost use Rattle.pdb.specs.Source.{Continues};
 ghost use Rattle.pdb.specs.Data.{shown, name_of};
 ghost use Rattle.pdb.specs.Forms.{record_at};
 ghost use Rattle.pdb.specs.Views.{symbol_of, symbols_left};
 ghost use Rattle.pdb.specs.Text.{name_bytes};
 ghost use Rattle.pdb_list.specs.Digits.{hex};
-ghost use Rattle.pdb_list.specs.Texts.{globals_text, form_text, name_text, refused_text, record_text, symbol_text, symbols_text};
+ghost use Rattle.pdb_list.specs.Texts.{globals_text, form_text, space_text, bytes_of, refused_text, record_text, symbol_text, symbols_text};
 
 use crate::text::{h4, h8, put_decimal, put_error, put_line_end, put_refusal};
 use pdb::{Error, FallibleIterator, PDB, RawString, Source, Symbol, SymbolData, SymbolIter};
 use std::alloc::{AllocError, Global};
 
-/// The name of a form with a space behind it, and then the symbol's name.
-#[inline(always)]
-fn put_named(out: &mut Vec<u8>, form: &[u8], name: RawString<'_>) -> Result<(), AllocError>
-    ensures { OnOk result (out.new.items ≡ out.old.items ++ form.now ++ name_bytes name.entry) }
+/// The name of a form, with a space behind it where the symbol has a name.
+fn form_name(parsed: &SymbolData<'_>) -> &'static [u8]
+    ensures { result.now ≡ form_text (shown parsed.now) ++ space_text (name_of (shown parsed.now)) }
 {
-    out.extend_from_slice(form)?;
-    out.extend_from_slice(name.as_bytes())?;
-    Ok(())
+    match parsed {
+        SymbolData::ScopeEnd => b"ScopeEnd",
+        SymbolData::ObjName(_) => b"ObjName ",
+        SymbolData::RegisterVariable(_) => b"RegisterVariable",
+        SymbolData::Constant(_) => b"Constant ",
+        SymbolData::UserDefinedType(_) => b"UserDefinedType ",
+        SymbolData::MultiRegisterVariable(_) => b"MultiRegisterVariable",
+        SymbolData::Data(_) => b"Data ",
+        SymbolData::Public(_) => b"Public ",
+        SymbolData::Procedure(_) => b"Procedure ",
+        SymbolData::ThreadStorage(_) => b"ThreadStorage ",
+        SymbolData::CompileFlags(_) => b"CompileFlags",
+        SymbolData::UsingNamespace(_) => b"UsingNamespace ",
+        SymbolData::ProcedureReference(symbol) => match symbol.name {
+            Some(_) => b"ProcedureReference ",
+            None => b"ProcedureReference",
+        },
+        SymbolData::DataReference(symbol) => match symbol.name {
+            Some(_) => b"DataReference ",
+            None => b"DataReference",
+        },
+        SymbolData::AnnotationReference(_) => b"AnnotationReference ",
+        SymbolData::Trampoline(_) => b"Trampoline",
+        SymbolData::Export(_) => b"Export ",
+        SymbolData::Local(_) => b"Local ",
+        SymbolData::BuildInfo(_) => b"BuildInfo",
+        SymbolData::InlineSite(_) => b"InlineSite",
+        SymbolData::InlineSiteEnd => b"InlineSiteEnd",
+        SymbolData::ProcedureEnd => b"ProcedureEnd",
+        SymbolData::Label(_) => b"Label ",
+        SymbolData::Block(_) => b"Block ",
+        SymbolData::RegisterRelative(_) => b"RegisterRelative ",
+        SymbolData::Thunk(_) => b"Thunk ",
+        SymbolData::SeparatedCode(_) => b"SeparatedCode",
+    }
+}
+
+/// A name, where there is one.
+#[inline(always)]
+fn put_name(out: &mut Vec<u8>, name: Option<RawString<'_>>) -> Result<(), AllocError>
+    ensures { OnOk result (out.new.items ≡ out.old.items ++ bytes_of (option_map name_bytes name.entry)) }
+{
+    match name {
+        Some(name) => out.extend_from_slice(name.as_bytes()),
+        None => Ok(()),
+    }
 }
 
 /// A record's form, and its name where it has one.
 #[inline(always)]
 fn put_data(out: &mut Vec<u8>, parsed: &SymbolData<'_>) -> Result<(), AllocError>
-    ensures { OnOk result (out.new.items ≡ out.old.items ++ form_text (shown parsed.now) ++ name_text (name_of (shown parsed.now))) }
+    ensures { OnOk result (out.new.items ≡ out.old.items ++ form_text (shown parsed.now) ++ space_text (name_of (shown parsed.now)) ++ bytes_of (name_of (shown parsed.now))) }
 {
-    match parsed {
-        SymbolData::Public(symbol) => put_named(out, b"Public ", symbol.name),
-        SymbolData::UserDefinedType(symbol) => put_named(out, b"UserDefinedType ", symbol.name),
-        SymbolData::ProcedureReference(symbol) => match symbol.name {
-            Some(name) => put_named(out, b"ProcedureReference ", name),
-            None => out.extend_from_slice(b"ProcedureReference"),
-        },
-        SymbolData::Constant(symbol) => put_named(out, b"Constant ", symbol.name),
-        SymbolData::Data(symbol) => put_named(out, b"Data ", symbol.name),
-        SymbolData::ThreadStorage(symbol) => put_named(out, b"ThreadStorage ", symbol.name),
-    }
+    out.extend_from_slice(form_name(parsed))?;
+    put_name(out, parsed.name())
 }
 
 /// `refused`, and the refusal's number.
-fn put_refused(out: &mut Vec<u8>, e: Error) -> Result<(), AllocError>
-    ensures { OnOk result (out.new.items ≡ out.old.items ++ refused_text e) }
+fn put_number(out: &mut Vec<u8>, number: u8) -> Result<(), AllocError>
+    ensures { OnOk result (out.new.items ≡ out.old.items ++ (codes "refused " ++ decimal number)) }
 {
     out.extend_from_slice(b"refused ")?;
-    put_decimal(out, u64::from(e.number()))
+    put_decimal(out, u64::from(number))
+}
+
+/// A refusal in a symbol's line; want of memory is passed on.
+fn put_refused(out: &mut Vec<u8>, e: Error) -> Result<(), AllocError>
+    ensures { OnOk result ((e ≢ OutOfMemory) × (out.new.items ≡ out.old.items ++ refused_text e)) }
+{
+    match e {
+        Error::OutOfMemory => Err(AllocError),
+        e => put_number(out, e.number()),
+    }
 }
 
 /// What a symbol's record says: its form and name; or `refused` and the refusal's number.
@@ -84,7 +130,7 @@ fn put_symbol(alloc: Global, out: &mut Vec<u8>, symbol: &Symbol<'_>) -> Result<(
 }
 
 /// The lines of the symbols that an iterator has left, and then that of its fault.
-fn put_symbols(
+pub fn put_symbols(
     alloc: Global,
     out: &mut Vec<u8>,
     mut symbols: SymbolIter<'_>,

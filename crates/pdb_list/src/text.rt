@@ -1,12 +1,13 @@
 //! Pieces of text, each put behind what is there already.
 
-ghost use Rattle.std.specs.Prelude.{◌≡◌, ◌≢◌, ◌+◌, ◌*◌, ◌/◌, ◌%◌, ◌^◌, ◌<◌, ◌≤◌, [], ◌∷◌, ◌++◌, codes, OnOk};
+ghost use Rattle.std.specs.Prelude.{◌≡◌, ◌≢◌, ◌+◌, ◌*◌, ◌/◌, ◌%◌, ◌^◌, ◌<◌, ◌≤◌, [], ◌∷◌, ◌++◌, codes, flat_map, OnOk};
 ghost use Rattle.std.specs.Fmt.{decimal};
 ghost use Rattle.pdb.specs.Error.TheVariants.{OutOfMemory};
 ghost use Rattle.pdb_list.specs.Digits.{hex, four_digits};
-ghost use Rattle.pdb_list.specs.Texts.{error_text, offset_text, stream_text};
+ghost use Rattle.pdb_list.specs.Texts.{error_text, optional_text, stream_text};
+ghost use Rattle.pdb_list.specs.ModuleTexts.{optional_field_text};
 
-use pdb::{Error, PdbInternalSectionOffset, StreamIndex};
+use pdb::{Error, StreamIndex};
 use std::alloc::AllocError;
 
 /// The two lower hex digits of each byte, the higher one in the lower byte.
@@ -221,13 +222,54 @@ pub fn put_stream(out: &mut Vec<u8>, index: StreamIndex) -> Result<(), AllocErro
     }
 }
 
-/// A section in four hex digits, `:`, and an offset in eight.
-pub fn put_offset(out: &mut Vec<u8>, offset: PdbInternalSectionOffset) -> Result<(), AllocError>
-    ensures { OnOk result (out.new.items ≡ out.old.items ++ offset_text offset) }
+/// A number, or `-` where there is none.
+pub fn put_optional(out: &mut Vec<u8>, number: Option<u32>) -> Result<(), AllocError>
+    ensures { OnOk result (out.new.items ≡ out.old.items ++ optional_text number) }
 {
-    put_h4(out, offset.section)?;
-    out.push(b':')?;
-    put_h8(out, offset.offset)
+    match number {
+        Some(number) => put_decimal(out, u64::from(number)),
+        None => {
+            out.push(b'-')?;
+            Ok(())
+        }
+    }
+}
+
+/// A space and a number, or `-` where there is none.
+pub fn put_optional_field(out: &mut Vec<u8>, number: Option<u32>) -> Result<(), AllocError>
+    ensures { OnOk result (out.new.items ≡ out.old.items ++ optional_field_text number) }
+{
+    match number {
+        Some(number) => put_field(out, u64::from(number)),
+        None => out.extend_from_slice(b" -"),
+    }
+}
+
+/// The bytes in two hex digits each.
+pub fn put_bytes(out: &mut Vec<u8>, bytes: &[u8]) -> Result<(), AllocError>
+    ensures { OnOk result (out.new.items ≡ out.old.items ++ flat_map (hex 2) bytes.now) }
+{
+    for byte in bytes {
+        put_h2(out, *byte)?;
+    }
+    Ok(())
+}
+
+/// A space and eight lower hex digits.
+#[inline(always)]
+#[tactic(auto, unfolding(crate::specs::Digits::hex))]
+pub fn h8_field(n: u32) -> [u8; 9]
+    ensures { result ≡ codes " " ++ hex 8 n }
+{
+    let h = h8(n);
+    [b' ', h[0], h[1], h[2], h[3], h[4], h[5], h[6], h[7]]
+}
+
+/// The line that says that there is nothing to list.
+pub fn put_none(out: &mut Vec<u8>) -> Result<(), AllocError>
+    ensures { OnOk result (out.new.items ≡ out.old.items ++ codes "none\n") }
+{
+    out.extend_from_slice(b"none\n")
 }
 
 /// The line of a refusal.

@@ -11,7 +11,7 @@ use pdb_base::{
     Error, FallibleIterator, FileIndex, IdIndex, ParseBuffer, PdbInternalSectionOffset, Result,
     Steps,
 };
-use pdb_symbols::BinaryAnnotations;
+use pdb_symbols::InlineSiteSymbol;
 use std::alloc::AllocError;
 use std::marker::Model;
 
@@ -49,18 +49,18 @@ impl<'a> Inlinee<'a> {
         self.index
     }
 
-    // The line records of an inline site of this function with these annotations, in the procedure that begins at
-    // `parent`.
-    pub(crate) fn lines_of(
+    /// The line records of an inline site of this function, in the procedure that begins at `parent`. Where the
+    /// site's annotations have a fault it comes in place of the last record before it.
+    pub fn lines(
         &self,
         parent: PdbInternalSectionOffset,
-        annotations: BinaryAnnotations<'a>,
+        site: &InlineSiteSymbol<'a>,
     ) -> InlineeLineIterator<'a>
-        ensures left { inlined_left result ≡ inlined_lines parent (record { 0 = self.now.file_index }) self.now.line (annotation_bytes annotations.entry) }
-        ensures part { inlined_part result ≡ annotation_bytes annotations.entry }
+        ensures left { inlined_left result ≡ inlined_lines parent (record { 0 = self.now.file_index }) self.now.line (annotation_bytes site.now.annotations) }
+        ensures part { inlined_part result ≡ annotation_bytes site.now.annotations }
         ensures steps { inlined_steps result ≡ 0 }
     {
-        InlineeLineIterator::new(parent, self.file_index, self.line, annotations)
+        InlineeLineIterator::new(parent, self.file_index, self.line, site.annotations)
     }
 }
 

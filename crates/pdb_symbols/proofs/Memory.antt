@@ -6,4 +6,4 @@ use Rattle.pdb_symbols.specs.Memory.{Parses}
 
 pub answers_parses : {X Y : Type 0} (wants : Type 0) (view : X → Y) (r : Result X Error) (read : Result Y Error) → Answers view r read → Parses wants view r read
 answers_parses wants view (Ok x) read h = h
-answers_parses wants view (Err e) read h = inl h
+answers_parses wants view (Err e) read h = inl (h.0, h.1)

@@ -1,5 +1,5 @@
 use Rattle.pdb_list.specs.declared.command.Command.TheVariants.{Info}
-use Rattle.pdb_list.specs.Texts.{command_text}
+use Rattle.pdb_list.specs.CommandTexts.{command_text}
 use Rattle.pdb_list.proofs.Written.{texts_front}
 use Rattle.pdb_list.proofs.engine.run.Goals as goal
 

@@ -1,7 +1,7 @@
 use Rattle.std.proofs.Common.{◌≡◌, true, take}
 use Rattle.std.specs.Io.KnownBytes.{Appends}
 use Rattle.pdb.specs.Source.{Continues}
-use Rattle.pdb_list.specs.Texts.{texts}
+use Rattle.pdb_list.specs.CommandTexts.{texts}
 use Rattle.pdb_list.proofs.engine.run.Given as goal
 
 -- the file is the same, and the texts of the commands so far were written

@@ -20,7 +20,7 @@ pub returns-in-Err-clause-part : goal.returns-in-Err-clause-part
 returns-in-Err-clause-part c =
     let differ : c.loop-buffer.buffer.place ≡ length c.loop-buffer.buffer.bytes → ⊥ = λ e. (let f = c.loop-buffer-test.ensures.1 e in cc) in
     let below : c.loop-buffer.buffer.place < length c.args.lines_data.now = let i = c.loop-buffer.invariant.inside in omega (arith, differ, ap length c.loop-buffer.invariant.same) in
-    (refused c.args.kind c.args.lines_data.now c.loop-buffer.buffer c.read_piece.new.buffer c.loop-buffer.invariant.same c.loop-buffer.invariant.searching c.in-Err.error below c.in-Err.ensures.reads, c.in-Err.ensures.reads.2)
+    (refused c.args.kind c.args.lines_data.now c.loop-buffer.buffer c.read_piece.new.buffer c.loop-buffer.invariant.same c.loop-buffer.invariant.searching c.in-Err.error below c.in-Err.ensures.reads, c.in-Err.ensures.reads.2, c.in-Err.ensures.reads.3)
 
 pub returns-in-Err-clause-refused : goal.returns-in-Err-clause-refused
 returns-in-Err-clause-refused c = piece_error c.loop-buffer.buffer.bytes c.loop-buffer.buffer.place c.in-Err.error c.in-Err.ensures.reads.0

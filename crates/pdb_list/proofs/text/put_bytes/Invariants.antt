@@ -1,6 +1,6 @@
 use Rattle.std.proofs.Common.{◌≡◌, ◌++◌, flat_map, take}
 use Rattle.pdb_list.specs.Digits.{hex}
-use Rattle.pdb_list.proofs.info.put_bytes.Given as goal
+use Rattle.pdb_list.proofs.text.put_bytes.Given as goal
 
 -- the digits of the bytes so far were put
 abbrev pub invariant-loop-byte : goal.invariant-loop-byte

@@ -1,0 +1,199 @@
+//! The lines of inlined functions, and of the sites into which they were inlined.
+
+ghost use Rattle.std.specs.Prelude.{◌≡◌, ◌++◌, [], ◌∷◌, List, None, OnOk, IfOk, is_none};
+ghost use Rattle.pdb.specs.AnnotationViews.{annotation_bytes};
+ghost use Rattle.pdb.specs.Forms.{record_at};
+ghost use Rattle.pdb.specs.Inlinees.{InlineeEntry};
+ghost use Rattle.pdb.specs.InlinedViews.{inlined_left};
+ghost use Rattle.pdb.specs.ModuleViews.{inlinees_left};
+ghost use Rattle.pdb.specs.Views.{symbol_of, symbols_left};
+ghost use Rattle.pdb_list.specs.Known.{listed_in, shown_here};
+ghost use Rattle.pdb_list.specs.ModuleTexts.{here, inlinee_list_text, inlinee_text, inlinee_with, inlinees_of_text, line_list_text, site_lines, site_text, sites_of_text, sites_text};
+
+use crate::lines::put_line;
+use crate::text::{h8, h8_field, put_error, put_line_end, put_refusal};
+use pdb::{
+    Error, FallibleIterator, InlineSiteSymbol, Inlinee, InlineeIterator, InlineeLineIterator,
+    ModuleInfo, PdbInternalSectionOffset, Symbol, SymbolData, SymbolIndex, SymbolIter,
+};
+use std::alloc::{AllocError, Global};
+use std::collections::BTreeMap;
+
+/// The first inlined function of each id.
+type Known<'a> = BTreeMap<u32, Inlinee<'a>>;
+
+/// The line of an inlined function.
+#[tactic(auto, unfolding(crate::specs::ModuleTexts::inlinee_text))]
+fn put_inlinee(out: &mut Vec<u8>, inlinee: &Inlinee<'_>) -> Result<(), AllocError>
+    ensures { OnOk result (out.new.items ≡ out.old.items ++ inlinee_text inlinee.now) }
+{
+    out.extend_from_slice(b"inlinee ")?;
+    out.extend_from_slice(&h8(inlinee.index().0))?;
+    put_line_end(out)
+}
+
+/// Notes an inlined function, unless one with its id is known.
+#[tactic(auto, using(crate::proofs::Listed::noted, crate::proofs::Listed::not_noted))]
+fn note<'a>(known: &mut Known<'a>, inlinee: Inlinee<'a>) -> Result<(), AllocError>
+    ensures { OnOk result ((xs : List InlineeEntry) → listed_in known.old ≡ inlinee_with xs → listed_in known.new ≡ inlinee_with (xs ++ inlinee.entry ∷ [])) }
+{
+    let id = inlinee.index().0;
+    if known.get(&id).is_none() {
+        known.insert(id, inlinee)?;
+    }
+    Ok(())
+}
+
+/// What a symbol is here.
+enum Here<'t> {
+    /// A procedure, which begins at this offset.
+    Procedure(PdbInternalSectionOffset),
+    /// A site into which a function was inlined.
+    Site(InlineSiteSymbol<'t>),
+    /// Another symbol, or one that can't be read.
+    Passed,
+}
+
+/// What a symbol is here; want of memory is passed on.
+fn here_of<'t>(alloc: Global, symbol: &Symbol<'t>) -> Result<Here<'t>, AllocError>
+    ensures { IfOk result (λ h. shown_here h ≡ here (record_at (symbol_of symbol.now).bytes)) }
+{
+    match symbol.parse(alloc) {
+        Ok(SymbolData::Procedure(procedure)) => Ok(Here::Procedure(procedure.offset)),
+        Ok(SymbolData::InlineSite(site)) => Ok(Here::Site(site)),
+        Ok(_) => Ok(Here::Passed),
+        Err(Error::OutOfMemory) => Err(AllocError),
+        Err(_) => Ok(Here::Passed),
+    }
+}
+
+/// The lines of the records that an iterator has left, and then that of its fault; answers whether there is no fault.
+fn put_records(
+    out: &mut Vec<u8>,
+    mut lines: InlineeLineIterator<'_>,
+) -> Result<bool, AllocError>
+    ensures lines { OnOk result (out.new.items ≡ out.old.items ++ line_list_text (inlined_left lines.entry)) }
+    ensures goes_on { IfOk result (λ goes_on. goes_on ≡ is_none (inlined_left lines.entry).fault) }
+{
+    loop {
+        match lines.next() {
+            Ok(Some(line)) => put_line(out, &line)?,
+            Ok(None) => return Ok(true),
+            Err(e) => {
+                put_error(out, e.number())?;
+                return Ok(false);
+            }
+        }
+    }
+}
+
+/// The lines of a site's records, and of the fault of its annotations; answers whether there is no fault.
+fn put_site_lines(
+    out: &mut Vec<u8>,
+    known: &Known<'_>,
+    parent: Option<PdbInternalSectionOffset>,
+    site: &InlineSiteSymbol<'_>,
+) -> Result<bool, AllocError>
+    ensures lines { OnOk result (out.new.items ≡ out.old.items ++ line_list_text (site_lines parent (annotation_bytes site.now.annotations) (listed_in known.now site.now.inlinee.0))) }
+    ensures goes_on { IfOk result (λ goes_on. goes_on ≡ is_none (site_lines parent (annotation_bytes site.now.annotations) (listed_in known.now site.now.inlinee.0)).fault) }
+{
+    let Some(parent) = parent else {
+        return Ok(true);
+    };
+    match known.get(&site.inlinee.0) {
+        Some(inlinee) => put_records(out, inlinee.lines(parent, site)),
+        None => Ok(true),
+    }
+}
+
+/// The line of a site.
+#[tactic(auto, unfolding(crate::specs::ModuleTexts::site_text))]
+fn put_site(out: &mut Vec<u8>, index: SymbolIndex, id: u32) -> Result<(), AllocError>
+    ensures { OnOk result (out.new.items ≡ out.old.items ++ site_text index.0 id) }
+{
+    out.extend_from_slice(b"site ")?;
+    out.extend_from_slice(&h8(index.0))?;
+    out.extend_from_slice(&h8_field(id))?;
+    put_line_end(out)
+}
+
+/// The sites among the symbols that an iterator has left, each with its records, and then the line of a fault.
+fn put_list(
+    alloc: Global,
+    out: &mut Vec<u8>,
+    known: &Known<'_>,
+    mut symbols: SymbolIter<'_>,
+) -> Result<(), AllocError>
+    ensures { OnOk result (out.new.items ≡ out.old.items ++ sites_text (listed_in known.now) None (symbols_left symbols.entry).items (symbols_left symbols.entry).fault) }
+{
+    let mut parent = None;
+    loop {
+        match symbols.next() {
+            Ok(Some(symbol)) => match here_of(alloc, &symbol)? {
+                Here::Procedure(offset) => parent = Some(offset),
+                Here::Site(site) => {
+                    put_site(out, symbol.index(), site.inlinee.0)?;
+                    if !put_site_lines(out, known, parent, &site)? {
+                        return Ok(());
+                    }
+                }
+                Here::Passed => {}
+            },
+            Ok(None) => return Ok(()),
+            Err(e) => return put_error(out, e.number()),
+        }
+    }
+}
+
+/// The sites of a module, or the line of the refusal of its symbols.
+#[tactic(auto, unfolding(crate::specs::ModuleTexts::sites_of_text))]
+fn put_sites(
+    alloc: Global,
+    out: &mut Vec<u8>,
+    known: &Known<'_>,
+    info: &ModuleInfo<'_>,
+) -> Result<(), AllocError>
+    ensures { OnOk result (out.new.items ≡ out.old.items ++ sites_of_text (listed_in known.now) info.now) }
+{
+    match info.symbols() {
+        Ok(symbols) => put_list(alloc, out, known, symbols),
+        Err(e) => put_refusal(out, e),
+    }
+}
+
+/// The lines of the inlined functions that an iterator has left, and behind them the sites, or the line of a fault.
+fn put_whole(
+    alloc: Global,
+    out: &mut Vec<u8>,
+    mut inlinees: InlineeIterator<'_>,
+    info: &ModuleInfo<'_>,
+) -> Result<(), AllocError>
+    ensures { OnOk result (out.new.items ≡ out.old.items ++ inlinee_list_text info.now (inlinees_left inlinees.entry)) }
+{
+    let mut known = BTreeMap::new(alloc);
+    loop {
+        match inlinees.next() {
+            Ok(Some(inlinee)) => {
+                put_inlinee(out, &inlinee)?;
+                note(&mut known, inlinee)?;
+            }
+            Ok(None) => return put_sites(alloc, out, &known, info),
+            Err(e) => return put_error(out, e.number()),
+        }
+    }
+}
+
+/// The lines of a module's inlined functions and of their sites, or of a refusal.
+#[tactic(auto, unfolding(crate::specs::ModuleTexts::inlinees_of_text))]
+pub fn put_inlinees(
+    alloc: Global,
+    out: &mut Vec<u8>,
+    info: &ModuleInfo<'_>,
+) -> Result<(), AllocError>
+    ensures { OnOk result (out.new.items ≡ out.old.items ++ inlinees_of_text info.now) }
+{
+    match info.inlinees() {
+        Ok(inlinees) => put_whole(alloc, out, inlinees, info),
+        Err(e) => put_refusal(out, e),
+    }
+}
