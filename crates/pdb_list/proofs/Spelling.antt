@@ -10,8 +10,8 @@ differs : (xs ys : List ℕ) → (xs ≡ ys → ⊥) → bytes_eq xs ys ≡ fals
 differs xs ys h = let d = bytes_eq-Decides xs ys in grind arith
 
 -- the word is no command's
-pub no_command : (w : List ℕ) → (w ≡ codes "info" → ⊥) → (w ≡ codes "names" → ⊥) → (w ≡ codes "modules" → ⊥) → (w ≡ codes "contributions" → ⊥) → (w ≡ codes "globals" → ⊥) → plain_command w ≡ None
-no_command w a b c d e = rw (differs w (codes "info") a, differs w (codes "names") b, differs w (codes "modules") c, differs w (codes "contributions") d, differs w (codes "globals") e) refl
+pub no_command : (w : List ℕ) → (w ≡ codes "info" → ⊥) → (w ≡ codes "names" → ⊥) → (w ≡ codes "modules" → ⊥) → (w ≡ codes "contributions" → ⊥) → (w ≡ codes "sections" → ⊥) → (w ≡ codes "globals" → ⊥) → plain_command w ≡ None
+no_command w a b c d e f = rw (differs w (codes "info") a, differs w (codes "names") b, differs w (codes "modules") c, differs w (codes "contributions") d, differs w (codes "sections") e, differs w (codes "globals") f) refl
 
 behind_behind : (cs ds : List Command) (told : Result (List Command) ℕ) → behind cs (behind ds told) ≡ behind (cs ++ ds) told
 behind_behind cs ds (Ok es) = ap Ok (sym (append_assoc cs ds es))

@@ -1,6 +1,7 @@
 -- The texts of lists of commands.
-use Rattle.std.specs.Prelude.{ℕ, List, flat_map}
+use Rattle.std.specs.Prelude.{ℕ, List, [], flat_map}
 use Rattle.pdb.specs.Error.{Error}
+use Rattle.pdb.specs.ModuleStream.{ModuleBytes}
 use Rattle.pdb.specs.Error.TheVariants.{OutOfMemory}
 use Rattle.pdb_list.specs.declared.command.Command.{Command}
 use Rattle.pdb_list.specs.declared.command.Command.TheVariants.{Info, Names, Modules, Contributions, Sections, Globals, Symbols, Lines, Files, Inlinees, Imports, Exports}
@@ -8,6 +9,16 @@ use Rattle.pdb_list.specs.declared.engine.RunError.{RunError}
 use Rattle.pdb_list.specs.declared.engine.RunError.TheVariants as run
 use Rattle.pdb_list.specs.Texts.{info_text, names_text, modules_text, contributions_text, sections_text, globals_text}
 use Rattle.pdb_list.specs.ModuleTexts.{module_text, symbols_of_text, lines_of_text, files_of_text, inlinees_of_text, import_of_text, exports_of_text}
+
+-- the text of a command over what a module's stream says; nothing for a command that names no module
+abbrev pub of_module_text : Command → ModuleBytes → List ℕ
+of_module_text (Symbols k) m = symbols_of_text m
+of_module_text (Lines k) m = lines_of_text m
+of_module_text (Files k) m = files_of_text m
+of_module_text (Inlinees k) m = inlinees_of_text m
+of_module_text (Imports k i) m = import_of_text i m
+of_module_text (Exports k) m = exports_of_text m
+of_module_text command m = []
 
 -- the text of a command over a file
 abbrev pub command_text : List ℕ → Command → List ℕ
@@ -17,12 +28,12 @@ command_text file Modules = modules_text file
 command_text file Contributions = contributions_text file
 command_text file Sections = sections_text file
 command_text file Globals = globals_text file
-command_text file (Symbols k) = module_text file k symbols_of_text
-command_text file (Lines k) = module_text file k lines_of_text
-command_text file (Files k) = module_text file k files_of_text
-command_text file (Inlinees k) = module_text file k inlinees_of_text
-command_text file (Imports k i) = module_text file k (import_of_text i)
-command_text file (Exports k) = module_text file k exports_of_text
+command_text file (Symbols k) = module_text file k (of_module_text (Symbols k))
+command_text file (Lines k) = module_text file k (of_module_text (Lines k))
+command_text file (Files k) = module_text file k (of_module_text (Files k))
+command_text file (Inlinees k) = module_text file k (of_module_text (Inlinees k))
+command_text file (Imports k i) = module_text file k (of_module_text (Imports k i))
+command_text file (Exports k) = module_text file k (of_module_text (Exports k))
 
 -- the texts of commands, joined
 abbrev pub texts : List ℕ → List Command → List ℕ

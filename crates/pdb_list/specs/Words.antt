@@ -1,8 +1,11 @@
 -- The commands that words spell.
-use Rattle.std.specs.Prelude.{◌≡◌, ℕ, zero, suc, ◌+◌, List, [], ◌∷◌, ◌++◌, length, codes, Bool, true, false, Option, Some, None, Result, Ok, Err, nat_lt, if◌then◌else◌, slice_index_or}
+use Rattle.std.specs.Prelude.{◌≡◌, ℕ, zero, suc, ◌+◌, List, [], ◌∷◌, ◌++◌, length, codes, Bool, true, false, ◌&&◌, ◌||◌, Option, Some, None, Result, Ok, Err, nat_lt, nat_le, if◌then◌else◌, slice_index_or}
+use Rattle.std.specs.Char.{is_ascii_digit}
+use Rattle.std.specs.List.{list_all}
 use Rattle.std.specs.Str.{bytes_eq}
+use Rattle.std.specs.Str.Parse.{digits_value}
 use Rattle.pdb_list.specs.declared.command.Command.{Command}
-use Rattle.pdb_list.specs.declared.command.Command.TheVariants.{Info, Names, Modules, Contributions, Globals}
+use Rattle.pdb_list.specs.declared.command.Command.TheVariants.{Info, Names, Modules, Contributions, Sections, Globals, Symbols, Lines, Files, Inlinees, Imports, Exports}
 use Rattle.pdb_list.specs.declared.command.WordsError.{WordsError}
 use Rattle.pdb_list.specs.declared.command.WordsError.TheVariants.{BadWord, OutOfMemory}
 
@@ -23,17 +26,57 @@ plain_command word =
     else if bytes_eq word (codes "names") then Some Names
     else if bytes_eq word (codes "modules") then Some Modules
     else if bytes_eq word (codes "contributions") then Some Contributions
+    else if bytes_eq word (codes "sections") then Some Sections
     else if bytes_eq word (codes "globals") then Some Globals
     else None
 
--- a command of one word; or the place of the bad word
-abbrev pub of_one_word : Option Command → ℕ → Result (Command × ℕ) ℕ
-of_one_word (Some c) p = Ok (c, 1)
-of_one_word None p = Err p
+-- a word behind which a module's number stands
+abbrev pub takes_module : List ℕ → Bool
+takes_module word =
+    bytes_eq word (codes "symbols") || bytes_eq word (codes "lines") || bytes_eq word (codes "files") || bytes_eq word (codes "inlinees") || bytes_eq word (codes "exports")
+
+-- the command of such a word and number
+abbrev pub module_command : List ℕ → ℕ → Command
+module_command word k =
+    if bytes_eq word (codes "symbols") then Symbols k
+    else if bytes_eq word (codes "lines") then Lines k
+    else if bytes_eq word (codes "files") then Files k
+    else if bytes_eq word (codes "inlinees") then Inlinees k
+    else Exports k
+
+-- the number that a word is: one to ten digits, of at most 4294967295
+unfoldable pub number_in : List ℕ → Option ℕ
+number_in word =
+    if nat_lt 0 (length word) && nat_le (length word) 10 && list_all is_ascii_digit word && nat_lt (digits_value 10 word) 4294967296 then Some (digits_value 10 word)
+    else None
+
+-- the number that the word at p is, or the place of the bad word
+abbrev pub number_or : Option ℕ → ℕ → Result ℕ ℕ
+number_or (Some n) p = Ok n
+number_or None p = Err p
+
+abbrev pub number_at : List (List ℕ) → ℕ → Result ℕ ℕ
+number_at words p = number_or (number_in (word_at words p)) p
+
+-- a number, and what it makes
+abbrev pub with_number : {A : Type 0} → Result ℕ ℕ → (ℕ → Result A ℕ) → Result A ℕ
+with_number (Ok n) make = make n
+with_number (Err p) make = Err p
+
+-- a command of one word, or of a word and a module's number, or of a word, a module's number and an index; and how many words spell it
+abbrev pub one_word_or : Option Command → Result (Command × ℕ) ℕ → Result (Command × ℕ) ℕ
+one_word_or (Some c) others = Ok (c, 1)
+one_word_or None others = others
+
+abbrev pub longer_at : List (List ℕ) → ℕ → List ℕ → Result (Command × ℕ) ℕ
+longer_at words p word =
+    if takes_module word then with_number (number_at words (p + 1)) (λ k. Ok (module_command word k, 2))
+    else if bytes_eq word (codes "imports") then with_number (number_at words (p + 1)) (λ k. with_number (number_at words (p + 2)) (λ i. Ok (Imports k i, 3)))
+    else Err p
 
 -- the command that begins with the word at p, and how many words spell it; or the place of the bad word
 unfoldable pub command_at : List (List ℕ) → ℕ → Result (Command × ℕ) ℕ
-command_at words p = of_one_word (plain_command (word_at words p)) p
+command_at words p = one_word_or (plain_command (word_at words p)) (longer_at words p (word_at words p))
 
 -- some commands before others
 abbrev pub behind : List Command → Result (List Command) ℕ → Result (List Command) ℕ

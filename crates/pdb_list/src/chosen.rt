@@ -8,7 +8,9 @@ ghost use Rattle.pdb.specs.Modules.{modules_in};
 ghost use Rattle.pdb.specs.Answers.{item_at, module_of_file};
 ghost use Rattle.pdb_list.specs.Chosen.{module_in};
 
-use pdb::{DebugInformation, FallibleIterator, Module, ModuleInfo, ModuleIter, PDB, Result, Source};
+use pdb::{
+    DebugInformation, FallibleIterator, Module, ModuleInfo, ModuleIter, PDB, Result, Source,
+};
 
 /// The module with this place among those that are left.
 fn nth<'m>(mut modules: ModuleIter<'m>, k: u32) -> Result<Option<Module<'m>>>

@@ -1,7 +1,7 @@
 //! What the program is asked for.
 
 ghost use Rattle.std.specs.Prelude.{◌≡◌, ◌+◌, ◌<◌, ◌≤◌, length, map, string_bytes, IfOk};
-ghost use Rattle.pdb_list.specs.Words.{Tells, plain_command, command_at, spelled, asks_for_sample};
+ghost use Rattle.pdb_list.specs.Words.{Tells, plain_command, takes_module, module_command, number_in, number_at, longer_at, command_at, spelled, asks_for_sample};
 
 use std::alloc::{AllocError, AllocFailed, Global};
 
@@ -16,8 +16,22 @@ pub enum Command {
     Modules,
     /// Which bytes of the image came from which module: `contributions`.
     Contributions,
+    /// The section headers of the image: `sections`.
+    Sections,
     /// The global symbols: `globals`.
     Globals,
+    /// The symbols of the module with this place in the list of modules, counted from 0: `symbols K`.
+    Symbols(u32),
+    /// The line records of a module: `lines K`.
+    Lines(u32),
+    /// The files of a module: `files K`.
+    Files(u32),
+    /// The inlined functions of a module, and where they were inlined: `inlinees K`.
+    Inlinees(u32),
+    /// What this index of a module refers to in another module: `imports K I`.
+    Imports(u32, u32),
+    /// What a module exports to others: `exports K`.
+    Exports(u32),
 }
 
 /// Why words spell no commands.
@@ -59,9 +73,79 @@ fn plain_command(word: &str) -> Option<Command>
         "names" => Some(Command::Names),
         "modules" => Some(Command::Modules),
         "contributions" => Some(Command::Contributions),
+        "sections" => Some(Command::Sections),
         "globals" => Some(Command::Globals),
         _ => None,
     }
+}
+
+/// Whether a module's number stands behind this word.
+fn takes_module(word: &str) -> bool
+    ensures { result ≡ takes_module word.now }
+{
+    word == "symbols"
+        || word == "lines"
+        || word == "files"
+        || word == "inlinees"
+        || word == "exports"
+}
+
+/// The command of such a word and number.
+fn module_command(word: &str, k: u32) -> Command
+    ensures { result ≡ module_command word.now k }
+{
+    if word == "symbols" {
+        Command::Symbols(k)
+    } else if word == "lines" {
+        Command::Lines(k)
+    } else if word == "files" {
+        Command::Files(k)
+    } else if word == "inlinees" {
+        Command::Inlinees(k)
+    } else {
+        Command::Exports(k)
+    }
+}
+
+/// The number that a word is: one to ten digits, of at most 4294967295.
+#[tactic(auto, unfolding(crate::specs::Words::number_in))]
+fn number_in(word: &str) -> Option<u32>
+    ensures { result ≡ number_in word.now }
+{
+    let digits = word.as_bytes();
+    if digits.is_empty() || digits.len() > 10 || !digits.iter().all(|b| b.is_ascii_digit()) {
+        return None;
+    }
+    word.parse::<u32>().ok()
+}
+
+/// The number that the word at a place is.
+fn number_at(words: &[String], at: usize) -> Result<u32, WordsError>
+    ensures number { Tells (λ n. n) result (number_at (map string_bytes words.now) at) }
+    ensures there { IfOk result (λ _. at < length words.now) }
+{
+    match words.get(at) {
+        Some(word) => number_in(word.as_str()).ok_or(WordsError::BadWord(at)),
+        None => Err(WordsError::BadWord(at)),
+    }
+}
+
+/// The command that begins with this word at a place and has numbers behind it, and how many words spell it.
+fn longer_from(words: &[String], at: usize, word: &str) -> Result<(Command, usize), WordsError>
+    requires { at < length words.now }
+    ensures command { Tells (λ c. c) result (longer_at (map string_bytes words.now) at word.now) }
+    ensures count { IfOk result (λ c. (0 < c.1) × (at + c.1 ≤ length words.now)) }
+{
+    if takes_module(word) {
+        let k = number_at(words, at + 1)?;
+        return Ok((module_command(word, k), 2));
+    }
+    if word == "imports" {
+        let k = number_at(words, at + 1)?;
+        let index = number_at(words, at + 2)?;
+        return Ok((Command::Imports(k, index), 3));
+    }
+    Err(WordsError::BadWord(at))
 }
 
 /// The command that begins at a place, and how many words spell it.
@@ -75,7 +159,7 @@ fn command_from(words: &[String], at: usize) -> Result<(Command, usize), WordsEr
     };
     match plain_command(word.as_str()) {
         Some(command) => Ok((command, 1)),
-        None => Err(WordsError::BadWord(at)),
+        None => longer_from(words, at, word.as_str()),
     }
 }
 

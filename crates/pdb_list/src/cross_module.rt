@@ -61,10 +61,7 @@ pub fn put_exports(
 
 /// The line of what an index refers to.
 #[tactic(auto, unfolding(crate::specs::ModuleTexts::reference_text))]
-fn put_reference(
-    out: &mut Vec<u8>,
-    reference: CrossModuleRef<IdIndex>,
-) -> Result<(), AllocError>
+fn put_reference(out: &mut Vec<u8>, reference: CrossModuleRef<IdIndex>) -> Result<(), AllocError>
     ensures { OnOk result (out.new.items ≡ out.old.items ++ reference_text (record { name = reference.0.0.0; local = reference.1.0.0 })) }
 {
     let CrossModuleRef(ModuleRef(name), Local(IdIndex(local))) = reference;

@@ -7,15 +7,23 @@ ghost use Rattle.pdb.specs.Error.TheVariants.{OutOfMemory};
 ghost use Rattle.pdb.specs.Source.{State, Continues};
 ghost use Rattle.pdb.specs.Container.{opens};
 ghost use Rattle.pdb_list.specs.Written.{WroteFirst, WroteFront};
-ghost use Rattle.pdb_list.specs.CommandTexts.{command_text, run_error_of, texts};
+ghost use Rattle.pdb_list.specs.CommandTexts.{command_text, of_module_text, run_error_of, texts};
+ghost use Rattle.pdb_list.specs.ModuleTexts.{module_text};
 
+use crate::chosen::chosen_module;
 use crate::command::Command;
 use crate::contributions::put_contributions;
+use crate::cross_module::{put_exports, put_import};
+use crate::files::put_files;
 use crate::info::put_info;
+use crate::inlinees::put_inlinees;
+use crate::lines::put_lines;
 use crate::modules::put_modules;
 use crate::names::put_names;
-use crate::symbols::put_globals;
-use pdb::{Error, PDB, Source};
+use crate::sections::put_sections;
+use crate::symbols::{put_globals, put_symbols_of};
+use crate::text::{put_none, put_refusal};
+use pdb::{Error, ModuleInfo, PDB, Source};
 use std::alloc::{AllocError, Global};
 use std::io::Write;
 
@@ -79,24 +87,68 @@ fn open_error(e: Error) -> RunError
     }
 }
 
-/// The text of a command over an opened file.
-fn text_of<'s, S: Source<'s>>(
+/// The text of a command over what a module's stream says.
+fn put_of_module(
     alloc: Global,
+    out: &mut Vec<u8>,
+    info: &ModuleInfo<'_>,
+    command: Command,
+) -> Result<(), AllocError>
+    ensures { OnOk result (out.new.items ≡ out.old.items ++ of_module_text command info.now) }
+{
+    match command {
+        Command::Symbols(_) => put_symbols_of(alloc, out, info),
+        Command::Lines(_) => put_lines(alloc, out, info),
+        Command::Files(_) => put_files(alloc, out, info),
+        Command::Inlinees(_) => put_inlinees(alloc, out, info),
+        Command::Imports(_, index) => put_import(alloc, out, info, index),
+        Command::Exports(_) => put_exports(alloc, out, info),
+        _ => Ok(()),
+    }
+}
+
+/// The text of a command over the module with this place in the list of modules.
+fn put_of_chosen<'s, S: Source<'s>>(
+    alloc: Global,
+    out: &mut Vec<u8>,
+    pdb: &mut PDB<'s, S>,
+    k: u32,
+    command: Command,
+) -> Result<(), AllocError>
+    ensures continues { Continues pdb.old pdb.new }
+    ensures text { pdb.old.steady ≡ true → OnOk result (out.new.items ≡ out.old.items ++ module_text pdb.old.file k (of_module_text command)) }
+{
+    match chosen_module(pdb, k) {
+        Ok(Some(info)) => put_of_module(alloc, out, &info, command),
+        Ok(None) => put_none(out),
+        Err(e) => put_refusal(out, e),
+    }
+}
+
+/// The text of a command over an opened file.
+fn put_text<'s, S: Source<'s>>(
+    alloc: Global,
+    out: &mut Vec<u8>,
     pdb: &mut PDB<'s, S>,
     command: Command,
-) -> Result<Vec<u8>, AllocError>
+) -> Result<(), AllocError>
     ensures continues { Continues pdb.old pdb.new }
-    ensures text { pdb.old.steady ≡ true → IfOk result (λ v. v.items ≡ command_text pdb.old.file command) }
+    ensures text { pdb.old.steady ≡ true → OnOk result (out.new.items ≡ out.old.items ++ command_text pdb.old.file command) }
 {
-    let mut out = Vec::new(alloc);
     match command {
-        Command::Info => put_info(alloc, &mut out, pdb)?,
-        Command::Names => put_names(alloc, &mut out, pdb)?,
-        Command::Modules => put_modules(&mut out, pdb)?,
-        Command::Contributions => put_contributions(&mut out, pdb)?,
-        Command::Globals => put_globals(alloc, &mut out, pdb)?,
+        Command::Info => put_info(alloc, out, pdb),
+        Command::Names => put_names(alloc, out, pdb),
+        Command::Modules => put_modules(out, pdb),
+        Command::Contributions => put_contributions(out, pdb),
+        Command::Sections => put_sections(out, pdb),
+        Command::Globals => put_globals(alloc, out, pdb),
+        Command::Symbols(k)
+        | Command::Lines(k)
+        | Command::Files(k)
+        | Command::Inlinees(k)
+        | Command::Imports(k, _)
+        | Command::Exports(k) => put_of_chosen(alloc, out, pdb, k, command),
     }
-    Ok(out)
 }
 
 /// Opens the file of a source, and writes the commands' texts over it, one after the other. Each text is composed and
@@ -125,8 +177,10 @@ pub fn run<'s, S: Source<'s>, W: Write>(
         Ok(pdb) => pdb,
         Err(e) => return Err(open_error(e)),
     };
+    let mut text = Vec::new(alloc);
     for command in commands {
-        let text = text_of(alloc, &mut pdb, *command)?;
+        text.clear();
+        put_text(alloc, &mut text, &mut pdb, *command)?;
         write_out(out, &text)?;
     }
     Ok(())

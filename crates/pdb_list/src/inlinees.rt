@@ -68,10 +68,7 @@ fn here_of<'t>(alloc: Global, symbol: &Symbol<'t>) -> Result<Here<'t>, AllocErro
 }
 
 /// The lines of the records that an iterator has left, and then that of its fault; answers whether there is no fault.
-fn put_records(
-    out: &mut Vec<u8>,
-    mut lines: InlineeLineIterator<'_>,
-) -> Result<bool, AllocError>
+fn put_records(out: &mut Vec<u8>, mut lines: InlineeLineIterator<'_>) -> Result<bool, AllocError>
     ensures lines { OnOk result (out.new.items ≡ out.old.items ++ line_list_text (inlined_left lines.entry)) }
     ensures goes_on { IfOk result (λ goes_on. goes_on ≡ is_none (inlined_left lines.entry).fault) }
 {

@@ -2,18 +2,24 @@
 //! file that it makes itself.
 #![tactic(auto)]
 
+mod chosen;
 mod command;
 mod contributions;
+mod cross_module;
 mod engine;
 mod failing;
 #[cfg(test)]
 mod fakes;
+mod files;
 mod info;
+mod inlinees;
 mod input;
+mod lines;
 mod modules;
 mod names;
 mod report;
 mod sample;
+mod sections;
 mod streams;
 mod symbols;
 #[cfg(test)]
@@ -31,8 +37,21 @@ use std::process::ExitCode;
 use std::rt::{Env, Files};
 use std::{env, fs};
 
-/// What the stored run lists of the sample.
-const SAMPLE_COMMANDS: [Command; 1] = [Command::Globals];
+/// What is listed of the sample: all that can be listed.
+const SAMPLE_COMMANDS: [Command; 12] = [
+    Command::Info,
+    Command::Names,
+    Command::Modules,
+    Command::Contributions,
+    Command::Sections,
+    Command::Globals,
+    Command::Symbols(0),
+    Command::Lines(0),
+    Command::Files(0),
+    Command::Inlinees(0),
+    Command::Imports(0, 2147483648),
+    Command::Exports(0),
+];
 
 /// Why the program's words can't be had: one isn't UTF-8, or there is no memory for them.
 fn words_fault(e: &io::Error) -> Fault {

@@ -11,9 +11,12 @@ ghost use Rattle.pdb.specs.Views.{symbol_of, symbols_left};
 ghost use Rattle.pdb.specs.Text.{name_bytes};
 ghost use Rattle.pdb_list.specs.Digits.{hex};
 ghost use Rattle.pdb_list.specs.Texts.{globals_text, form_text, space_text, bytes_of, refused_text, record_text, symbol_text, symbols_text};
+ghost use Rattle.pdb_list.specs.ModuleTexts.{symbols_of_text};
 
 use crate::text::{h4, h8, put_decimal, put_error, put_line_end, put_refusal};
-use pdb::{Error, FallibleIterator, PDB, RawString, Source, Symbol, SymbolData, SymbolIter};
+use pdb::{
+    Error, FallibleIterator, ModuleInfo, PDB, RawString, Source, Symbol, SymbolData, SymbolIter,
+};
 use std::alloc::{AllocError, Global};
 
 /// The name of a form, with a space behind it where the symbol has a name.
@@ -130,7 +133,7 @@ fn put_symbol(alloc: Global, out: &mut Vec<u8>, symbol: &Symbol<'_>) -> Result<(
 }
 
 /// The lines of the symbols that an iterator has left, and then that of its fault.
-pub fn put_symbols(
+fn put_symbols(
     alloc: Global,
     out: &mut Vec<u8>,
     mut symbols: SymbolIter<'_>,
@@ -158,6 +161,21 @@ pub fn put_globals<'s, S: Source<'s>>(
 {
     match pdb.global_symbols() {
         Ok(table) => put_symbols(alloc, out, table.iter()),
+        Err(e) => put_refusal(out, e),
+    }
+}
+
+/// The lines of a module's symbols, or of their refusal.
+#[tactic(auto, unfolding(crate::specs::ModuleTexts::symbols_of_text))]
+pub fn put_symbols_of(
+    alloc: Global,
+    out: &mut Vec<u8>,
+    info: &ModuleInfo<'_>,
+) -> Result<(), AllocError>
+    ensures { OnOk result (out.new.items ≡ out.old.items ++ symbols_of_text info.now) }
+{
+    match info.symbols() {
+        Ok(symbols) => put_symbols(alloc, out, symbols),
         Err(e) => put_refusal(out, e),
     }
 }
