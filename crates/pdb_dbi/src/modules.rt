@@ -170,7 +170,8 @@ impl<'m> ModuleIter<'m> {
 }
 
 impl<'m> FallibleIterator for ModuleIter<'m> {
-    ghost use Rattle.std.specs.Prelude.{IfOk, IfErr, IfSome};
+    ghost use Rattle.std.specs.Prelude.{◌≢◌, IfOk, IfErr, IfSome};
+    ghost use Rattle.pdb_base.specs.declared.error.Error.TheVariants.{IoError, OutOfMemory};
     ghost use Rattle.std.specs.Option.{IfNone};
     ghost use Rattle.pdb_base.specs.Left.{Yields};
     ghost use Rattle.pdb_dbi.specs.Modules.{ModuleEntry};
@@ -194,6 +195,7 @@ impl<'m> FallibleIterator for ModuleIter<'m> {
         ensures stepped { IfOk result (λ o. IfSome o (λ _. modules_steps self.new ≡ modules_steps self.old + 1)) }
         ensures rests { IfOk result (λ o. IfNone o (modules_steps self.new ≡ modules_steps self.old)) }
         ensures stepped_to_fault { IfErr result (λ _. modules_steps self.new ≡ modules_steps self.old + 1) }
+        ensures refused { IfErr result (λ e. (e ≢ OutOfMemory) × (e ≢ IoError)) }
     {
         if self.buffer.is_empty() {
             return Ok(None);

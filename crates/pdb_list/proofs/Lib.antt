@@ -3,4 +3,5 @@ pub mod Written
 pub mod Spelling
 pub mod SampleFacts
 pub mod Pairs
-pub mod Lines
+pub mod LinePieces
+pub mod Listed

@@ -1,5 +1,6 @@
 -- What the code of inlined functions and their sites knows.
-use Rattle.std.specs.Prelude.{ℕ, Option, nat_cmp}
+use Rattle.std.specs.Prelude.{ℕ, Option}
+use Rattle.std.specs.Ordering.{nat_cmp}
 use Rattle.std.specs.BTreeMap.{BTreeMap, get}
 use Rattle.pdb.specs.AnnotationViews.{annotation_bytes}
 use Rattle.pdb.specs.Inlinees.{InlineeEntry}

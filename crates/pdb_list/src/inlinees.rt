@@ -33,7 +33,6 @@ fn put_inlinee(out: &mut Vec<u8>, inlinee: &Inlinee<'_>) -> Result<(), AllocErro
 }
 
 /// Notes an inlined function, unless one with its id is known.
-#[tactic(auto, using(crate::proofs::Listed::noted, crate::proofs::Listed::not_noted))]
 fn note<'a>(known: &mut Known<'a>, inlinee: Inlinee<'a>) -> Result<(), AllocError>
     ensures { OnOk result ((xs : List InlineeEntry) → listed_in known.old ≡ inlinee_with xs → listed_in known.new ≡ inlinee_with (xs ++ inlinee.entry ∷ [])) }
 {
