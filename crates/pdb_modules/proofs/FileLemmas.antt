@@ -1,5 +1,5 @@
 -- The turns of the loop over files.
-use Rattle.std.proofs.Common.{◌≡◌, ℕ, ◌+◌, ◌-◌, ◌<◌, ◌≤◌, List, [], ◌∷◌, length, map, take, drop, length-take, length-drop, min, Some, None, inl, inr, Result, Ok, Err, refl, sym, ap, ◌∙◌, arith}
+use Rattle.std.proofs.Common.{◌≡◌, ℕ, ◌+◌, ◌-◌, ◌<◌, ◌≤◌, List, [], ◌∷◌, length, map, drop, length-take, length-drop, min, Some, None, inl, inr, Result, Ok, Err, refl, ap, ◌∙◌, arith}
 use Rattle.std.proofs.lemmas.Bool.Decides.{nat_tests}
 use Rattle.std.proofs.lemmas.Bool.{cases_lt}
 use Rattle.std.proofs.lemmas.List.{length-map}
@@ -10,7 +10,7 @@ use Rattle.pdb_base.specs.Fields.{number, bytes_at, aligned_at, padding}
 use Rattle.pdb_base.specs.Left.{Follows, Ends, ended}
 use Rattle.pdb_base.specs.Tiling.{listing}
 use Rattle.pdb_base.proofs.Places.{bind_ok, slice_is}
-use Rattle.pdb_base.proofs.Readings.{ReadsInside, read_moves, read_item, read_fault, read_end}
+use Rattle.pdb_base.proofs.Readings.{ReadsInside, read_item, read_fault, read_end}
 use Rattle.pdb_base.proofs.Tilings.{few, listing_end}
 use Rattle.pdb_modules.specs.declared.files.Entry.{Entry}
 use Rattle.pdb_modules.specs.Files.{FileEntry, FileOf, known_kind, entry_at, entry_length, entries, entries_from, file_of, files_left, files_of}

@@ -22,3 +22,4 @@ pub mod ProgramAnswers
 pub mod Among
 pub mod InlinedSteps
 pub mod InlinedSums
+pub mod LookupLaws

@@ -1,5 +1,5 @@
 -- What a line program answers, by what its parts answer.
-use Rattle.std.proofs.Common.{◌≡◌, ℕ, List, map, Ok, Err, Result, ap, sym, subst, ◌∙◌}
+use Rattle.std.proofs.Common.{◌≡◌, ℕ, List, Ok, Err, Result, ap, sym, subst, ◌∙◌}
 use Rattle.std.specs.Prelude.{IfOk, IfErr}
 use Rattle.pdb_base.specs.declared.error.Error.{Error}
 use Rattle.pdb_base.specs.declared.error.Error.TheVariants.{IoError, OutOfMemory}

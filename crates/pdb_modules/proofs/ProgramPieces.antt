@@ -1,5 +1,5 @@
 -- The subsections as a line program reads them, and the turns of the loop over them.
-use Rattle.std.proofs.Common.{◌≡◌, ℕ, ◌+◌, ◌<◌, ◌≤◌, Bool, true, false, cond, List, [], ◌∷◌, ◌++◌, map, length, Option, Some, None, Ok, Err, Result, refl, sym, ap, subst, ◌∙◌, arith, append_assoc}
+use Rattle.std.proofs.Common.{◌≡◌, ℕ, ◌<◌, ◌≤◌, Bool, true, false, cond, List, [], ◌∷◌, ◌++◌, map, length, Option, Some, None, Ok, Err, Result, refl, sym, ap, subst, ◌∙◌, arith, append_assoc}
 use Rattle.std.specs.List.{filter_map, cons_option}
 use Rattle.std.proofs.lemmas.Bool.{eq-eqb, ne_eqb}
 use Rattle.std.proofs.lemmas.List.{append-nil}
@@ -17,7 +17,7 @@ use Rattle.pdb_modules.specs.KeptRows.{subsection_of}
 use Rattle.pdb_modules.specs.LineOrder.{ordered}
 use Rattle.pdb_modules.specs.Subsections.{PieceBytes, piece_at, piece_length, all_or_fault}
 use Rattle.pdb_modules.specs.SubsectionViews.{bytes_of_piece}
-use Rattle.pdb_modules.specs.ProgramParts.{is_short, whole_piece, whole_piece_at, whole_pieces_from, lines_subsection, as_lines, later_checksums, last_checksums, PartsOf, parts_among, parts_of}
+use Rattle.pdb_modules.specs.ProgramParts.{is_short, whole_piece, whole_piece_at, whole_pieces_from, lines_subsection, as_lines, later_checksums, last_checksums, parts_among, parts_of}
 use Rattle.pdb_modules.proofs.Refusals.{NotIo, not_io_then, fails_with}
 use Rattle.pdb_modules.proofs.SubsectionLemmas.{pieces_within, piece_not_io}
 use Rattle.pdb_modules.proofs.Turns.{turn_follows, turn_fault, turn_end}

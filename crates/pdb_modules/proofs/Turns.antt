@@ -1,5 +1,5 @@
 -- The turns of a loop over a list whose pieces one reading tells, over the bytes that it began with.
-use Rattle.std.proofs.Common.{◌≡◌, ℕ, ◌+◌, ◌<◌, ◌≤◌, List, [], ◌∷◌, length, Option, Some, None, Ok, Err, Result, refl, sym, ap, subst, ◌∙◌, arith}
+use Rattle.std.proofs.Common.{◌≡◌, ℕ, ◌<◌, ◌≤◌, List, [], ◌∷◌, length, Option, Some, None, Ok, Err, Result, refl, ap, subst, ◌∙◌, arith}
 use Rattle.pdb_base.specs.declared.error.Error.{Error}
 use Rattle.pdb_base.specs.Cursor.{Cursor, Reads}
 use Rattle.pdb_base.specs.Left.{Left, Follows}

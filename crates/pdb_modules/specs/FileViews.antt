@@ -1,8 +1,7 @@
 -- What contracts see of files.
-use Rattle.std.proofs.Common.{◌≡◌, ℕ, Bool, true, false, ◌&&◌, List, refl}
+use Rattle.std.proofs.Common.{◌≡◌, Bool, true, false, ◌&&◌, refl}
 use Rattle.std.specs.Cmp.{IsPartialEquivalence, partial_equiv_from_equiv, and_per, on_per, nat_eq_equiv}
 use Rattle.std.specs.Cmp.Lexicographic.{lists_per}
-use Rattle.std.specs.Borrow.{Bor}
 use Rattle.pdb_modules.specs.declared.files.Entry.{Entry}
 use Rattle.pdb_modules.specs.declared.files.FileChecksum.{FileChecksum}
 use Rattle.pdb_modules.specs.declared.files.FileChecksum.TheVariants as variant

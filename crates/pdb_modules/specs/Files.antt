@@ -1,5 +1,5 @@
 -- The files of a module: the checksums of their contents, which stand one after another.
-use Rattle.std.specs.Prelude.{ℕ, ◌+◌, ◌==◌, ◌&&◌, Bool, true, false, nat_lt, if◌then◌else◌, List, [], length, map, Option, Some, None, Result, Ok, Err}
+use Rattle.std.specs.Prelude.{◌≡◌, ℕ, ◌+◌, ◌==◌, ◌&&◌, Bool, true, false, nat_lt, if◌then◌else◌, List, [], length, map, Result, Ok, Err}
 use Rattle.std.specs.Str.{bytes_eq}
 use Rattle.pdb_base.specs.declared.error.Error.{Error}
 use Rattle.pdb_base.specs.declared.error.Error.TheVariants.{UnexpectedEof, UnimplementedFileChecksumKind, InvalidFileChecksumOffset}
@@ -98,3 +98,10 @@ has_digest (sha256 b) = true
 -- two checksums are of one digest kind and have equal bytes; one without a digest equals none
 abbrev pub same_sums : Checksum → Checksum → Bool
 same_sums a b = ((digest_kind a == digest_kind b) && bytes_eq (digest_bytes a) (digest_bytes b)) && (has_digest a && has_digest b)
+
+-- the same, case by case
+abbrev pub HaveOneDigest : Checksum → Checksum → Type 0
+HaveOneDigest (md5 x) (md5 y) = x ≡ y
+HaveOneDigest (sha1 x) (sha1 y) = x ≡ y
+HaveOneDigest (sha256 x) (sha256 y) = x ≡ y
+HaveOneDigest a b = ⊥

@@ -1,6 +1,6 @@
 -- What contracts see of an iterator over line records.
-use Rattle.std.specs.Prelude.{ℕ, List}
-use Rattle.pdb_base.specs.Left.{Left}
+use Rattle.std.specs.Prelude.{◌≡◌, ℕ, List}
+use Rattle.pdb_base.specs.Left.{Left, ended}
 use Rattle.pdb_modules.specs.declared.inlined_lines.InlineeLineIterator.{InlineeLineIterator}
 use Rattle.pdb_modules.specs.declared.line_info.LineInfo.{LineInfo}
 use Rattle.pdb_modules.specs.Inlined.{lines_left}
@@ -15,3 +15,7 @@ inlined_part it = annotations_bytes it.annotations
 
 abbrev pub inlined_steps : InlineeLineIterator → ℕ
 inlined_steps it = it.steps.count
+
+-- an iterator has ended: no annotation is left
+abbrev pub InlinedEnded : InlineeLineIterator → Type 0
+InlinedEnded it = annotations_left it.annotations ≡ ended

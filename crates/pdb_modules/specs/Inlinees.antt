@@ -1,9 +1,9 @@
 -- The inlined functions of a module, which stand one after another.
-use Rattle.std.specs.Prelude.{ℕ, ◌+◌, ◌*◌, ◌==◌, Bool, if◌then◌else◌, List, [], length, drop, Option, Some, None, Result, Ok, Err}
+use Rattle.std.specs.Prelude.{ℕ, ◌+◌, ◌*◌, ◌==◌, Bool, if◌then◌else◌, List, [], length, drop, Result, Ok}
 use Rattle.pdb_base.specs.declared.error.Error.{Error}
 use Rattle.pdb_base.specs.Refusal.{◌>>=◌}
 use Rattle.pdb_base.specs.Fields.{number, number_at, bytes_at}
-use Rattle.pdb_base.specs.Left.{Left, ended}
+use Rattle.pdb_base.specs.Left.{Left}
 use Rattle.pdb_base.specs.Tiling.{Row, listing}
 use Rattle.pdb_base.specs.Reading.{read_row}
 

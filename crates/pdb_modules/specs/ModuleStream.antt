@@ -1,5 +1,5 @@
 -- The stream of a module, and what each of its parts holds.
-use Rattle.std.specs.Prelude.{ℕ, ◌==◌, nat_lt, if◌then◌else◌, List, [], length, Option, Some, None, Result, Ok, Err}
+use Rattle.std.specs.Prelude.{ℕ, ◌==◌, nat_lt, if◌then◌else◌, List, [], length, drop, Option, Some, None, Result, Ok, Err}
 use Rattle.pdb_base.specs.declared.error.Error.{Error}
 use Rattle.pdb_base.specs.declared.error.Error.TheVariants.{UnimplementedFeature}
 use Rattle.pdb_base.specs.declared.error.Feature.TheVariants.{SymbolDataFormat, C11LinePrograms}
@@ -60,6 +60,10 @@ in_part nothing read (Some part) = read part
 
 unfoldable pub inlinees_of : ModuleBytes → Result (Left InlineeEntry) Error
 inlinees_of m = part_of_kind 0xf6 m >>= in_part ended inlinees_in
+
+-- the bytes of the inlined functions, behind the signature
+unfoldable pub inlinees_part_of : ModuleBytes → Result (List ℕ) Error
+inlinees_part_of m = part_of_kind 0xf6 m >>= in_part [] (λ part. Ok (drop 4 part))
 
 unfoldable pub imports_of : ModuleBytes → Result (List ImportedModule) Error
 imports_of m = part_of_kind 0xf7 m >>= in_part [] imports_in

@@ -51,10 +51,10 @@ impl<'a> InlineeLineIterator<'a> {
 }
 
 impl<'a> FallibleIterator for InlineeLineIterator<'a> {
-    ghost use Rattle.std.specs.Prelude.{IfOk, IfErr, IfSome};
+    ghost use Rattle.std.specs.Prelude.{IfOk, IfErr, IfNone};
     ghost use Rattle.pdb_base.specs.Left.{Yields};
     ghost use Rattle.pdb_modules.specs.declared.line_info.LineInfo.{LineInfo};
-    ghost use Rattle.pdb_modules.specs.InlinedViews.{inlined_left, inlined_part, inlined_steps};
+    ghost use Rattle.pdb_modules.specs.InlinedViews.{inlined_left, inlined_part, inlined_steps, InlinedEnded};
 
     type Item = LineInfo;
 
@@ -72,6 +72,10 @@ impl<'a> FallibleIterator for InlineeLineIterator<'a> {
         // A step is a turn that reads an annotation or meets the fault.
         ensures bound { inlined_steps self.new ≤ length (inlined_part self.new) + 1 }
         ensures grows { inlined_steps self.old ≤ inlined_steps self.new }
+        // A list that has ended makes no step.
+        ensures rests { InlinedEnded self.old → inlined_steps self.new ≡ inlined_steps self.old }
+        ensures ends { IfOk result (λ o. IfNone o (InlinedEnded self.new)) }
+        ensures ends_at_fault { IfErr result (λ _. InlinedEnded self.new) }
         ensures stepped_to_fault { IfErr result (λ _. inlined_steps self.old < inlined_steps self.new) }
     {
         loop {

@@ -1,6 +1,6 @@
 //! The inlined functions of a module.
 
-ghost use Rattle.std.specs.Prelude.{◌≡◌, ◌+◌, ◌≤◌, ◌<◌, ◌^◌, length, IfOk, ⊤};
+ghost use Rattle.std.specs.Prelude.{◌≡◌, ◌+◌, ◌≤◌, ◌<◌, ◌^◌, length, drop, IfOk, ⊤};
 ghost use Rattle.pdb_base.specs.Cursor.{Reads};
 ghost use Rattle.pdb_base.specs.Refusal.{Answers};
 ghost use Rattle.pdb_modules.specs.Inlinees.{extra_files_at, extra_length, inlinee_at, inlinee_length, inlinees_in};
@@ -143,7 +143,7 @@ impl<'a> InlineeIterator<'a> {
     #[tactic(auto, unfolding(crate::specs::Inlinees::inlinees_in, crate::specs::Inlinees::inlinees_from, pdb_base::specs::Fields::number_at))]
     pub(crate) fn parse(part: &'a [u8]) -> Result<Self>
         ensures left { Answers inlinees_left result (inlinees_in part.entry.now) }
-        ensures part { IfOk result (λ it. length (inlinees_part it) ≤ length part.entry.now) }
+        ensures part { IfOk result (λ it. inlinees_part it ≡ drop 4 part.entry.now) }
         ensures steps { IfOk result (λ it. inlinees_steps it ≡ 0) }
     {
         if part.len() < 4 {

@@ -1,6 +1,9 @@
 //! Laws of the definitions.
 
-ghost use Rattle.std.specs.Prelude.{◌≡◌, ℕ, suc, ◌+◌, ◌%◌, ◌^◌, ◌<◌, ◌++◌, List, take, Some, None};
+ghost use Rattle.std.specs.Prelude.{◌≡◌, ℕ, suc, ◌+◌, ◌*◌, ◌%◌, ◌^◌, ◌<◌, ◌++◌, List, length, take, get_or, Ok, Some, None, Decides};
+ghost use Rattle.pdb_base.specs.Fields.{number};
+ghost use Rattle.pdb_modules.specs.CrossModule.{exports_in, global_of};
+ghost use Rattle.pdb_modules.specs.Files.{Checksum, same_sums, HaveOneDigest};
 ghost use Rattle.std.specs.List.{sum_by};
 ghost use Rattle.pdb_symbols.specs.declared.annotations.BinaryAnnotation.{BinaryAnnotation};
 ghost use Rattle.pdb_modules.specs.declared.seen.Seen.{Seen};
@@ -48,4 +51,22 @@ pub fn inlined_records_stand_at_sums()
 /// What is seen behind some annotations and then some more is what is seen behind them all.
 pub fn what_is_seen_goes_on()
     ensures { (s : Seen) (xs ys : List BinaryAnnotation) → seen (seen s xs) ys ≡ seen s (xs ++ ys) }
+{}
+
+/// Two checksums are equal exactly where both are of one digest kind and have equal bytes; one without a digest equals
+/// none.
+pub fn checksum_equality()
+    ensures { (a b : Checksum) → Decides (same_sums a b) (HaveOneDigest a b) }
+{}
+
+/// Export i of a part stands at its place 8 * i, and each eight bytes are one.
+pub fn exports_in_file_order()
+    ensures count { (part : List ℕ) (xs : List (ℕ × ℕ)) → exports_in part ≡ Ok xs → 8 * length xs ≡ length part }
+    ensures places { (part : List ℕ) (xs : List (ℕ × ℕ)) → exports_in part ≡ Ok xs → (i : ℕ) (d : ℕ × ℕ) → i < length xs → get_or xs i d ≡ (number part (8 * i) 4, number part (8 * i + 4) 4) }
+{}
+
+/// The export that is found is the first one of its local number; none is found where no export has it.
+pub fn the_first_export_is_found()
+    ensures first { (local : ℕ) (xs : List (ℕ × ℕ)) (k : ℕ) (d : ℕ × ℕ) → k < length xs → (get_or xs k d).0 ≡ local → ((j : ℕ) → j < k → (get_or xs j d).0 ≡ local → ⊥) → global_of local xs ≡ Some (get_or xs k d).1 }
+    ensures missing { (local : ℕ) (xs : List (ℕ × ℕ)) (d : ℕ × ℕ) → ((j : ℕ) → j < length xs → (get_or xs j d).0 ≡ local → ⊥) → global_of local xs ≡ None }
 {}

@@ -33,3 +33,6 @@ pub use line_info::{LineInfo, LineInfoKind};
 pub use line_program::LineProgram;
 pub use lines::LineIterator;
 pub use module_info::ModuleInfo;
+
+#[cfg(test)]
+mod tests;

@@ -3,7 +3,7 @@
 use pdb_base::FileIndex;
 
 /// The columns of a line entry.
-#[derive(Clone, Copy, Debug)]
+#[derive(Clone, Copy)]
 pub struct Columns {
     /// Where it starts.
     pub start: u16,
@@ -12,7 +12,7 @@ pub struct Columns {
 }
 
 /// What a line entry tells of the source.
-#[derive(Clone, Copy, Debug)]
+#[derive(Clone, Copy)]
 pub struct Line {
     /// The file.
     pub file: FileIndex,
@@ -23,7 +23,7 @@ pub struct Line {
 }
 
 /// An entry of a block of a line subsection.
-#[derive(Clone, Copy, Debug)]
+#[derive(Clone, Copy)]
 pub struct Entry {
     /// The offset from the subsection's.
     pub offset: u32,

@@ -4,8 +4,8 @@ ghost use Rattle.std.specs.Prelude.{◌≡◌, ◌≢◌, ◌≤◌, length, Ok,
 ghost use Rattle.pdb_base.specs.Refusal.{Answers, Gives};
 ghost use Rattle.pdb_base.specs.Fields.{bytes_at};
 ghost use Rattle.pdb_symbols.specs.Views.{symbols_left, symbols_bytes, symbols_steps};
-ghost use Rattle.pdb_modules.specs.ModuleStream.{checked_part, symbols_part_of, symbols_of, symbols_at_of, lines_data_of, line_program_of, part_of_kind, inlinees_of, imports_of, exports_of};
-ghost use Rattle.pdb_modules.specs.ModuleViews.{inlinees_left, inlinees_steps};
+ghost use Rattle.pdb_modules.specs.ModuleStream.{checked_part, symbols_part_of, symbols_of, symbols_at_of, lines_data_of, line_program_of, part_of_kind, inlinees_of, inlinees_part_of, imports_of, exports_of};
+ghost use Rattle.pdb_modules.specs.ModuleViews.{inlinees_left, inlinees_part, inlinees_steps};
 ghost use Rattle.pdb_modules.specs.SubsectionViews.{seen_part};
 
 use crate::exports::CrossModuleExports;
@@ -162,9 +162,10 @@ impl<'s> ModuleInfo<'s> {
     /// of inlined functions is shorter than four bytes; and where no such part stands before a subsection that isn't
     /// all there or of a kind that isn't known, that subsection's refusal. There are none where the module has lines
     /// of the older form.
-    #[tactic(auto, unfolding(crate::specs::ModuleStream::inlinees_of))]
+    #[tactic(auto, unfolding(crate::specs::ModuleStream::inlinees_of, crate::specs::ModuleStream::inlinees_part_of))]
     pub fn inlinees(&self) -> Result<InlineeIterator<'_>>
         ensures left { Answers inlinees_left result (inlinees_of self.now) }
+        ensures part { IfOk result (λ it. inlinees_part_of self.now ≡ Ok (inlinees_part it)) }
         ensures steps { IfOk result (λ it. inlinees_steps it ≡ 0) }
     {
         match self.part_of_kind(INLINEE_LINES)? {

@@ -15,7 +15,7 @@ use crate::line_subsection::LineSubsection;
 use pdb_base::{Error, FileIndex, ParseBuffer, PdbInternalSectionOffset, Result};
 
 /// A line record as it is kept. The fields stand so that there is no room between them.
-#[derive(Clone, Copy, Debug)]
+#[derive(Clone, Copy)]
 pub struct Row {
     offset: u32,
     section: u16,

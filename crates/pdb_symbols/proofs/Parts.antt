@@ -11,7 +11,7 @@ use Rattle.pdb_base.specs.Refusal.{◌>>=◌}
 use Rattle.pdb_base.specs.Fields.{bytes_at, cstring_at, pascal_at}
 use Rattle.pdb_base.specs.Places.{IsCString, IsPascal}
 use Rattle.pdb_base.proofs.Places.{bind_ok, OnlyEof, bind_eof, ok_eof, number_is, is_number, number_eof, pascal_is, is_pascal, pascal_eof, cstring_is, is_cstring, cstring_eof}
-use Rattle.pdb_symbols.specs.Parts.{IsOffset, IsName, IsOptionalName, offset_at, name_at, optional_name_at, module_at}
+use Rattle.pdb_symbols.specs.Parts.{IsOffset, IsName, IsOptionalName, offset_at, name_at, optional_name_at}
 
 pub offset_is : (b : List ℕ) (p : ℕ) (o : PdbInternalSectionOffset) → offset_at b p ≡ Ok o → IsOffset b p o
 unfolding offset_at
@@ -80,9 +80,6 @@ optional_eof_at false b p = bind_eof _ _ (cstring_eof b p) (λ _. ok_eof _)
 pub optional_name_eof : (kind : ℕ) (b : List ℕ) (p : ℕ) → OnlyEof (optional_name_at kind b p)
 unfolding optional_name_at
 optional_name_eof kind b p = optional_eof_at (nat_lt kind 0x1100) b p
-
-pub module_eof : (b : List ℕ) (p : ℕ) → OnlyEof (module_at b p)
-module_eof b p = bind_eof _ _ (number_eof b p 2) (λ _. ok_eof _)
 
 -- ---- the bytes that are left
 

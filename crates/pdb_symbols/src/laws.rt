@@ -1,4 +1,4 @@
-//! Laws of the definitions. Each is the contract of a function that does nothing.
+//! Laws of the definitions. Each is the contract of a function that does nothing, or that answers a number.
 
 ghost use Rattle.std.specs.Prelude.{true, false, ◌≡◌, ℕ, ◌-◌, ◌*◌, ◌≤◌, List, ◌∷◌, ◌++◌, length, Ok, Err};
 ghost use Rattle.pdb_base.specs.Left.{Left};

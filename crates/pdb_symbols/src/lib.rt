@@ -21,6 +21,8 @@ mod scopes;
 mod spelling;
 mod symbol;
 mod table;
+#[cfg(test)]
+mod tests;
 mod thunks;
 mod variables;
 

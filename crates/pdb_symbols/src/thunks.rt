@@ -14,7 +14,7 @@ use crate::fields::{parse_name, parse_offset, parse_two_places};
 use crate::procedures::parse_scope;
 use pdb_base::{ParseBuffer, PdbInternalSectionOffset, RawString, Result, SymbolIndex};
 
-/// What a thunk does that adjusts `this`: the variant of `THUNKSYM32` of `cvinfo.h` at ordinal `THUNK_ORDINAL_ADJUSTOR`.
+/// What a thunk does that adjusts `this`: `THUNK_ORDINAL_ADJUSTOR` of `cvinfo.h`.
 #[derive(Clone, Copy, Debug, Eq, PartialEq)]
 pub struct ThunkAdjustor<'t> {
     delta: u16,

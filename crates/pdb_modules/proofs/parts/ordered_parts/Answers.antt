@@ -4,7 +4,7 @@ use Rattle.pdb_modules.specs.KeptRows.{subsection_of}
 use Rattle.pdb_modules.specs.LineOrder.{InOrder}
 use Rattle.pdb_modules.specs.Subsections.{piece_length}
 use Rattle.pdb_modules.specs.SubsectionViews.{bytes_of_piece}
-use Rattle.pdb_modules.specs.ProgramParts.{PartsOf, whole_piece_at}
+use Rattle.pdb_modules.specs.ProgramParts.{whole_piece_at}
 use Rattle.pdb_modules.proofs.Sorting.{in_order}
 use Rattle.pdb_modules.proofs.Turns.{turn_moves}
 use Rattle.pdb_modules.proofs.ProgramPieces.{whole_within, passed, replaced, taken, refused_with, collected}

@@ -1,6 +1,6 @@
 use Rattle.std.proofs.Common.{Some, Ok, Err, length, arith, rules, ap, ◌∙◌}
 use Rattle.pdb_symbols.specs.AnnotationViews.{annotations_left}
-use Rattle.pdb_modules.proofs.InlinedSteps.{turn_gives, turn_opens, turn_passes, taken_turn, fault_turn, yields_from, lines_few}
+use Rattle.pdb_modules.proofs.InlinedSteps.{turn_gives, turn_opens, turn_passes, taken_turn, fault_turn, yields_from, lines_few, none_more, no_fault, if_none, items_ended, fault_ended}
 use Rattle.pdb_modules.proofs.inlined_lines.InlineeLineIteratorFallibleIterator.next.Goals as goal
 
 pub returns-in-Some-emit-clause-yields : goal.returns-in-Some-emit-clause-yields
@@ -10,6 +10,11 @@ returns-in-Some-emit-clause-yields c =
     yields_from _ _ _ (Ok (Some c.in-Some-emit.line)) c.loop-annotation.invariant.left
     (turn_gives c.loop-annotation.self.lines c.take_in.new.self c.in-Ok-Some.annotation _ _ c.take_in.result read taken.section taken.seen taken.quiet taken.emits
     c.emit.new.self c.in-Some.length c.emit.result c.in-Some.is c.emit.ensures.gives c.emit.ensures.pending c.in-Some-emit.line c.in-Some-emit.is)
+
+pub returns-in-Some-emit-clause-rests : goal.returns-in-Some-emit-clause-rests
+returns-in-Some-emit-clause-rests c =
+    let read = rw c.in-Ok-Some.field-0-is at c.in-Ok-Some.ensures.yields in
+    λ e. absurd (none_more _ _ c.in-Ok-Some.annotation (items_ended (annotations_left c.loop-annotation.self.annotations) (c.loop-annotation.invariant.resting e).0) read.0)
 
 pub returns-in-Some-emit-clause-few : goal.returns-in-Some-emit-clause-few
 returns-in-Some-emit-clause-few c =
@@ -27,6 +32,7 @@ loop-annotation-preserved-in_default-emit c =
           c.emit.new.self c.in-Some.length c.emit.result c.in-Some.is c.emit.ensures.gives c.emit.ensures.pending (search rules);
       bytes = search rules;
       steps = omega (arith, c.loop-annotation.invariant.steps, c.tick.ensures);
+      resting = λ e. absurd (none_more _ _ c.in-Ok-Some.annotation (items_ended (annotations_left c.loop-annotation.self.annotations) (c.loop-annotation.invariant.resting e).0) read.0);
     }
 
 pub loop-annotation-preserved : goal.loop-annotation-preserved
@@ -37,7 +43,16 @@ loop-annotation-preserved c =
       left = c.loop-annotation.invariant.left ∙ turn_passes c.loop-annotation.self.lines c.take_in.new.self c.in-Ok-Some.annotation _ _ c.take_in.result read taken.section taken.seen taken.quiet taken.emits (search rules);
       bytes = search rules;
       steps = omega (arith, c.loop-annotation.invariant.steps, c.tick.ensures);
+      resting = λ e. absurd (none_more _ _ c.in-Ok-Some.annotation (items_ended (annotations_left c.loop-annotation.self.annotations) (c.loop-annotation.invariant.resting e).0) read.0);
     }
+
+pub returns-in-Ok-None-clause-rests : goal.returns-in-Ok-None-clause-rests
+returns-in-Ok-None-clause-rests c = λ e. (c.loop-annotation.invariant.resting e).1
+
+pub returns-in-Ok-None-clause-ends : goal.returns-in-Ok-None-clause-ends
+returns-in-Ok-None-clause-ends c =
+    let read = rw c.in-Ok-None.field-0-is at c.in-Ok-None.ensures.yields in
+    if_none c.take.result _ read.2
 
 pub returns-in-Ok-None-clause-yields : goal.returns-in-Ok-None-clause-yields
 returns-in-Ok-None-clause-yields c =
@@ -49,3 +64,9 @@ pub returns-in-Err-clause-yields : goal.returns-in-Err-clause-yields
 returns-in-Err-clause-yields c =
     yields_from _ _ _ (Err c.in-Err.error) c.loop-annotation.invariant.left
     (fault_turn c.loop-annotation.self.lines.section c.loop-annotation.self.lines.seen _ _ c.loop-annotation.self.lines.pending c.in-Err.error c.in-Err.ensures.yields)
+
+pub returns-in-Err-clause-rests : goal.returns-in-Err-clause-rests
+returns-in-Err-clause-rests c = λ e. absurd (no_fault _ c.in-Err.error (fault_ended (annotations_left c.loop-annotation.self.annotations) (c.loop-annotation.invariant.resting e).0) c.in-Err.ensures.yields.1)
+
+pub returns-in-Err-clause-ends_at_fault : goal.returns-in-Err-clause-ends_at_fault
+returns-in-Err-clause-ends_at_fault c = c.in-Err.ensures.yields.2

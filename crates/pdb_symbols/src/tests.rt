@@ -1,0 +1,12 @@
+//! Worked examples: bytes, and what they mean.
+
+mod annotations;
+mod compilers;
+mod damaged;
+mod enums;
+mod lists;
+mod procedures;
+mod references;
+mod support;
+mod thunks;
+mod variables;
