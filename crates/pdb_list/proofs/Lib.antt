@@ -5,3 +5,5 @@ pub mod SampleFacts
 pub mod Pairs
 pub mod LinePieces
 pub mod Listed
+pub mod Numbers
+pub mod Sites

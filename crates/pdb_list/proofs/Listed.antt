@@ -1,5 +1,5 @@
 -- The first inlined function of each id, in a map.
-use Rattle.std.proofs.Common.{◌≡◌, ◌==◌, ℕ, List, [], ◌∷◌, ◌++◌, Option, Some, None, Bool, true, false, cond, refl, sym, ap, ◌∙◌, arith, eqb-true, eq-eqb}
+use Rattle.std.proofs.Common.{◌≡◌, ◌==◌, ℕ, List, [], ◌∷◌, ◌++◌, Option, Some, None, is_some, Bool, true, false, cond, refl, sym, ap, ◌∙◌, arith, eqb-true, eq-eqb}
 use Rattle.std.proofs.Math.Path.{fun_ext}
 use Rattle.std.specs.List.{find}
 use Rattle.std.specs.Option.{option_or}
@@ -15,22 +15,26 @@ use Rattle.pdb_list.specs.ModuleTexts.{inlinee_with}
 one_more : (xs : List InlineeEntry) (x : InlineeEntry) (q : ℕ) → inlinee_with (xs ++ x ∷ []) q ≡ option_or (inlinee_with xs q) (cond (x.index == q) (Some x) None)
 one_more xs x q = find-append (λ y. y.index == q) xs (x ∷ [])
 
-first_stays : {A : Type 0} (a : Option A) (y : A) (b : Option A) → a ≡ Some y → option_or a b ≡ a
-first_stays None y b e = absurd cc
-first_stays (Some x) y b e = refl
+first_stays : {A : Type 0} (a b : Option A) → is_some a ≡ true → option_or a b ≡ a
+first_stays None b e = absurd cc
+first_stays (Some x) b e = refl
+
+nothing_there : {A : Type 0} (a : Option A) → is_some a ≡ false → a ≡ None
+nothing_there None e = refl
+nothing_there (Some x) e = absurd cc
 
 nothing_more : {A : Type 0} (a : Option A) → option_or a None ≡ a
 nothing_more None = refl
 nothing_more (Some x) = refl
 
 -- at the id itself, and elsewhere
-at_id : (b : Bool) (xs : List InlineeEntry) (x y : InlineeEntry) (q : ℕ) → (x.index == q) ≡ b → inlinee_with xs x.index ≡ Some y → inlinee_with xs q ≡ option_or (inlinee_with xs q) (cond b (Some x) None)
-at_id true xs x y q e h = let s : x.index ≡ q = eqb-true x.index q e in sym (first_stays (inlinee_with xs q) y (Some x) (rw s at h))
-at_id false xs x y q e h = sym (nothing_more (inlinee_with xs q))
+at_id : (b : Bool) (xs : List InlineeEntry) (x : InlineeEntry) (q : ℕ) → (x.index == q) ≡ b → is_some (inlinee_with xs x.index) ≡ true → inlinee_with xs q ≡ option_or (inlinee_with xs q) (cond b (Some x) None)
+at_id true xs x q e h = let s : x.index ≡ q = eqb-true x.index q e in sym (first_stays (inlinee_with xs q) (Some x) (rw s at h))
+at_id false xs x q e h = sym (nothing_more (inlinee_with xs q))
 
 -- one with its id is known
-pub not_noted : (known : BTreeMap ℕ InlineeEntry) (x y : InlineeEntry) (xs : List InlineeEntry) → listed_in known ≡ inlinee_with xs → get nat_cmp known x.index ≡ Some y → listed_in known ≡ inlinee_with (xs ++ x ∷ [])
-not_noted known x y xs e h = e ∙ fun_ext (λ q. at_id (x.index == q) xs x y q refl (sym (ap (λ (f : ℕ → Option InlineeEntry). f x.index) e) ∙ h) ∙ sym (one_more xs x q))
+pub not_noted : (known : BTreeMap ℕ InlineeEntry) (x : InlineeEntry) (xs : List InlineeEntry) → listed_in known ≡ inlinee_with xs → is_some (get nat_cmp known x.index) ≡ true → listed_in known ≡ inlinee_with (xs ++ x ∷ [])
+not_noted known x xs e h = e ∙ fun_ext (λ q. at_id (x.index == q) xs x q refl (sym (ap (λ (f : ℕ → Option InlineeEntry). is_some (f x.index)) e) ∙ h) ∙ sym (one_more xs x q))
 
 -- none with its id was known, and it was put into the map
 put_at : (b : Bool) (known : Option InlineeEntry) (xs : List InlineeEntry) (x : InlineeEntry) (q : ℕ) → (x.index == q) ≡ b → known ≡ inlinee_with xs q → inlinee_with xs x.index ≡ None → cond b (Some x) known ≡ option_or (inlinee_with xs q) (cond b (Some x) None)
@@ -40,8 +44,8 @@ put_at false known xs x q e h n = h ∙ sym (nothing_more (inlinee_with xs q))
 same_test : (a b : ℕ) → is_at (nat_cmp a) b ≡ (a == b)
 same_test a b = grind (arith, nat_tests)
 
-pub noted : (known new : BTreeMap ℕ InlineeEntry) (x : InlineeEntry) (xs : List InlineeEntry) → listed_in known ≡ inlinee_with xs → get nat_cmp known x.index ≡ None → Updates nat_cmp known new x.index (Some x) → listed_in new ≡ inlinee_with (xs ++ x ∷ [])
+pub noted : (known new : BTreeMap ℕ InlineeEntry) (x : InlineeEntry) (xs : List InlineeEntry) → listed_in known ≡ inlinee_with xs → is_some (get nat_cmp known x.index) ≡ false → Updates nat_cmp known new x.index (Some x) → listed_in new ≡ inlinee_with (xs ++ x ∷ [])
 noted known new x xs e h u = fun_ext (λ q.
     u.0 q ∙ ap (λ b. cond b (Some x) (get nat_cmp known q)) (same_test x.index q)
-    ∙ put_at (x.index == q) (get nat_cmp known q) xs x q refl (ap (λ (f : ℕ → Option InlineeEntry). f q) e) (sym (ap (λ (f : ℕ → Option InlineeEntry). f x.index) e) ∙ h)
+    ∙ put_at (x.index == q) (get nat_cmp known q) xs x q refl (ap (λ (f : ℕ → Option InlineeEntry). f q) e) (sym (ap (λ (f : ℕ → Option InlineeEntry). f x.index) e) ∙ nothing_there (get nat_cmp known x.index) h)
     ∙ sym (one_more xs x q))

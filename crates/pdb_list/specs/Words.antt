@@ -44,11 +44,13 @@ module_command word k =
     else if bytes_eq word (codes "inlinees") then Inlinees k
     else Exports k
 
+-- one to ten digits
+abbrev pub is_short_numeral : List ℕ → Bool
+is_short_numeral word = nat_lt 0 (length word) && nat_le (length word) 10 && list_all is_ascii_digit word
+
 -- the number that a word is: one to ten digits, of at most 4294967295
 unfoldable pub number_in : List ℕ → Option ℕ
-number_in word =
-    if nat_lt 0 (length word) && nat_le (length word) 10 && list_all is_ascii_digit word && nat_lt (digits_value 10 word) 4294967296 then Some (digits_value 10 word)
-    else None
+number_in word = if is_short_numeral word && nat_lt (digits_value 10 word) 4294967296 then Some (digits_value 10 word) else None
 
 -- the number that the word at p is, or the place of the bad word
 abbrev pub number_or : Option ℕ → ℕ → Result ℕ ℕ

@@ -1,7 +1,7 @@
 //! What the program is asked for.
 
 ghost use Rattle.std.specs.Prelude.{◌≡◌, ◌+◌, ◌<◌, ◌≤◌, length, map, string_bytes, IfOk};
-ghost use Rattle.pdb_list.specs.Words.{Tells, plain_command, takes_module, module_command, number_in, number_at, longer_at, command_at, spelled, asks_for_sample};
+ghost use Rattle.pdb_list.specs.Words.{Tells, plain_command, takes_module, module_command, is_short_numeral, number_in, number_at, longer_at, command_at, spelled, asks_for_sample};
 
 use std::alloc::{AllocError, AllocFailed, Global};
 
@@ -107,16 +107,24 @@ fn module_command(word: &str, k: u32) -> Command
     }
 }
 
+/// Whether a word is one to ten digits.
+fn is_short_numeral(word: &str) -> bool
+    ensures { result ≡ is_short_numeral word.now }
+{
+    let digits = word.as_bytes();
+    !digits.is_empty() && digits.len() <= 10 && digits.iter().all(|b| b.is_ascii_digit())
+}
+
 /// The number that a word is: one to ten digits, of at most 4294967295.
 #[tactic(auto, unfolding(crate::specs::Words::number_in))]
 fn number_in(word: &str) -> Option<u32>
     ensures { result ≡ number_in word.now }
 {
-    let digits = word.as_bytes();
-    if digits.is_empty() || digits.len() > 10 || !digits.iter().all(|b| b.is_ascii_digit()) {
-        return None;
+    if is_short_numeral(word) {
+        word.parse::<u32>().ok()
+    } else {
+        None
     }
-    word.parse::<u32>().ok()
 }
 
 /// The number that the word at a place is.

@@ -1,7 +1,6 @@
-use Rattle.std.proofs.Common.{rules, ◌≡◌, ◌+◌, ◌<◌, ◌≤◌, length, map, string_bytes, IfOk, ℕ, ◌-◌, ◌*◌, ◌/◌, ◌%◌, Bool, true, false, nat_eq, nat_lt, List, [], ◌∷◌, ◌++◌, slice_index_or, slice_set, bit_and, bit_or, Fits, w8, w32, w64, Bor, MutBor}
-use Rattle.pdb_list.specs.Words.{Tells, plain_command, takes_module, module_command, number_in, number_at, longer_at, command_at, spelled, asks_for_sample}
+use Rattle.std.proofs.Common.{◌∙◌, sym}
+use Rattle.pdb_list.proofs.Numbers.{number_read}
 use Rattle.pdb_list.proofs.command.number_in.Goals as goal
 
--- src/command.rt:111:1
-pub returns : goal.returns
-returns c = ?
+pub returns-then-is_short_numeral : goal.returns-then-is_short_numeral
+returns-then-is_short_numeral c = c.ok.ensures.value ∙ number_read c.args.word.now c.parse.result c.parse.ensures.value.0 (sym c.if-is_short_numeral.ensures)
