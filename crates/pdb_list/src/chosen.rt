@@ -34,6 +34,7 @@ fn module_at<'m>(information: &'m DebugInformation<'_>, k: u32) -> Result<Option
 
 /// The stream of the module with this place in the list of modules; none where there is no such module, or it has no
 /// stream.
+#[tactic(auto, unfolding(crate::specs::Chosen::module_in, pdb::specs::Answers::module_listed, pdb::specs::Answers::module_of_file))]
 pub fn chosen_module<'s, S: Source<'s>>(
     pdb: &mut PDB<'s, S>,
     k: u32,

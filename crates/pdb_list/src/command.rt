@@ -1,6 +1,8 @@
 //! What the program is asked for.
 
 ghost use Rattle.std.specs.Prelude.{◌≡◌, ◌+◌, ◌<◌, ◌≤◌, length, map, string_bytes, IfOk};
+ghost use Rattle.std.specs.Char.{is_ascii_digit};
+ghost use Rattle.std.specs.List.{list_all};
 ghost use Rattle.pdb_list.specs.Words.{Tells, plain_command, takes_module, module_command, is_short_numeral, number_in, number_at, longer_at, command_at, spelled, asks_for_sample};
 
 use std::alloc::{AllocError, AllocFailed, Global};
@@ -107,12 +109,18 @@ fn module_command(word: &str, k: u32) -> Command
     }
 }
 
+/// Whether all bytes of a word are digits.
+fn is_all_digits(word: &str) -> bool
+    ensures { result ≡ list_all is_ascii_digit word.now }
+{
+    word.as_bytes().iter().all(|b| b.is_ascii_digit())
+}
+
 /// Whether a word is one to ten digits.
 fn is_short_numeral(word: &str) -> bool
     ensures { result ≡ is_short_numeral word.now }
 {
-    let digits = word.as_bytes();
-    !digits.is_empty() && digits.len() <= 10 && digits.iter().all(|b| b.is_ascii_digit())
+    !word.is_empty() && word.len() <= 10 && is_all_digits(word)
 }
 
 /// The number that a word is: one to ten digits, of at most 4294967295.

@@ -95,7 +95,7 @@ fn a_file_of_another_format_is_not_opened(rt: HostRuntime) -> Result<(), Fail> {
 #[test]
 fn a_fault_of_the_list_is_told_after_its_symbols(rt: HostRuntime) -> Result<(), Fail> {
     let file = sample_of(rt.alloc(), &streams::DBI, b"\x02\0\x06\0\x01\0")?;
-    let text = b"symbol 00000000 0006 refused 12\nerror 11\n";
+    let text = b"symbol 00000000 0006 ScopeEnd\nerror 11\n";
     lists(&rt, rt.alloc(), &file, &GLOBALS, text);
     let file = sample_of(
         rt.alloc(),
