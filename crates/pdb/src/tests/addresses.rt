@@ -1,7 +1,7 @@
 //! The section headers, and the address map of an image that was rearranged.
 
 use super::is;
-use crate::tests::sample::{MODULE, SAMPLE, SECTIONS, STRINGS, changed, file_of, file_with};
+use crate::tests::sample::{MODULE, SAMPLE, SECTIONS, STRINGS, changed, dbi_with, file_of, file_with};
 use crate::*;
 use std::alloc::Global;
 use std::process::Abort;
@@ -38,6 +38,10 @@ const TEXT: ([u8; 8], [u32; 6], [u16; 2], u32) = (
 const OTHER: &[u8; 40] =
     b"numbered\x01\0\0\0\x02\0\0\0\x03\0\0\0\x04\0\0\0\x05\0\0\0\x06\0\0\0\x07\0\x08\0\x09\0\0\0";
 
+/// Its fields.
+const NUMBERED: ([u8; 8], [u32; 6], [u16; 2], u32) =
+    (*b"numbered", [1, 2, 3, 4, 5, 6], [7, 8], 9);
+
 #[test]
 fn the_sample_has_one_section(rt: HostRuntime) -> Result<()> {
     let bytes = file_of(rt.alloc(), &SAMPLE)?;
@@ -60,29 +64,29 @@ fn sections_stand_in_their_order(rt: HostRuntime) -> Result<()> {
     let mut pdb = PDB::open(rt.alloc(), MemorySource::new(&bytes))?;
     let sections = pdb.sections()?;
     let sections = sections.as_deref().unwrap_or(&[]);
-    let numbered = (*b"numbered", [1, 2, 3, 4, 5, 6], [7, 8], 9);
     is(&rt, "how many", &sections.len(), &2);
-    is(&rt, "first", &sections.first().map(seen), &Some(numbered));
+    is(&rt, "first", &sections.first().map(seen), &Some(NUMBERED));
     is(&rt, "last", &sections.last().map(seen), &Some(TEXT));
     Ok(())
 }
 
-/// What `sections` gives: none, or how many.
-fn count(alloc: Global, bytes: &[u8]) -> Result<Option<usize>> {
+/// What `sections` gives, however often: none, or how many.
+fn count(rt: &impl Abort, alloc: Global, bytes: &[u8]) -> Result<Option<usize>> {
     let mut pdb = PDB::open(alloc, MemorySource::new(bytes))?;
     let first = pdb.sections()?.map(|sections| sections.len());
     let again = pdb.sections()?.map(|sections| sections.len());
-    Ok(if first == again { first } else { Some(999) })
+    is(rt, "again", &again, &first);
+    Ok(first)
 }
 
 #[test]
 fn no_stream_of_sections_is_none(rt: HostRuntime) -> Result<()> {
     let bytes = file_with(rt.alloc(), b"")?;
-    is(&rt, "no number", &count(rt.alloc(), &bytes)?, &None);
+    is(&rt, "no number", &count(&rt, rt.alloc(), &bytes)?, &None);
     let bytes = changed(rt.alloc(), 8, Some(b""))?;
-    is(&rt, "empty", &count(rt.alloc(), &bytes)?, &Some(0));
+    is(&rt, "empty", &count(&rt, rt.alloc(), &bytes)?, &Some(0));
     let bytes = changed(rt.alloc(), 8, None)?;
-    let refused = count(rt.alloc(), &bytes).err();
+    let refused = count(&rt, rt.alloc(), &bytes).err();
     is(&rt, "absent", &refused, &Some(Error::StreamNotFound(8)));
     Ok(())
 }
@@ -153,12 +157,24 @@ fn streams_of_an_address_map_are_read_in_order(rt: HostRuntime) -> Result<()> {
     addresses_are_refused(&rt, rt.alloc(), &numbers(2, 7, 8, 8), absent)
 }
 
-/// The bytes of a table, where there is one.
-fn bytes_of<'a>(table: Option<&'a OMAPTable<'_>>) -> Option<&'a [u8]> {
+/// Whether there is a table, of these bytes.
+fn has(table: Option<&OMAPTable<'_>>, bytes: &[u8]) -> bool {
     match table {
-        Some(table) => Some(table.stream().as_slice()),
-        None => None,
+        Some(table) => table.stream().as_slice() == bytes,
+        None => false,
     }
+}
+
+/// The map is that of an image that wasn't rearranged.
+fn is_of_original(rt: &impl Abort, map: &AddressMap<'_>) {
+    is(
+        rt,
+        "transformed sections",
+        &map.transformed_sections().is_some(),
+        &false,
+    );
+    is(rt, "from", &map.omap_from_src().is_some(), &false);
+    is(rt, "to", &map.omap_to_src().is_some(), &false);
 }
 
 #[test]
@@ -170,9 +186,7 @@ fn an_image_that_was_not_rearranged(rt: HostRuntime) -> Result<()> {
         let original = map.original_sections();
         is(&rt, "how many", &original.len(), &1);
         is(&rt, "it", &original.first().map(seen), &Some(TEXT));
-        assert!(rt; map.transformed_sections().is_none());
-        is(&rt, "from", &bytes_of(map.omap_from_src()), &None);
-        is(&rt, "to", &bytes_of(map.omap_to_src()), &None);
+        is_of_original(&rt, &map);
     }
     Ok(())
 }
@@ -183,9 +197,7 @@ fn tables_without_original_sections_are_not_read(rt: HostRuntime) -> Result<()> 
     let mut pdb = PDB::open(rt.alloc(), MemorySource::new(&bytes))?;
     let map = pdb.address_map()?;
     is(&rt, "how many", &map.original_sections().len(), &0);
-    assert!(rt; map.transformed_sections().is_none());
-    is(&rt, "from", &bytes_of(map.omap_from_src()), &None);
-    is(&rt, "to", &bytes_of(map.omap_to_src()), &None);
+    is_of_original(&rt, &map);
     Ok(())
 }
 
@@ -193,31 +205,34 @@ fn tables_without_original_sections_are_not_read(rt: HostRuntime) -> Result<()> 
 fn one_stream_may_be_both_tables(rt: HostRuntime) -> Result<()> {
     let bytes = file_with(rt.alloc(), &numbers(7, 7, 8, 8))?;
     let mut pdb = PDB::open(rt.alloc(), MemorySource::new(&bytes))?;
-    let strings = Some(STRINGS.as_slice());
     for _ in 0..2 {
         let map = pdb.address_map()?;
-        is(&rt, "from", &bytes_of(map.omap_from_src()), &strings);
-        is(&rt, "to", &bytes_of(map.omap_to_src()), &strings);
+        is(&rt, "from", &has(map.omap_from_src(), &STRINGS), &true);
+        is(&rt, "to", &has(map.omap_to_src(), &STRINGS), &true);
     }
     Ok(())
 }
 
+/// The sample whose image was rearranged: the tables are the streams 7 and 6, and the section headers before it these.
+fn rearranged<'b>(alloc: Global, original: &'b [u8], dbi: &'b [u8]) -> Result<Vec<u8>> {
+    let mut streams: [Option<&'b [u8]>; 9] = SAMPLE;
+    streams[2] = Some(original);
+    streams[3] = Some(dbi);
+    file_of(alloc, &streams)
+}
+
 #[test]
 fn an_image_that_was_rearranged(rt: HostRuntime) -> Result<()> {
-    let mut streams = SAMPLE;
-    let dbi = crate::tests::sample::dbi_with(rt.alloc(), &numbers(7, 6, 8, 2))?;
-    streams[2] = Some(OTHER);
-    streams[3] = Some(&dbi);
-    let bytes = file_of(rt.alloc(), &streams)?;
+    let dbi = dbi_with(rt.alloc(), &numbers(7, 6, 8, 2))?;
+    let bytes = rearranged(rt.alloc(), OTHER, &dbi)?;
     let mut pdb = PDB::open(rt.alloc(), MemorySource::new(&bytes))?;
     let map = pdb.address_map()?;
-    let numbered = (*b"numbered", [1, 2, 3, 4, 5, 6], [7, 8], 9);
     let original = map.original_sections();
-    is(&rt, "before", &original.first().map(seen), &Some(numbered));
+    is(&rt, "before", &original.first().map(seen), &Some(NUMBERED));
     let sections = map.transformed_sections().unwrap_or(&[]);
     is(&rt, "now", &sections.first().map(seen), &Some(TEXT));
-    let (module, strings) = (Some(MODULE.as_slice()), Some(STRINGS.as_slice()));
-    is(&rt, "from", &bytes_of(map.omap_from_src()), &module);
-    is(&rt, "to", &bytes_of(map.omap_to_src()), &strings);
+    let from_src = map.omap_from_src();
+    is(&rt, "from", &has(from_src, &MODULE), &true);
+    is(&rt, "to", &has(map.omap_to_src(), &STRINGS), &true);
     Ok(())
 }

@@ -47,7 +47,7 @@ fn the_sample_has_one_module(rt: HostRuntime) -> Result<()> {
     Ok(())
 }
 
-/// What `module_info` answers for the first module of a DBI stream that isn't the file's: whether there is a stream.
+/// What `module_info` answers for the first module.
 fn first_module<'s>(pdb: &mut PDB<'s, MemorySource<'s>>) -> Result<Option<ModuleInfo<'s>>> {
     let information = pdb.debug_information()?;
     match information.modules()?.next()? {
