@@ -1,5 +1,11 @@
 //! Tests of what no clause says: values from outside, and that calls succeed with ample memory.
 
+mod addresses;
+mod modules;
+mod sample;
+mod streams;
+mod strings;
+
 use crate::*;
 use std::alloc::Global;
 use std::fmt::Debug;

@@ -1,0 +1,96 @@
+//! The streams of modules.
+
+use super::is;
+use crate::tests::sample::{DBI, SAMPLE, changed, file_of};
+use crate::*;
+use std::alloc::Global;
+use std::process::Abort;
+
+/// A symbol's index and kind.
+fn seen(symbol: Option<Symbol<'_>>) -> Option<(u32, u16)> {
+    match symbol {
+        Some(symbol) => Some((symbol.index().0, symbol.raw_kind())),
+        None => None,
+    }
+}
+
+/// The parts of the sample's module.
+fn is_that_of_the_sample(rt: &impl Abort, alloc: Global, info: &ModuleInfo<'_>) -> Result<()> {
+    let mut symbols = info.symbols()?;
+    is(rt, "first", &seen(symbols.next()?), &Some((4, 0x1110)));
+    is(rt, "symbols", &info.symbols()?.count()?, &4);
+    let lines = info.line_program(alloc)?;
+    is(rt, "lines", &lines.lines().count()?, &2);
+    is(rt, "inlined", &info.inlinees()?.count()?, &1);
+    is(rt, "exports", &info.exports(alloc)?.len(), &2);
+    Ok(())
+}
+
+#[test]
+fn the_sample_has_one_module(rt: HostRuntime) -> Result<()> {
+    let bytes = file_of(rt.alloc(), &SAMPLE)?;
+    let mut pdb = PDB::open(rt.alloc(), MemorySource::new(&bytes))?;
+    let information = pdb.debug_information()?;
+    let mut modules = information.modules()?;
+    let module = modules.next()?;
+    assert!(rt; modules.next()?.is_none());
+    let Some(module) = module else {
+        return Err(Error::UnexpectedEof);
+    };
+    for _ in 0..2 {
+        let info = pdb.module_info(&module)?;
+        let Some(info) = info else {
+            return Err(Error::UnexpectedEof);
+        };
+        is_that_of_the_sample(&rt, rt.alloc(), &info)?;
+    }
+    Ok(())
+}
+
+/// What `module_info` answers for the first module.
+fn first_module<'s>(pdb: &mut PDB<'s, MemorySource<'s>>) -> Result<Option<ModuleInfo<'s>>> {
+    let information = pdb.debug_information()?;
+    match information.modules()?.next()? {
+        Some(module) => pdb.module_info(&module),
+        None => Err(Error::StreamNameNotFound),
+    }
+}
+
+#[test]
+fn a_module_without_a_stream_is_none(rt: HostRuntime) -> Result<()> {
+    let mut dbi = DBI;
+    dbi[98] = 0xff;
+    dbi[99] = 0xff;
+    let bytes = changed(rt.alloc(), 3, Some(&dbi))?;
+    let mut pdb = PDB::open(rt.alloc(), MemorySource::new(&bytes))?;
+    for _ in 0..2 {
+        assert!(rt; first_module(&mut pdb)?.is_none());
+    }
+    Ok(())
+}
+
+#[test]
+fn a_module_whose_stream_is_absent_is_refused(rt: HostRuntime) -> Result<()> {
+    let bytes = changed(rt.alloc(), 6, None)?;
+    let mut pdb = PDB::open(rt.alloc(), MemorySource::new(&bytes))?;
+    for _ in 0..2 {
+        let refused = first_module(&mut pdb).err();
+        is(&rt, "absent", &refused, &Some(Error::StreamNotFound(6)));
+    }
+    is(&rt, "sections", &pdb.sections()?.is_some(), &true);
+    is(&rt, "symbols", &pdb.global_symbols().is_ok(), &true);
+    Ok(())
+}
+
+#[test]
+fn a_module_is_read_only_when_asked(rt: HostRuntime) -> Result<()> {
+    let bytes = changed(rt.alloc(), 6, Some(b"\x01\0\0\0"))?;
+    let mut pdb = PDB::open(rt.alloc(), MemorySource::new(&bytes))?;
+    let Some(info) = first_module(&mut pdb)? else {
+        return Err(Error::StreamNameNotFound);
+    };
+    let end = Some(Error::UnexpectedEof);
+    is(&rt, "symbols", &info.symbols().err(), &end);
+    is(&rt, "inlined", &info.inlinees().err(), &end);
+    Ok(())
+}

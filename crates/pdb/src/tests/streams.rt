@@ -1,0 +1,186 @@
+//! The streams that are handed on: of types, of ids, of frame data, and by their numbers.
+
+use super::is;
+use crate::tests::sample::{DBI, SAMPLE, SECTIONS, STRINGS, changed, file_of, file_with};
+use crate::*;
+use std::alloc::Global;
+use std::process::Abort;
+
+/// The bytes of a stream, where there is one.
+fn bytes_of<'a>(stream: Option<&'a Stream<'_>>) -> Option<&'a [u8]> {
+    match stream {
+        Some(stream) => Some(stream.as_slice()),
+        None => None,
+    }
+}
+
+#[test]
+fn types_and_ids_that_are_absent_are_told(rt: HostRuntime) -> Result<()> {
+    let bytes = file_of(rt.alloc(), &SAMPLE)?;
+    let mut pdb = PDB::open(rt.alloc(), MemorySource::new(&bytes))?;
+    for _ in 0..2 {
+        let types = pdb.type_information().err();
+        is(&rt, "types", &types, &Some(Error::StreamNotFound(2)));
+        let ids = pdb.id_information().err();
+        is(&rt, "ids", &ids, &Some(Error::StreamNotFound(4)));
+    }
+    is(&rt, "sections", &pdb.sections()?.is_some(), &true);
+    Ok(())
+}
+
+#[test]
+fn types_and_ids_are_handed_on(rt: HostRuntime) -> Result<()> {
+    let mut streams = SAMPLE;
+    streams[2] = Some(b"types");
+    streams[4] = Some(b"ids");
+    let bytes = file_of(rt.alloc(), &streams)?;
+    let mut pdb = PDB::open(rt.alloc(), MemorySource::new(&bytes))?;
+    for _ in 0..2 {
+        let types = pdb.type_information()?;
+        let ids = pdb.id_information()?;
+        is(
+            &rt,
+            "types",
+            &types.stream().as_slice(),
+            &b"types".as_slice(),
+        );
+        is(&rt, "ids", &ids.stream().as_slice(), &b"ids".as_slice());
+    }
+    Ok(())
+}
+
+#[test]
+fn streams_of_the_sample_by_their_numbers(rt: HostRuntime) -> Result<()> {
+    let bytes = file_of(rt.alloc(), &SAMPLE)?;
+    let mut pdb = PDB::open(rt.alloc(), MemorySource::new(&bytes))?;
+    for _ in 0..2 {
+        let beyond = pdb.raw_stream(StreamIndex(9)).err();
+        is(&rt, "9", &beyond, &Some(Error::StreamNotFound(9)));
+        let empty = pdb.raw_stream(StreamIndex(0))?;
+        is(&rt, "0", &bytes_of(empty.as_ref()), &Some(b"".as_slice()));
+        let none = pdb.raw_stream(StreamIndex(65535))?;
+        is(&rt, "65535", &bytes_of(none.as_ref()), &None);
+        let strings = pdb.raw_stream(StreamIndex(7))?;
+        is(
+            &rt,
+            "7",
+            &bytes_of(strings.as_ref()),
+            &Some(STRINGS.as_slice()),
+        );
+    }
+    Ok(())
+}
+
+/// The frame data of a file, the older and the newer, is these bytes, however often it is asked for.
+fn has_frames(
+    rt: &impl Abort,
+    alloc: Global,
+    bytes: &[u8],
+    older: Option<&[u8]>,
+    newer: Option<&[u8]>,
+) -> Result<()> {
+    let mut pdb = PDB::open(alloc, MemorySource::new(bytes))?;
+    for _ in 0..2 {
+        let frames = pdb.frame_table()?;
+        is(rt, "older", &bytes_of(frames.old_stream()), &older);
+        is(rt, "newer", &bytes_of(frames.new_stream()), &newer);
+    }
+    Ok(())
+}
+
+#[test]
+fn the_sample_has_no_frame_data(rt: HostRuntime) -> Result<()> {
+    let bytes = file_of(rt.alloc(), &SAMPLE)?;
+    has_frames(&rt, rt.alloc(), &bytes, None, None)
+}
+
+/// Eleven numbers, of which the first names the older frame data, and the tenth the newer one.
+const FRAMES: &[u8; 22] =
+    b"\x07\0\xff\xff\xff\xff\xff\xff\xff\xff\xff\xff\xff\xff\xff\xff\xff\xff\x08\0\xff\xff";
+
+#[test]
+fn frame_data_of_both_forms(rt: HostRuntime) -> Result<()> {
+    let (older, newer) = (Some(STRINGS.as_slice()), Some(SECTIONS.as_slice()));
+    let bytes = file_with(rt.alloc(), FRAMES)?;
+    has_frames(&rt, rt.alloc(), &bytes, older, newer)?;
+    let bytes = file_with(rt.alloc(), &FRAMES[..18])?;
+    has_frames(&rt, rt.alloc(), &bytes, older, None)?;
+    let mut newer_alone = *FRAMES;
+    newer_alone[0] = 0xff;
+    newer_alone[1] = 0xff;
+    let bytes = file_with(rt.alloc(), &newer_alone)?;
+    has_frames(&rt, rt.alloc(), &bytes, None, newer)
+}
+
+#[test]
+fn frame_data_that_is_absent_is_told(rt: HostRuntime) -> Result<()> {
+    let mut numbers = *FRAMES;
+    numbers[18] = 4;
+    let bytes = file_with(rt.alloc(), &numbers)?;
+    let mut pdb = PDB::open(rt.alloc(), MemorySource::new(&bytes))?;
+    for _ in 0..2 {
+        let refused = pdb.frame_table().err();
+        is(&rt, "newer", &refused, &Some(Error::StreamNotFound(4)));
+    }
+    numbers[0] = 2;
+    let bytes = file_with(rt.alloc(), &numbers)?;
+    let mut pdb = PDB::open(rt.alloc(), MemorySource::new(&bytes))?;
+    let refused = pdb.frame_table().err();
+    is(
+        &rt,
+        "older first",
+        &refused,
+        &Some(Error::StreamNotFound(2)),
+    );
+    is(&rt, "sections", &pdb.sections()?.is_none(), &true);
+    Ok(())
+}
+
+/// The three calls that want the numbers of further streams are refused so, however often they are made.
+fn numbers_are_refused(rt: &impl Abort, alloc: Global, bytes: &[u8], wanted: Error) -> Result<()> {
+    let mut pdb = PDB::open(alloc, MemorySource::new(bytes))?;
+    for _ in 0..2 {
+        is(rt, "sections", &pdb.sections().err(), &Some(wanted));
+        is(rt, "frames", &pdb.frame_table().err(), &Some(wanted));
+        is(rt, "addresses", &pdb.address_map().err(), &Some(wanted));
+    }
+    Ok(())
+}
+
+#[test]
+fn no_numbers_of_further_streams(rt: HostRuntime) -> Result<()> {
+    let bytes = changed(rt.alloc(), 3, None)?;
+    numbers_are_refused(&rt, rt.alloc(), &bytes, Error::StreamNotFound(3))?;
+    let bytes = changed(rt.alloc(), 3, Some(&DBI[..183]))?;
+    numbers_are_refused(&rt, rt.alloc(), &bytes, Error::UnexpectedEof)?;
+    let bytes = file_with(rt.alloc(), b"\x08\0\x08")?;
+    numbers_are_refused(
+        &rt,
+        rt.alloc(),
+        &bytes,
+        Error::InvalidStreamLength(Part::DebugHeader),
+    )?;
+    let mut ancient = DBI;
+    ancient[0] = 0;
+    let bytes = changed(rt.alloc(), 3, Some(&ancient))?;
+    numbers_are_refused(
+        &rt,
+        rt.alloc(),
+        &bytes,
+        Error::UnimplementedFeature(Feature::AncientDbiHeader),
+    )
+}
+
+#[test]
+fn refused_numbers_leave_the_rest(rt: HostRuntime) -> Result<()> {
+    let bytes = file_with(rt.alloc(), b"\x08\0\x08")?;
+    let mut pdb = PDB::open(rt.alloc(), MemorySource::new(&bytes))?;
+    is(&rt, "sections", &pdb.sections().is_err(), &true);
+    is(&rt, "age", &pdb.debug_information()?.age(), &Some(2));
+    is(&rt, "symbols", &pdb.global_symbols().is_ok(), &true);
+    let refused = pdb.frame_table().err();
+    let odd = Some(Error::InvalidStreamLength(Part::DebugHeader));
+    is(&rt, "frames", &refused, &odd);
+    is(&rt, "failures", &pdb.failures(), &0);
+    Ok(())
+}
