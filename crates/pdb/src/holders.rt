@@ -151,10 +151,10 @@ impl<'s> Model for AddressMap<'s> {
     ghost Value = { Addresses };
 
     ghost view = { λ m. record {
-        original_sections = m.original_sections.items;
-        transformed_sections = option_map (λ v. v.items) m.transformed_sections;
-        omap_from_src = m.omap_from_src;
-        omap_to_src = m.omap_to_src;
+      original_sections = m.original_sections.items;
+      transformed_sections = option_map (λ v. v.items) m.transformed_sections;
+      omap_from_src = m.omap_from_src;
+      omap_to_src = m.omap_to_src;
     } };
 }
 

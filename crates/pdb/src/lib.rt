@@ -8,35 +8,115 @@ mod named;
 mod pdb;
 mod sections;
 
-pub use holders::{AddressMap, FrameTable, IdInformation, OMAPTable, TypeInformation};
-pub use pdb::{PDB, StreamIndexExt};
-pub use pdb_base::{
-    Error, FallibleIterator, Feature, FileIndex, IdIndex, ImageSectionHeader, ItemIndex, Local,
-    Meaning, MemorySource, Msf, ParseBuffer, Part, PdbInternalSectionOffset, RawString, Register,
-    Result, SectionCharacteristics, Source, SourceSlice, Steps, Stream, StreamIndex, StringRef,
-    StringTable, SymbolIndex, TypeIndex, Variant, View,
-};
-pub use pdb_dbi::{
-    DBIExtraStreams, DBIHeader, DBISectionContribution, DBISectionContributionIter,
-    DebugInformation, HeaderVersion, MachineType, Module, ModuleIter, NameIter, PDBInformation,
-    StreamName, StreamNames,
-};
-pub use pdb_modules::{
-    CrossModuleExport, CrossModuleExportIter, CrossModuleExports, CrossModuleImports,
-    CrossModuleRef, FileChecksum, FileInfo, FileIterator, Inlinee, InlineeIterator,
-    InlineeLineIterator, LineInfo, LineInfoKind, LineIterator, LineProgram, ModuleInfo, ModuleRef,
-};
-pub use pdb_symbols::{
-    AnnotationReferenceSymbol, BinaryAnnotation, BinaryAnnotations, BinaryAnnotationsIter,
-    BlockSymbol, BuildInfoSymbol, CPUType, CompileFlags, CompileFlagsSymbol, CompilerVersion,
-    ConstantSymbol, DataReferenceSymbol, DataSymbol, ExportSymbol, ExportSymbolFlags,
-    InlineSiteSymbol, LabelSymbol, LocalSymbol, LocalVariableFlags, MultiRegisterVariableSymbol,
-    ObjNameSymbol, ProcedureFlags, ProcedureReferenceSymbol, ProcedureSymbol, PublicSymbol,
-    RegisterRelativeSymbol, RegisterVariableSymbol, SeparatedCodeFlags, SeparatedCodeSymbol,
-    SourceLanguage, Symbol, SymbolData, SymbolIter, SymbolKind, SymbolTable, ThreadStorageSymbol,
-    ThunkAdjustor, ThunkKind, ThunkSymbol, TrampolineSymbol, TrampolineType, UserDefinedTypeSymbol,
-    UsingNamespaceSymbol,
-};
+pub use holders::AddressMap;
+pub use holders::FrameTable;
+pub use holders::IdInformation;
+pub use holders::OMAPTable;
+pub use holders::TypeInformation;
+pub use pdb::PDB;
+pub use pdb::StreamIndexExt;
+pub use pdb_base::Error;
+pub use pdb_base::FallibleIterator;
+pub use pdb_base::Feature;
+pub use pdb_base::FileIndex;
+pub use pdb_base::IdIndex;
+pub use pdb_base::ImageSectionHeader;
+pub use pdb_base::ItemIndex;
+pub use pdb_base::Local;
+pub use pdb_base::Meaning;
+pub use pdb_base::MemorySource;
+pub use pdb_base::Msf;
+pub use pdb_base::ParseBuffer;
+pub use pdb_base::Part;
+pub use pdb_base::PdbInternalSectionOffset;
+pub use pdb_base::RawString;
+pub use pdb_base::Register;
+pub use pdb_base::Result;
+pub use pdb_base::SectionCharacteristics;
+pub use pdb_base::Source;
+pub use pdb_base::SourceSlice;
+pub use pdb_base::Steps;
+pub use pdb_base::Stream;
+pub use pdb_base::StreamIndex;
+pub use pdb_base::StringRef;
+pub use pdb_base::StringTable;
+pub use pdb_base::SymbolIndex;
+pub use pdb_base::TypeIndex;
+pub use pdb_base::Variant;
+pub use pdb_base::View;
+pub use pdb_dbi::DBIExtraStreams;
+pub use pdb_dbi::DBIHeader;
+pub use pdb_dbi::DBISectionContribution;
+pub use pdb_dbi::DBISectionContributionIter;
+pub use pdb_dbi::DebugInformation;
+pub use pdb_dbi::HeaderVersion;
+pub use pdb_dbi::MachineType;
+pub use pdb_dbi::Module;
+pub use pdb_dbi::ModuleIter;
+pub use pdb_dbi::NameIter;
+pub use pdb_dbi::PDBInformation;
+pub use pdb_dbi::StreamName;
+pub use pdb_dbi::StreamNames;
+pub use pdb_modules::CrossModuleExport;
+pub use pdb_modules::CrossModuleExportIter;
+pub use pdb_modules::CrossModuleExports;
+pub use pdb_modules::CrossModuleImports;
+pub use pdb_modules::CrossModuleRef;
+pub use pdb_modules::FileChecksum;
+pub use pdb_modules::FileInfo;
+pub use pdb_modules::FileIterator;
+pub use pdb_modules::Inlinee;
+pub use pdb_modules::InlineeIterator;
+pub use pdb_modules::InlineeLineIterator;
+pub use pdb_modules::LineInfo;
+pub use pdb_modules::LineInfoKind;
+pub use pdb_modules::LineIterator;
+pub use pdb_modules::LineProgram;
+pub use pdb_modules::ModuleInfo;
+pub use pdb_modules::ModuleRef;
+pub use pdb_symbols::AnnotationReferenceSymbol;
+pub use pdb_symbols::BinaryAnnotation;
+pub use pdb_symbols::BinaryAnnotations;
+pub use pdb_symbols::BinaryAnnotationsIter;
+pub use pdb_symbols::BlockSymbol;
+pub use pdb_symbols::BuildInfoSymbol;
+pub use pdb_symbols::CPUType;
+pub use pdb_symbols::CompileFlags;
+pub use pdb_symbols::CompileFlagsSymbol;
+pub use pdb_symbols::CompilerVersion;
+pub use pdb_symbols::ConstantSymbol;
+pub use pdb_symbols::DataReferenceSymbol;
+pub use pdb_symbols::DataSymbol;
+pub use pdb_symbols::ExportSymbol;
+pub use pdb_symbols::ExportSymbolFlags;
+pub use pdb_symbols::InlineSiteSymbol;
+pub use pdb_symbols::LabelSymbol;
+pub use pdb_symbols::LocalSymbol;
+pub use pdb_symbols::LocalVariableFlags;
+pub use pdb_symbols::MultiRegisterVariableSymbol;
+pub use pdb_symbols::ObjNameSymbol;
+pub use pdb_symbols::ProcedureFlags;
+pub use pdb_symbols::ProcedureReferenceSymbol;
+pub use pdb_symbols::ProcedureSymbol;
+pub use pdb_symbols::PublicSymbol;
+pub use pdb_symbols::RegisterRelativeSymbol;
+pub use pdb_symbols::RegisterVariableSymbol;
+pub use pdb_symbols::SeparatedCodeFlags;
+pub use pdb_symbols::SeparatedCodeSymbol;
+pub use pdb_symbols::SourceLanguage;
+pub use pdb_symbols::Symbol;
+pub use pdb_symbols::SymbolData;
+pub use pdb_symbols::SymbolIter;
+pub use pdb_symbols::SymbolKind;
+pub use pdb_symbols::SymbolTable;
+pub use pdb_symbols::ThreadStorageSymbol;
+pub use pdb_symbols::ThunkAdjustor;
+pub use pdb_symbols::ThunkKind;
+pub use pdb_symbols::ThunkSymbol;
+pub use pdb_symbols::TrampolineSymbol;
+pub use pdb_symbols::TrampolineType;
+pub use pdb_symbols::UserDefinedTypeSymbol;
+pub use pdb_symbols::UsingNamespaceSymbol;
 
 #[cfg(test)]
 mod tests;

@@ -1,7 +1,9 @@
 //! The section headers, and the address map of an image that was rearranged.
 
 use super::is;
-use crate::tests::sample::{MODULE, SAMPLE, SECTIONS, STRINGS, changed, dbi_with, file_of, file_with};
+use crate::tests::sample::{
+    MODULE, SAMPLE, SECTIONS, STRINGS, changed, dbi_with, file_of, file_with,
+};
 use crate::*;
 use std::alloc::Global;
 use std::process::Abort;
@@ -39,8 +41,7 @@ const OTHER: &[u8; 40] =
     b"numbered\x01\0\0\0\x02\0\0\0\x03\0\0\0\x04\0\0\0\x05\0\0\0\x06\0\0\0\x07\0\x08\0\x09\0\0\0";
 
 /// Its fields.
-const NUMBERED: ([u8; 8], [u32; 6], [u16; 2], u32) =
-    (*b"numbered", [1, 2, 3, 4, 5, 6], [7, 8], 9);
+const NUMBERED: ([u8; 8], [u32; 6], [u16; 2], u32) = (*b"numbered", [1, 2, 3, 4, 5, 6], [7, 8], 9);
 
 #[test]
 fn the_sample_has_one_section(rt: HostRuntime) -> Result<()> {

@@ -71,7 +71,12 @@ fn no_name_is_no_table(rt: HostRuntime) -> Result<()> {
     let mut renamed = INFORMATION;
     renamed[33] = b'N';
     let missing = Some(Error::StreamNameNotFound);
-    is(&rt, "renamed", &refusal(&rt, rt.alloc(), &renamed)?, &missing);
+    is(
+        &rt,
+        "renamed",
+        &refusal(&rt, rt.alloc(), &renamed)?,
+        &missing,
+    );
     let cut = refusal(&rt, rt.alloc(), &INFORMATION[..66])?;
     is(&rt, "cut", &cut, &Some(Error::UnexpectedEof));
     Ok(())

@@ -9,12 +9,13 @@ pub loop-inlinee-preserved : goal.loop-inlinee-preserved
 loop-inlinee-preserved c =
     let inv = c.loop-inlinee.invariant in
     let x = c.in-Ok-Some.inlinee in
-    let follows = (rw c.in-Ok-Some.field-0-is at c.in-Ok-Some.ensures.yields) in
-    (inv.0 ++ x ∷ [],
-     seen_more _ _ _ inv.0 x inv.1 follows.0,
-     inv.2 ∙ follows.1,
-     told_more _ _ _ inv.0 x inv.3 c.in_ok-put_inlinee-in-Ok-Some.ensures,
-     c.in_ok-note-in-Ok-Some.ensures inv.0 inv.4)
+    let follows = (rw c.in-Ok-Some.field-0-is at c.in-Ok-Some.ensures.yields) in (
+      inv.0 ++ x ∷ [],
+      seen_more _ _ _ inv.0 x inv.1 follows.0,
+      inv.2 ∙ follows.1,
+      told_more _ _ _ inv.0 x inv.3 c.in_ok-put_inlinee-in-Ok-Some.ensures,
+      c.in_ok-note-in-Ok-Some.ensures inv.0 inv.4,
+    )
 
 pub returns-in-Ok-None : goal.returns-in-Ok-None
 returns-in-Ok-None c =
