@@ -75,7 +75,7 @@ mod tests {
         is(&rt, "read.as_slice()", &read.as_slice(), &b"abc".as_slice());
         let read = read_all(alloc, &mut ThreeBytes::ending(40000)).expect(&rt, "many reads");
         is(&rt, "read.len()", &read.len(), &120000);
-        is(&rt, "read[119997]", &read[119997], &(b'a'));
+        is(&rt, "read.last()", &read.last(), &Some(&b'c'));
         let read = read_all(alloc, &mut ThreeBytes::ending(0)).expect(&rt, "no byte");
         assert!(rt; read.is_empty());
         is(
