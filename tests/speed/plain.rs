@@ -263,29 +263,40 @@ fn site(out: &mut Vec<u8>, b: &[u8], (section, start): (u16, u32), (file, first)
     }
 }
 
+/// The DBI stream, and where each module's record begins in it.
+fn modules_of(file: &File) -> (Vec<u8>, Vec<usize>) {
+    let dbi = file.stream(3);
+    let end = 64 + u32_at(&dbi, 24) as usize;
+    let mut at = 64;
+    let mut starts = Vec::new();
+    while at < end {
+        starts.push(at);
+        let name = cstring(&dbi, at + 64).len();
+        at += (66 + name + cstring(&dbi, at + 65 + name).len() + 3) & !3;
+    }
+    (dbi, starts)
+}
+
 fn main() {
     let words: Vec<String> = std::env::args().collect();
     let file = File::open(&words[1]);
     let mut out = Vec::new();
     let mut rest = words[2..].iter();
+    let mut kept = None;
     while let Some(word) = rest.next() {
         if word == "names" {
             names(&mut out, &file.stream(1));
             continue;
         }
-        let dbi = file.stream(3);
+        let (dbi, starts) = kept.get_or_insert_with(|| modules_of(&file));
         match word.as_str() {
-            "globals" => symbols(&mut out, &file.stream(u16_at(&dbi, 20).into()), 0),
-            "modules" => modules(&mut out, &dbi),
-            "contributions" => contributions(&mut out, &dbi),
+            "globals" => symbols(&mut out, &file.stream(u16_at(dbi, 20).into()), 0),
+            "modules" => modules(&mut out, dbi),
+            "contributions" => contributions(&mut out, dbi),
             _ => {
-                let mut at = 64;
-                for _ in 0..rest.next().unwrap().parse::<usize>().unwrap() {
-                    let name = cstring(&dbi, at + 64).len();
-                    at += (66 + name + cstring(&dbi, at + 65 + name).len() + 3) & !3;
-                }
-                let own = file.stream(u16_at(&dbi, at + 34).into());
-                let (own, data) = own.split_at(u32_at(&dbi, at + 36) as usize);
+                let at = starts[rest.next().unwrap().parse::<usize>().unwrap()];
+                let own = file.stream(u16_at(dbi, at + 34).into());
+                let (own, data) = own.split_at(u32_at(dbi, at + 36) as usize);
                 match word.as_str() {
                     "symbols" => symbols(&mut out, own, 4),
                     "lines" => lines(&mut out, data),

@@ -1,13 +1,13 @@
 -- The turns of the loop over section headers.
-use Rattle.std.proofs.Common.{◌≡◌, ℕ, ◌+◌, ◌≤◌, ◌<◌, List, [], ◌∷◌, ◌++◌, length, Option, Some, None, Result, Ok, Err, refl, sym, ap, ◌∙◌, arith, append_assoc}
+use Rattle.std.proofs.Common.{◌≡◌, ℕ, ◌≤◌, ◌<◌, List, [], ◌∷◌, ◌++◌, length, Option, Some, None, Result, Ok, Err, refl, sym, ap, ◌∙◌, arith, append_assoc}
 use Rattle.std.proofs.lemmas.Bool.Decides.{nat_tests}
 use Rattle.pdb_base.specs.declared.error.Error.{Error}
 use Rattle.pdb_base.specs.declared.section_header.ImageSectionHeader.{ImageSectionHeader}
 use Rattle.pdb_base.specs.Refusal.{◌>>=◌}
 use Rattle.pdb_base.specs.Cursor.{Cursor, Reads}
-use Rattle.pdb_base.specs.Left.{Left, Follows, Ends, whole, all_or}
+use Rattle.pdb_base.specs.Left.{Left, Follows, whole, all_or}
 use Rattle.pdb_base.specs.Tiling.{listing}
-use Rattle.pdb_base.specs.SectionHeader.{header_at, header_of, headers, headers_of}
+use Rattle.pdb_base.specs.SectionHeader.{header_at, headers, headers_of}
 use Rattle.pdb_base.proofs.Readings.{ReadsInside, read_item, read_fault, read_end, read_moves}
 
 -- items that were read before those of a reading

@@ -1,5 +1,5 @@
 -- What is kept of a file, and the refusals of a stream that was had.
-use Rattle.std.proofs.Common.{◌≡◌, ℕ, List, Some, None, Result, Ok, Err}
+use Rattle.std.proofs.Common.{◌≡◌, ℕ, List, Some, None, Ok, Err}
 use Rattle.pdb_base.specs.declared.error.Error.{Error}
 use Rattle.pdb_base.specs.Refusal.{Fails}
 use Rattle.pdb_base.specs.Container.{stream_of}

@@ -2,6 +2,7 @@
 
 mod addresses;
 mod modules;
+mod reads;
 mod sample;
 mod streams;
 mod strings;

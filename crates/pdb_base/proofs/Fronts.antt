@@ -15,7 +15,7 @@ use Rattle.pdb_base.specs.declared.error.Error.TheVariants.{UnexpectedEof, PageR
 use Rattle.pdb_base.specs.declared.error.Feature.TheVariants.{SmallMsf}
 use Rattle.pdb_base.specs.Refusal.{◌>>=◌}
 use Rattle.pdb_base.specs.Fields.{number}
-use Rattle.pdb_base.specs.Container.{numbers, numbers_at, pages_at, place, places, is_page, tested, unless_refused, bytes_at, paged, head_of, Head, list_of, open_of, Opened, size_of, front_of, stream_of, is_page_size, page_numbers_of, small_magic, magic}
+use Rattle.pdb_base.specs.Container.{numbers, numbers_at, pages_at, place, places, is_page, tested, unless_refused, bytes_of_places, paged, head_of, Head, list_of, open_of, Opened, size_of, front_of, stream_of, is_page_size, page_numbers_of, small_magic, magic}
 use Rattle.pdb_base.proofs.Ranges.{before_ceil, ceil_holds}
 use Rattle.pdb_base.proofs.OpenLemmas.{paged-length}
 
@@ -159,8 +159,8 @@ both : (a b : Bool) → (a && b) ≡ true → a ≡ true
 both true b e = refl
 both false b e = absurd cc
 
-bytes_front : (file ps bytes : List ℕ) (e : ℕ) → bytes_at file ps ≡ Ok bytes → bytes_at file (take e ps) ≡ Ok (take e bytes)
-unfolding bytes_at
+bytes_front : (file ps bytes : List ℕ) (e : ℕ) → bytes_of_places file ps ≡ Ok bytes → bytes_of_places file (take e ps) ≡ Ok (take e bytes)
+unfolding bytes_of_places
 bytes_front file ps bytes e h =
     let p : ℕ → Bool = λ p. nat_lt p (length file) in
     let w = test_ok _ _ _ bytes h in
@@ -171,7 +171,7 @@ bytes_front file ps bytes e h =
 paged_front : (file : List ℕ) (P used : ℕ) (pages : List ℕ) (e s : ℕ) (bytes : List ℕ) → 0 < P → e ≤ s → paged file P used pages s ≡ Ok bytes → paged file P used (take (div_ceil e P) pages) e ≡ Ok (take e bytes)
 unfolding paged
 paged_front file P used pages e s bytes pos le h =
-    let (ps, et, eb) = bind_ok (tested P used pages s) (bytes_at file) bytes h in
+    let (ps, et, eb) = bind_ok (tested P used pages s) (bytes_of_places file) bytes h in
     let f = tested_front P used pages e s ps pos le et in
     rw f (bytes_front file ps bytes e eb)
 
@@ -199,15 +199,15 @@ front_begins file n limit bytes h =
 bind_err : {A B : Type 0} (r : Result A Error) (f : A → Result B Error) (d : Error) (x : A) → r ≡ Ok x → (r >>= f) ≡ Err d → f x ≡ Err d
 bind_err r f d x e h = rw e at h
 
-bytes-no_page : (file ps : List ℕ) (page : ℕ) → bytes_at file ps ≡ Err (PageReferenceOutOfRange page) → ⊥
-unfolding bytes_at
+bytes-no_page : (file ps : List ℕ) (page : ℕ) → bytes_of_places file ps ≡ Err (PageReferenceOutOfRange page) → ⊥
+unfolding bytes_of_places
 bytes-no_page file ps page h = by_test (list_all (λ p. nat_lt p (length file)) ps) (map (slice_index file) ps) h
   where
     by_test : (b : Bool) (x : List ℕ) → cond b (Ok x) (Err UnexpectedEof) ≡ Err (PageReferenceOutOfRange page) → ⊥
     by_test true x e = cc
     by_test false x e = cc
 
-tested_refused : (file : List ℕ) (t : Result (List ℕ) Error) (page : ℕ) → (t >>= bytes_at file) ≡ Err (PageReferenceOutOfRange page) → t ≡ Err (PageReferenceOutOfRange page)
+tested_refused : (file : List ℕ) (t : Result (List ℕ) Error) (page : ℕ) → (t >>= bytes_of_places file) ≡ Err (PageReferenceOutOfRange page) → t ≡ Err (PageReferenceOutOfRange page)
 tested_refused file (Ok ps) page h = absurd (bytes-no_page file ps page h)
 tested_refused file (Err d) page h = cc
 

@@ -1,6 +1,8 @@
 pub mod Passing
 pub mod Numbers
 pub mod Places
+pub mod Padding
+pub mod Headers
 pub mod Variants
 pub mod Tilings
 pub mod Readings

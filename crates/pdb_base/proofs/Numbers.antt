@@ -1,8 +1,8 @@
 -- Numbers by their bytes.
-use Rattle.std.proofs.Common.{◌≡◌, min, ℕ, ◌+◌, ◌*◌, ◌^◌, ◌<◌, ◌≤◌, List, length, get_or, take, drop, Some, None, position, ap, sym, ◌∙◌, Ok, Err, refl, inl, inr, arith, length-take, length-drop}
+use Rattle.std.proofs.Common.{◌≡◌, min, ℕ, ◌+◌, ◌*◌, ◌^◌, ◌<◌, ◌≤◌, List, length, get_or, take, drop, Some, None, position, ap, sym, ◌∙◌, Ok, Err, refl, inl, inr, arith, length-take, length-drop, get_or-drop}
 use Rattle.std.proofs.lemmas.Bool.Decides.{nat_tests}
 use Rattle.std.specs.Prelude.{◌==◌}
-use Rattle.std.proofs.lemmas.List.{drop_all}
+use Rattle.std.proofs.lemmas.List.{drop_all, get_or-take}
 use Rattle.std.proofs.lemmas.Bool.{cases_lt}
 use Rattle.pdb_base.specs.declared.error.Error.TheVariants.{UnexpectedEof}
 use Rattle.pdb_base.specs.Fields.{number, number_at, bytes_at, cut_at, cstring_at}
@@ -39,6 +39,33 @@ pub number_8 : (b : List ℕ) (p : ℕ) → get_or b p 0 + get_or b (p + 1) 0 * 
     + get_or b (p + 4) 0 * 256 ^ 4 + get_or b (p + 5) 0 * 256 ^ 5 + get_or b (p + 6) 0 * 256 ^ 6 + get_or b (p + 7) 0 * 256 ^ 7 ≡ number b p 8
 unfolding number
 number_8 b p = grind arith
+
+-- a number in a beginning
+pub number_2-take : (n : ℕ) (b : List ℕ) (p : ℕ) → p + 2 ≤ n → number (take n b) p 2 ≡ number b p 2
+unfolding number
+number_2-take n b p le = rw (get_or-take n b (p + 0) 0 (omega arith), get_or-take n b (p + 1) 0 (omega arith)) refl
+
+pub number_4-take : (n : ℕ) (b : List ℕ) (p : ℕ) → p + 4 ≤ n → number (take n b) p 4 ≡ number b p 4
+unfolding number
+number_4-take n b p le = rw (get_or-take n b (p + 0) 0 (omega arith), get_or-take n b (p + 1) 0 (omega arith), get_or-take n b (p + 2) 0 (omega arith), get_or-take n b (p + 3) 0 (omega arith)) refl
+
+byte-drop : (b : List ℕ) (p q i : ℕ) → get_or (drop p b) (q + i) 0 ≡ get_or b (p + q + i) 0
+byte-drop b p q i = let same : p + (q + i) ≡ p + q + i = omega arith in rw get_or-drop (ap (λ k. get_or b k 0) same)
+
+number_2-drop : (b : List ℕ) (p q : ℕ) → number (drop p b) q 2 ≡ number b (p + q) 2
+unfolding number
+number_2-drop b p q = rw (byte-drop b p q 0, byte-drop b p q 1) refl
+
+number_4-drop : (b : List ℕ) (p q : ℕ) → number (drop p b) q 4 ≡ number b (p + q) 4
+unfolding number
+number_4-drop b p q = rw (byte-drop b p q 0, byte-drop b p q 1, byte-drop b p q 2, byte-drop b p q 3) refl
+
+-- a number in a part is the number at its place in the whole
+pub number_2-part : (b : List ℕ) (p n q : ℕ) → q + 2 ≤ n → number (take n (drop p b)) q 2 ≡ number b (p + q) 2
+number_2-part b p n q h = number_2-take n (drop p b) q h ∙ number_2-drop b p q
+
+pub number_4-part : (b : List ℕ) (p n q : ℕ) → q + 4 ≤ n → number (take n (drop p b)) q 4 ≡ number b (p + q) 4
+number_4-part b p n q h = number_4-take n (drop p b) q h ∙ number_4-drop b p q
 
 pub cstring_there : (b rest name : List ℕ) (p n : ℕ) → rest ≡ drop p b → position (λ x. x == 0) rest ≡ Some n → n < length rest → name ≡ take n rest → (cstring_at b p ≡ Ok name) × (length name ≡ n)
 unfolding cstring_at

@@ -8,7 +8,7 @@ use Rattle.pdb_base.specs.declared.error.Error.{Error}
 use Rattle.pdb_base.specs.declared.error.Error.TheVariants.{UnexpectedEof}
 use Rattle.std.specs.Prelude.{IsOk}
 use Rattle.pdb_base.specs.Refusal.{Fails, ◌>>=◌}
-use Rattle.pdb_base.specs.Container.{numbers, place, places, tested, unless_refused, bytes_at, paged, head_of, Head, list_of, open_of, Opened, opens, size_of, limited, pages_at, front_of, stream_of, pages_needed}
+use Rattle.pdb_base.specs.Container.{numbers, place, places, tested, unless_refused, bytes_of_places, paged, head_of, Head, list_of, open_of, Opened, opens, size_of, limited, pages_at, front_of, stream_of, pages_needed}
 use Rattle.pdb_base.proofs.Passing.{fails_bind}
 
 -- ---- lengths
@@ -33,15 +33,15 @@ tested-length : (P used : ℕ) (pages : List ℕ) (size : ℕ) (ps : List ℕ) �
 unfolding tested places
 tested-length P used pages size ps e = ap length (unless_ok _ (places P pages size) ps e) ∙ length-map-range_with_len (place P pages) 0 size
 
-bytes_at-length : (file ps bytes : List ℕ) → bytes_at file ps ≡ Ok bytes → length bytes ≡ length ps
-unfolding bytes_at
-bytes_at-length file ps bytes e = ap length (test_ok _ _ (map (slice_index file) ps) bytes e) ∙ length-map ps (slice_index file)
+bytes_of_places-length : (file ps bytes : List ℕ) → bytes_of_places file ps ≡ Ok bytes → length bytes ≡ length ps
+unfolding bytes_of_places
+bytes_of_places-length file ps bytes e = ap length (test_ok _ _ (map (slice_index file) ps) bytes e) ∙ length-map ps (slice_index file)
 
 pub paged-length : (file : List ℕ) (P used : ℕ) (pages : List ℕ) (size : ℕ) (bytes : List ℕ) → paged file P used pages size ≡ Ok bytes → length bytes ≡ size
 unfolding paged
 paged-length file P used pages size bytes e =
-    let b = bind_ok (tested P used pages size) (bytes_at file) bytes e in
-    bytes_at-length file b.0 bytes b.2 ∙ tested-length P used pages size b.0 b.1
+    let b = bind_ok (tested P used pages size) (bytes_of_places file) bytes e in
+    bytes_of_places-length file b.0 bytes b.2 ∙ tested-length P used pages size b.0 b.1
 
 pub list-length : (file : List ℕ) (h : Head) (bytes : List ℕ) → list_of file h ≡ Ok bytes → length bytes ≡ 4 * div_ceil h.directory_size h.page_size
 unfolding list_of

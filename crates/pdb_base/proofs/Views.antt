@@ -9,7 +9,7 @@ use Rattle.std.proofs.lemmas.List.FromFn.{length-map-range_with_len, get_or-map-
 use Rattle.std.proofs.lemmas.Bool.Decides.{nat_tests}
 use Rattle.pdb_base.specs.declared.source.SourceSlice.{SourceSlice}
 use Rattle.pdb_base.specs.Source.{is_inside, slice_bytes, viewed}
-use Rattle.pdb_base.specs.Container.{bytes_at, tested, paged}
+use Rattle.pdb_base.specs.Container.{bytes_of_places, tested, paged}
 use Rattle.pdb_base.specs.Joined.{slice_places, joined_places, IsFull}
 
 -- what passes a test of all passes it at each place
@@ -66,14 +66,14 @@ bytes_places file (s ∷ ss) all =
     ∙ sym (map-append (slice_index file) (slice_places s) (flat_map slice_places ss))
 
 -- slices are viewed by their places
-pub viewed-places : (file : List ℕ) (ss : List SourceSlice) → All IsFull ss → viewed file ss ≡ bytes_at file (joined_places ss)
-unfolding viewed bytes_at joined_places
+pub viewed-places : (file : List ℕ) (ss : List SourceSlice) → All IsFull ss → viewed file ss ≡ bytes_of_places file (joined_places ss)
+unfolding viewed bytes_of_places joined_places
 viewed-places file ss full = by_test (list_all (is_inside file) ss) refl
   where
     same : list_all (λ p. nat_lt p (length file)) (flat_map slice_places ss) ≡ list_all (is_inside file) ss
     same = all_inside file ss (recursion_from_All IsFull ss full)
 
-    by_test : (b : Bool) → list_all (is_inside file) ss ≡ b → viewed file ss ≡ bytes_at file (joined_places ss)
+    by_test : (b : Bool) → list_all (is_inside file) ss ≡ b → viewed file ss ≡ bytes_of_places file (joined_places ss)
     by_test true e = rw (same, e) (ap Ok (bytes_places file ss e))
     by_test false e = rw (same, e) refl
 

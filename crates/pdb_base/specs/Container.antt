@@ -20,8 +20,8 @@ unfoldable pub places : ℕ → List ℕ → ℕ → List ℕ
 places P pages size = map (place P pages) (range_with_len 0 size)
 
 -- the bytes at these places, or the end of the file where one is past it
-unfoldable pub bytes_at : List ℕ → List ℕ → Result (List ℕ) Error
-bytes_at file ps = if list_all (λ p. nat_lt p (length file)) ps then Ok (map (slice_index file) ps) else Err UnexpectedEof
+unfoldable pub bytes_of_places : List ℕ → List ℕ → Result (List ℕ) Error
+bytes_of_places file ps = if list_all (λ p. nat_lt p (length file)) ps then Ok (map (slice_index file) ps) else Err UnexpectedEof
 
 abbrev pub is_page : ℕ → ℕ → Bool
 is_page used page = nat_lt 0 page && nat_lt page used
@@ -36,7 +36,7 @@ tested P used pages size = unless_refused (find (λ page. not (is_page used page
 
 -- a stream of size bytes over these pages
 unfoldable pub paged : List ℕ → ℕ → ℕ → List ℕ → ℕ → Result (List ℕ) Error
-paged file P used pages size = tested P used pages size >>= bytes_at file
+paged file P used pages size = tested P used pages size >>= bytes_of_places file
 
 abbrev pub small_magic : List ℕ
 small_magic = codes "Microsoft C/C++ program database 2.00"

@@ -1,5 +1,5 @@
 -- What stands at a place of a list of bytes, as facts on places alone.
-use Rattle.std.specs.Prelude.{ℕ, ℤ, ◌+◌, ◌≡◌, ◌≢◌, ◌<◌, ◌≤◌, ◌⊎◌, List, length, take, drop, slice_index}
+use Rattle.std.specs.Prelude.{ℕ, ℤ, ◌+◌, ◌%◌, ◌≡◌, ◌≢◌, ◌<◌, ◌≤◌, ◌⊎◌, List, length, take, drop, slice_index}
 use Rattle.std.specs.Int.{Width, w16, w32, w64, cast_signed, byte_len}
 use Rattle.pdb_base.specs.declared.variant.Variant.{Variant}
 use Rattle.pdb_base.specs.declared.variant.Variant.TheVariants.{U8, U16, U32, U64, I8, I16, I32, I64}
@@ -26,6 +26,13 @@ pub record IsCString (b : List ℕ) (p : ℕ) (s : List ℕ) : Type 0 where
 pub record IsPascal (b : List ℕ) (p : ℕ) (s : List ℕ) : Type 0 where
   pub counted : IsNumber b p 1 (length s)
   pub value : IsSlice b (p + 1) (length s) s
+
+-- q is the multiple of n from p on that is fewer than n bytes away
+pub record IsAligned (b : List ℕ) (p n q : ℕ) : Type 0 where
+  pub behind : p ≤ q
+  pub near : q < p + n
+  pub multiple : q % n ≡ 0
+  pub there : q ≤ length b
 
 -- n is the number of the bytes of a width at p, the greatest bit of which is its sign
 pub record IsSigned (b : List ℕ) (p : ℕ) (w : Width) (n : ℤ) : Type 0 where

@@ -5,6 +5,7 @@ use Rattle.pdb_base.specs.declared.error.Error.{Error}
 use Rattle.pdb_base.specs.declared.error.Error.TheVariants.{UnexpectedEof}
 use Rattle.pdb_base.specs.declared.section_header.ImageSectionHeader.{ImageSectionHeader}
 use Rattle.pdb_base.specs.Fields.{number}
+use Rattle.pdb_base.specs.Places.{IsNumber, IsSlice}
 use Rattle.pdb_base.specs.Left.{whole}
 use Rattle.pdb_base.specs.Tiling.{Row, listing}
 use Rattle.pdb_base.specs.Reading.{read_row}
@@ -27,6 +28,19 @@ header_of h = record {
 -- the header that stands at p
 unfoldable pub header_at : List ℕ → ℕ → Result ImageSectionHeader Error
 header_at b p = if nat_le (p + 40) (length b) then Ok (header_of (take 40 (drop p b))) else Err UnexpectedEof
+
+-- h is the header of the bytes at p, by the places of its fields
+pub record IsSectionHeader (b : List ℕ) (p : ℕ) (h : ImageSectionHeader) : Type 0 where
+  pub name : IsSlice b p 8 h.name
+  pub virtual_size : IsNumber b (p + 8) 4 h.virtual_size
+  pub virtual_address : IsNumber b (p + 12) 4 h.virtual_address
+  pub size_of_raw_data : IsNumber b (p + 16) 4 h.size_of_raw_data
+  pub pointer_to_raw_data : IsNumber b (p + 20) 4 h.pointer_to_raw_data
+  pub pointer_to_relocations : IsNumber b (p + 24) 4 h.pointer_to_relocations
+  pub pointer_to_line_numbers : IsNumber b (p + 28) 4 h.pointer_to_line_numbers
+  pub number_of_relocations : IsNumber b (p + 32) 2 h.number_of_relocations
+  pub number_of_line_numbers : IsNumber b (p + 34) 2 h.number_of_line_numbers
+  pub characteristics : IsNumber b (p + 36) 4 h.characteristics.0
 
 -- the bytes of a header's name before the first zero byte, or all eight
 abbrev pub name_of : ImageSectionHeader → List ℕ

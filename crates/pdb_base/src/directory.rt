@@ -9,7 +9,8 @@ ghost use Rattle.pdb_base.specs.Container.{head_of, list_of, is_page_size as pag
 ghost use Rattle.pdb_base.specs.Heads.{head, as_format};
 
 use crate::error::{Error, Feature, Result};
-use crate::pages::{u32_at, view_pages};
+use crate::little_endian::u32_at;
+use crate::pages::view_pages;
 use crate::source::{Source, SourceSlice, View};
 use std::alloc::{AllocError, Global};
 

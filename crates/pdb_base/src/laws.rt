@@ -1,10 +1,12 @@
 //! Laws of the definitions. Each is the contract of a function that does nothing.
 
-ghost use Rattle.std.specs.Prelude.{◌≡◌, ◌↔◌, ℕ, ℤ, List, take, Some, None, Ok, Err};
+ghost use Rattle.std.specs.Prelude.{◌≡◌, ◌↔◌, ◌+◌, ◌<◌, ℕ, ℤ, List, take, Some, None, Ok, Err};
 ghost use Rattle.pdb_base.specs.Left.{Left};
 ghost use Rattle.pdb_base.specs.Tiling.{Row, IsInside, IsListing, listing};
-ghost use Rattle.pdb_base.specs.Fields.{number_at, bytes_at, cstring_at, pascal_at, signed_at, variant_at};
-ghost use Rattle.pdb_base.specs.Places.{IsNumber, IsSigned, IsSlice, IsCString, IsPascal, IsVariant};
+ghost use Rattle.pdb_base.specs.Fields.{number_at, bytes_at, cstring_at, pascal_at, signed_at, variant_at, aligned_at, padding};
+ghost use Rattle.pdb_base.specs.Places.{IsNumber, IsSigned, IsSlice, IsCString, IsPascal, IsVariant, IsAligned};
+ghost use Rattle.pdb_base.specs.SectionHeader.{IsSectionHeader, header_at};
+ghost use Rattle.pdb_base.specs.declared.section_header.ImageSectionHeader.{ImageSectionHeader};
 ghost use Rattle.pdb_base.specs.declared.variant.Variant.{Variant};
 ghost use Rattle.std.specs.Int.{Width};
 ghost use Rattle.pdb_base.specs.Container.{stream_of, page_numbers_of};
@@ -18,7 +20,8 @@ pub fn one_listing<A>()
 {}
 
 /// What a read gives is what stands at the place: the number of so many bytes, also a signed one, that slice, the
-/// bytes before the least place of a zero byte, as many bytes as the byte there says, or the number behind a prefix.
+/// bytes before the least place of a zero byte, as many bytes as the byte there says, the number behind a prefix, or a
+/// section header by its fields. Padding ends at the next multiple.
 pub fn fields_stand_at_their_places()
     ensures number { (b : List ℕ) (p w n : ℕ) → (number_at b p w ≡ Ok n) ↔ IsNumber b p w n }
     ensures slice { (b : List ℕ) (p n : ℕ) (s : List ℕ) → (bytes_at b p n ≡ Ok s) ↔ IsSlice b p n s }
@@ -26,6 +29,8 @@ pub fn fields_stand_at_their_places()
     ensures pascal { (b : List ℕ) (p : ℕ) (s : List ℕ) → (pascal_at b p ≡ Ok s) ↔ IsPascal b p s }
     ensures signed { (b : List ℕ) (p : ℕ) (w : Width) (n : ℤ) → (signed_at b p w ≡ Ok n) ↔ IsSigned b p w n }
     ensures variant { (b : List ℕ) (p : ℕ) (v : Variant) → (variant_at b p ≡ Ok v) ↔ IsVariant b p v }
+    ensures padding { (b : List ℕ) (p n q : ℕ) → 0 < n → ((aligned_at b p n ≡ Ok tt) × (q ≡ p + padding p n)) ↔ IsAligned b p n q }
+    ensures section_header { (b : List ℕ) (p : ℕ) (h : ImageSectionHeader) → (header_at b p ≡ Ok h) ↔ IsSectionHeader b p h }
 {}
 
 /// Where a stream can be had whole, its front is its first bytes. Where all its page numbers are there, a number in

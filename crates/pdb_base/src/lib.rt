@@ -8,6 +8,7 @@ mod error;
 mod index;
 mod iterator;
 pub mod laws;
+pub mod little_endian;
 mod msf;
 mod pages;
 mod section_header;

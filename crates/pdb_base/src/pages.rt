@@ -5,31 +5,13 @@ ghost use Rattle.std.specs.List.{range_with_len};
 ghost use Rattle.std.specs.Int.{div_ceil};
 ghost use Rattle.pdb_base.specs.Refusal.{Gives};
 ghost use Rattle.pdb_base.specs.Source.{Continues, MayFail, view_bytes};
-ghost use Rattle.pdb_base.specs.Fields.{number};
 ghost use Rattle.pdb_base.specs.Container.{numbers, places, tested, paged};
 ghost use Rattle.pdb_base.specs.Joined.{joined_places, slice_places, IsFull};
 
 use crate::error::{Error, Result};
+use crate::little_endian::u32_at;
 use crate::source::{Source, SourceSlice, View};
 use std::alloc::{AllocError, Global};
-
-/// The number of two bytes at a place.
-#[tactic(auto, unfolding(crate::specs::Fields::number))]
-pub(crate) fn u16_at(bytes: &[u8], at: usize) -> u16
-    requires { at + 2 ≤ length bytes.now }
-    ensures { result ≡ number bytes.now at 2 }
-{
-    u16::from_le_bytes([bytes[at], bytes[at + 1]])
-}
-
-/// The number of four bytes at a place.
-#[tactic(auto, unfolding(crate::specs::Fields::number))]
-pub(crate) fn u32_at(bytes: &[u8], at: usize) -> u32
-    requires { at + 4 ≤ length bytes.now }
-    ensures { result ≡ number bytes.now at 4 }
-{
-    u32::from_le_bytes([bytes[at], bytes[at + 1], bytes[at + 2], bytes[at + 3]])
-}
 
 /// Puts a part of the file behind the slices joined so far and the current one: a neighbour makes the current
 /// slice longer.

@@ -7,7 +7,7 @@ ghost use Rattle.pdb_base.specs.SectionHeader.{header_at, header_of, name_of};
 use crate::buffer::ParseBuffer;
 use crate::error::Result;
 use crate::index::SectionCharacteristics;
-use crate::pages::{u16_at, u32_at};
+use crate::little_endian::{u16_at, u32_at};
 use crate::zeros::first_zero;
 
 /// The header of a section of the image: the PE format's `IMAGE_SECTION_HEADER`, 40 bytes in the order of its fields.

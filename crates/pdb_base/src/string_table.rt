@@ -9,7 +9,7 @@ ghost use Rattle.pdb_base.specs.Text.{name_bytes};
 use crate::buffer::ParseBuffer;
 use crate::error::{Error, Feature, Result};
 use crate::index::StringRef;
-use crate::pages::u32_at;
+use crate::little_endian::u32_at;
 use crate::stream::Stream;
 use crate::text::RawString;
 use std::marker::Model;

@@ -2,6 +2,7 @@
 
 mod container;
 mod fields;
+mod reads;
 mod tables;
 
 use std::fmt::Debug;

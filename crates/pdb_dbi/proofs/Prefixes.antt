@@ -3,28 +3,21 @@ use Rattle.std.proofs.Common.{◌≡◌, ℕ, ◌+◌, ◌≤◌, Bool, true, fa
 use Rattle.std.specs.Prelude.{not, nat_lt, ◌==◌}
 use Rattle.std.proofs.lemmas.Bool.{le-ltb}
 use Rattle.std.proofs.lemmas.Bool.Decides.{nat_tests}
-use Rattle.std.proofs.lemmas.List.{get_or-take, length-take}
+use Rattle.std.proofs.lemmas.List.{length-take}
 use Rattle.pdb_base.specs.declared.error.Error.{Error}
 use Rattle.pdb_base.specs.declared.error.Error.TheVariants.{UnexpectedEof, UnimplementedFeature, IoError, OutOfMemory}
 use Rattle.pdb_base.specs.declared.error.Feature.TheVariants.{AncientDbiHeader}
 use Rattle.pdb_base.specs.Refusal.{Fails, ◌>>=◌}
 use Rattle.pdb_base.specs.Container.{stream_of}
 use Rattle.pdb_base.proofs.Fronts.{front_begins}
+use Rattle.pdb_base.proofs.Numbers.{number_2-take, number_4-take}
 use Rattle.pdb_base.proofs.Passing.{fails_bind}
 use Rattle.pdb_base.specs.Fields.{number}
 use Rattle.pdb_dbi.specs.declared.header.DBIHeader.{DBIHeader}
-use Rattle.pdb_dbi.specs.Header.{header_of, fields_of, header_in, debug_information_of}
+use Rattle.pdb_dbi.specs.Header.{header_of, header_fields, header_in, debug_information_of}
 
-pub number_2-take : (n : ℕ) (b : List ℕ) (p : ℕ) → p + 2 ≤ n → number (take n b) p 2 ≡ number b p 2
-unfolding number
-number_2-take n b p le = rw (get_or-take n b (p + 0) 0 (omega arith), get_or-take n b (p + 1) 0 (omega arith)) refl
-
-pub number_4-take : (n : ℕ) (b : List ℕ) (p : ℕ) → p + 4 ≤ n → number (take n b) p 4 ≡ number b p 4
-unfolding number
-number_4-take n b p le = rw (get_or-take n b (p + 0) 0 (omega arith), get_or-take n b (p + 1) 0 (omega arith), get_or-take n b (p + 2) 0 (omega arith), get_or-take n b (p + 3) 0 (omega arith)) refl
-
-fields-take : (n : ℕ) (b : List ℕ) → 64 ≤ n → fields_of (take n b) ≡ fields_of b
-unfolding fields_of
+fields-take : (n : ℕ) (b : List ℕ) → 64 ≤ n → header_fields (take n b) ≡ header_fields b
+unfolding header_fields
 fields-take n b le =
     let four : (p : ℕ) → p + 4 ≤ 64 → number (take n b) p 4 ≡ number b p 4 = λ p h. number_4-take n b p (omega arith) in
     let two : (p : ℕ) → p + 2 ≤ 64 → number (take n b) p 2 ≡ number b p 2 = λ p h. number_2-take n b p (omega arith) in
@@ -59,7 +52,7 @@ long_enough false r h e = refl
 pub header-take : (n : ℕ) (b : List ℕ) (h : DBIHeader) → 64 ≤ n → header_of b ≡ Ok h → header_of (take n b) ≡ Ok h
 unfolding header_of
 header-take n b h le e =
-    let test = long_enough (nat_lt (length b) 64) (cond (not ((fields_of b).signature == 0xffffffff)) (Err (UnimplementedFeature _)) (Ok (fields_of b))) h e in
+    let test = long_enough (nat_lt (length b) 64) (cond (not ((header_fields b).signature == 0xffffffff)) (Err (UnimplementedFeature _)) (Ok (header_fields b))) h e in
     let long : 64 ≤ length b = grind (arith, nat_tests) in
     let len : 64 ≤ length (take n b) = simp length-take (omega arith) in
     let t : nat_lt (length (take n b)) 64 ≡ false = le-ltb (length (take n b)) 64 len in
@@ -81,7 +74,7 @@ tested false false h e q = absurd cc
 
 pub header_refused : (b : List ℕ) (e : Error) → header_of b ≡ Err e → (e ≡ UnexpectedEof) ⊎ (e ≡ UnimplementedFeature AncientDbiHeader)
 unfolding header_of
-header_refused b e q = tested (nat_lt (length b) 64) (not ((fields_of b).signature == 0xffffffff)) (fields_of b) e q
+header_refused b e q = tested (nat_lt (length b) 64) (not ((header_fields b).signature == 0xffffffff)) (header_fields b) e q
 
 named : (io : Type 0) (e : Error) (b : List ℕ) → (e ≡ UnexpectedEof) ⊎ (e ≡ UnimplementedFeature AncientDbiHeader) → header_of b ≡ Err e → Fails io e (header_of b)
 named io IoError b (inl p) q = absurd cc

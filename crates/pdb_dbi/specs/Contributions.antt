@@ -1,10 +1,11 @@
 -- The section contributions: records that stand one after another.
-use Rattle.std.specs.Prelude.{ℕ, ◌+◌, List, length, drop, Result, Ok, Err, ◌==◌, nat_lt, if◌then◌else◌}
+use Rattle.std.specs.Prelude.{ℕ, ◌+◌, ◌≤◌, List, length, drop, Result, Ok, Err, ◌==◌, nat_lt, if◌then◌else◌}
 use Rattle.pdb_base.specs.declared.error.Error.{Error}
 use Rattle.pdb_base.specs.declared.error.Error.TheVariants.{UnexpectedEof}
 use Rattle.pdb_base.specs.Refusal.{◌>>=◌}
 use Rattle.pdb_base.specs.Fields.{number, bytes_at}
 use Rattle.pdb_base.specs.Left.{Left}
+use Rattle.pdb_base.specs.Places.{IsNumber}
 use Rattle.pdb_base.specs.Tiling.{Row, listing}
 use Rattle.pdb_base.specs.Reading.{read_row}
 use Rattle.pdb_dbi.specs.declared.contributions.DBISectionContribution.{DBISectionContribution}
@@ -50,3 +51,14 @@ contribution_records_of b = contribution_part_of b >>= records_of
 -- the contributions of a DBI stream
 unfoldable pub contributions_in : List ℕ → Result (Left DBISectionContribution) Error
 contributions_in b = contribution_part_of b >>= contributions_of
+
+-- c is the contribution of the record of so many bytes at p, by the places of its fields
+pub record IsContribution (width : ℕ) (b : List ℕ) (p : ℕ) (c : DBISectionContribution) : Type 0 where
+  pub section : IsNumber b p 2 c.offset.section
+  pub offset : IsNumber b (p + 4) 4 c.offset.offset
+  pub size : IsNumber b (p + 8) 4 c.size
+  pub characteristics : IsNumber b (p + 12) 4 c.characteristics.0
+  pub «module» : IsNumber b (p + 16) 2 c.«module»
+  pub data_crc : IsNumber b (p + 20) 4 c.data_crc
+  pub reloc_crc : IsNumber b (p + 24) 4 c.reloc_crc
+  pub there : p + width ≤ length b

@@ -15,8 +15,8 @@ abbrev pub stream_at : List ℕ → ℕ → StreamIndex
 stream_at part i = record { 0 = if nat_le (2 * i + 2) (length part) then number part (2 * i) 2 else 0xffff }
 
 -- the first eleven streams of a part
-unfoldable pub fields_of : List ℕ → DBIExtraStreams
-fields_of part = record {
+unfoldable pub extra_streams_fields : List ℕ → DBIExtraStreams
+extra_streams_fields part = record {
   fpo = stream_at part 0;
   exception = stream_at part 1;
   fixup = stream_at part 2;
@@ -32,7 +32,7 @@ fields_of part = record {
 
 -- the streams of a part, whose length is even
 unfoldable pub extra_streams_of : List ℕ → Result DBIExtraStreams Error
-extra_streams_of part = if length part % 2 == 0 then Ok (fields_of part) else Err (InvalidStreamLength DebugHeader)
+extra_streams_of part = if length part % 2 == 0 then Ok (extra_streams_fields part) else Err (InvalidStreamLength DebugHeader)
 
 -- where the part stands in a DBI stream: behind the header and six parts
 abbrev pub parts_end : DBIHeader → ℕ

@@ -21,8 +21,8 @@ version_of n =
     else OtherValue n
 
 -- the fields of the first 64 bytes
-unfoldable pub fields_of : List ℕ → DBIHeader
-fields_of b = record {
+unfoldable pub header_fields : List ℕ → DBIHeader
+header_fields b = record {
   signature = number b 0 4;
   version = version_of (number b 4 4);
   age = number b 8 4;
@@ -49,8 +49,8 @@ fields_of b = record {
 unfoldable pub header_of : List ℕ → Result DBIHeader Error
 header_of b =
     if nat_lt (length b) 64 then Err UnexpectedEof
-    else (if not ((fields_of b).signature == 0xffffffff) then Err (UnimplementedFeature AncientDbiHeader)
-    else Ok (fields_of b))
+    else (if not ((header_fields b).signature == 0xffffffff) then Err (UnimplementedFeature AncientDbiHeader)
+    else Ok (header_fields b))
 
 -- the bytes of a DBI stream that has a header
 unfoldable pub debug_information_of : List ℕ → Result (List ℕ) Error

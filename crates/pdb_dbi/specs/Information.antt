@@ -21,8 +21,8 @@ abbrev pub guid_of : List ℕ → List ℕ
 guid_of b = map (slice_index b) (15 ∷ 14 ∷ 13 ∷ 12 ∷ 17 ∷ 16 ∷ 19 ∷ 18 ∷ 20 ∷ 21 ∷ 22 ∷ 23 ∷ 24 ∷ 25 ∷ 26 ∷ 27 ∷ [])
 
 -- the fields of the first 32 bytes
-unfoldable pub fields_of : List ℕ → Information
-fields_of b = record {
+unfoldable pub information_fields : List ℕ → Information
+information_fields b = record {
   version = version_of (number b 0 4);
   signature = number b 4 4;
   age = number b 8 4;
@@ -34,4 +34,4 @@ fields_of b = record {
 
 -- the stream's fields, where its 32 bytes are there
 unfoldable pub information_of : List ℕ → Result Information Error
-information_of b = if nat_lt (length b) 32 then Err UnexpectedEof else Ok (fields_of b)
+information_of b = if nat_lt (length b) 32 then Err UnexpectedEof else Ok (information_fields b)

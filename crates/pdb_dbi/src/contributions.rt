@@ -5,7 +5,7 @@ ghost use Rattle.pdb_base.specs.Cursor.{Reads};
 ghost use Rattle.pdb_base.specs.Refusal.{Answers};
 ghost use Rattle.pdb_dbi.specs.Contributions.{contribution_at, contribution_of, contributions_of, record_size, records_of};
 
-use crate::numbers::{u16_at, u32_at};
+use pdb_base::little_endian::{u16_at, u32_at};
 use pdb_base::{
     Error, FallibleIterator, ParseBuffer, PdbInternalSectionOffset, Result, SectionCharacteristics,
     Steps,

@@ -3,10 +3,10 @@
 ghost use Rattle.std.specs.Prelude.{◌≡◌, ◌-◌, ◌<◌, length, drop};
 ghost use Rattle.pdb_base.specs.Cursor.{Reads};
 ghost use Rattle.pdb_base.specs.Refusal.{Answers};
-ghost use Rattle.pdb_dbi.specs.ExtraStreams.{extra_streams_in, extra_streams_of, fields_of, stream_at};
+ghost use Rattle.pdb_dbi.specs.ExtraStreams.{extra_streams_in, extra_streams_of, extra_streams_fields, stream_at};
 
 use crate::debug_information::DebugInformation;
-use crate::numbers::u16_at;
+use pdb_base::little_endian::u16_at;
 use pdb_base::{Error, ParseBuffer, Part, Result, StreamIndex};
 
 /// The streams with tables of other kinds, by their indices: `dbi.h`'s `DbgDataHdr`. A table that the file hasn't got
@@ -49,9 +49,9 @@ fn index_at(part: &[u8], i: usize) -> StreamIndex
 }
 
 /// The indices of a part.
-#[tactic(auto, unfolding(crate::specs::ExtraStreams::fields_of))]
+#[tactic(auto, unfolding(crate::specs::ExtraStreams::extra_streams_fields))]
 fn indices(part: &[u8]) -> DBIExtraStreams
-    ensures { result ≡ fields_of part.now }
+    ensures { result ≡ extra_streams_fields part.now }
 {
     DBIExtraStreams {
         fpo: index_at(part, 0),

@@ -2,9 +2,9 @@
 
 ghost use Rattle.std.specs.Prelude.{◌≡◌, ◌≤◌, length};
 ghost use Rattle.pdb_base.specs.Refusal.{Answers};
-ghost use Rattle.pdb_dbi.specs.Header.{version_of, header_of, fields_of};
+ghost use Rattle.pdb_dbi.specs.Header.{version_of, header_of, header_fields};
 
-use crate::numbers::{u16_at, u32_at};
+use pdb_base::little_endian::{u16_at, u32_at};
 use pdb_base::{Error, Feature, Result, Stream, StreamIndex};
 
 /// The version of a stream's format, which its makers number by dates.
@@ -90,10 +90,10 @@ const HEADER_SIZE: usize = 64;
 const SIGNATURE: u32 = 0xffff_ffff;
 
 /// The fields of the first 64 bytes.
-#[tactic(auto, unfolding(crate::specs::Header::fields_of))]
+#[tactic(auto, unfolding(crate::specs::Header::header_fields))]
 fn fields(bytes: &[u8]) -> DBIHeader
     requires { 64 ≤ length bytes.now }
-    ensures { result ≡ fields_of bytes.now }
+    ensures { result ≡ header_fields bytes.now }
 {
     DBIHeader {
         signature: u32_at(bytes, 0),
@@ -120,7 +120,7 @@ fn fields(bytes: &[u8]) -> DBIHeader
 }
 
 /// The header at the start of the bytes.
-#[tactic(auto, unfolding(crate::specs::Header::header_of, crate::specs::Header::fields_of))]
+#[tactic(auto, unfolding(crate::specs::Header::header_of, crate::specs::Header::header_fields))]
 pub(crate) fn parse_header(bytes: &[u8]) -> Result<DBIHeader>
     ensures header { Answers (λ h. h) result (header_of bytes.now) }
 {

@@ -3,13 +3,13 @@
 ghost use Rattle.std.specs.Prelude.{◌≡◌, ◌≤◌, length, IfErr};
 ghost use Rattle.pdb_base.specs.declared.error.Error.TheVariants.{UnexpectedEof};
 ghost use Rattle.pdb_base.specs.Refusal.{Answers, Gives};
-ghost use Rattle.pdb_dbi.specs.Information.{fields_of, guid_of, information_of};
+ghost use Rattle.pdb_dbi.specs.Information.{information_fields, guid_of, information_of};
 ghost use Rattle.pdb_dbi.specs.Names.{names_of};
 ghost use Rattle.pdb_dbi.specs.DbiViews.{information};
 
 use crate::header::HeaderVersion;
 use crate::names::{StreamNames, read_names};
-use crate::numbers::u32_at;
+use pdb_base::little_endian::u32_at;
 use pdb_base::{Error, Result, Stream};
 use std::alloc::Global;
 
@@ -49,7 +49,7 @@ fn guid(bytes: &[u8]) -> [u8; 16]
 impl<'s> PDBInformation<'s> {
     /// Reads the first 32 bytes of the information stream, and keeps the stream: `u32` version, signature and age, the
     /// GUID as a `u32`, two `u16` and eight bytes, and `u32` size of the names' part. `UnexpectedEof` below 32 bytes.
-    #[tactic(auto, unfolding(crate::specs::Information::information_of, crate::specs::Information::fields_of))]
+    #[tactic(auto, unfolding(crate::specs::Information::information_of, crate::specs::Information::information_fields))]
     pub fn parse(stream: Stream<'s>) -> Result<Self>
         ensures fields { Answers information result (information_of stream.entry) }
         ensures refused { IfErr result (λ e. e ≡ UnexpectedEof) }

@@ -1,14 +1,16 @@
 //! Laws of the definitions. Each is the contract of a function that does nothing.
 
 ghost use Rattle.std.specs.Prelude.{◌≡◌, ◌↔◌, ◌+◌, ◌/◌, ◌<◌, ℕ, List, length, slice_index_or, Some, None, Ok};
-ghost use Rattle.pdb_base.specs.Fields.{bytes_at};
+ghost use Rattle.pdb_base.specs.Fields.{bytes_at, number};
 ghost use Rattle.pdb_base.specs.Left.{Left};
 ghost use Rattle.pdb_base.specs.Tiling.{IsListing};
 ghost use Rattle.pdb_dbi.specs.Modules.{ModuleEntry, IsModule, module_at, modules, modules_of};
+ghost use Rattle.pdb_dbi.specs.Contributions.{IsContribution, contribution_at, contributions, contributions_of, record_size, records_of};
 ghost use Rattle.pdb_dbi.specs.Header.{header_in};
 ghost use Rattle.pdb_dbi.specs.Machine.{machine_of, machine_number};
 ghost use Rattle.pdb_dbi.specs.Names.{Name, name_at, names_of, pairs_at};
 
+use crate::contributions::DBISectionContribution;
 use crate::header::DBIHeader;
 use crate::machine::MachineType;
 
@@ -37,4 +39,15 @@ pub fn one_list_of_modules()
 /// A module is read where its fields stand at their places.
 pub fn modules_stand_at_their_places()
     ensures { (b : List ℕ) (p : ℕ) (m : ModuleEntry) → (module_at b p ≡ Ok m) ↔ IsModule b p m }
+{}
+
+/// A part with a version has one list of contributions, and it is the one that the contracts name.
+pub fn one_list_of_contributions()
+    ensures is { (part records : List ℕ) (left : Left DBISectionContribution) → records_of part ≡ Ok records → contributions_of part ≡ Ok left → IsListing (contributions (record_size (number part 0 4))) records 0 left }
+    ensures only { (part records : List ℕ) (left : Left DBISectionContribution) → records_of part ≡ Ok records → IsListing (contributions (record_size (number part 0 4))) records 0 left → contributions_of part ≡ Ok left }
+{}
+
+/// A contribution is read where its fields stand at their places, in a record of the size that the part's version says.
+pub fn contributions_stand_at_their_places()
+    ensures { (version p : ℕ) (b : List ℕ) (c : DBISectionContribution) → (contribution_at (record_size version) b p ≡ Ok c) ↔ IsContribution (record_size version) b p c }
 {}

@@ -11,7 +11,7 @@ pub mod laws;
 mod machine;
 mod modules;
 mod names;
-mod numbers;
+mod part;
 
 pub use contributions::{DBISectionContribution, DBISectionContributionIter};
 pub use debug_information::DebugInformation;

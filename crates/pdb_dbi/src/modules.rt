@@ -4,7 +4,7 @@ ghost use Rattle.std.specs.Prelude.{ℕ, ◌+◌, ◌^◌, ◌<◌, ◌≤◌, �
 ghost use Rattle.pdb_base.specs.Cursor.{Reads};
 ghost use Rattle.pdb_dbi.specs.Modules.{module_at, module_length, modules_of};
 
-use crate::numbers::{u16_at, u32_at};
+use pdb_base::little_endian::{u16_at, u32_at};
 use pdb_base::{FallibleIterator, ParseBuffer, RawString, Result, Steps, StreamIndex};
 use std::alloc::{AllocError, Global};
 use std::borrow::CowStr;

@@ -5,5 +5,6 @@ pub mod SampleFacts
 pub mod Pairs
 pub mod LinePieces
 pub mod Listed
+pub mod ModuleLists
 pub mod Numbers
 pub mod Sites

@@ -1,17 +1,16 @@
 -- Inlined functions and their sites, put one by one.
-use Rattle.std.proofs.Common.{◌≡◌, ℕ, List, [], ◌∷◌, ◌++◌, Bool, true, false, Option, Some, None, is_none, flat_map, refl, sym, ap, ◌∙◌, append_assoc, arith}
-use Rattle.std.proofs.lemmas.Grind.{common_steps, flat_map-append}
+use Rattle.std.proofs.Common.{◌≡◌, ℕ, List, [], ◌∷◌, ◌++◌, true, false, Option, Some, None, is_none, flat_map, refl, sym, ap, ◌∙◌, append_assoc, arith}
+use Rattle.std.proofs.lemmas.Grind.{common_steps}
 use Rattle.std.proofs.lemmas.List.{append-nil}
 use Rattle.pdb.specs.Error.{Error}
 use Rattle.pdb.specs.PdbInternalSectionOffset.{PdbInternalSectionOffset}
 use Rattle.pdb.specs.Left.{Left, Follows, Ends}
-use Rattle.pdb.specs.LineInfo.{LineInfo}
 use Rattle.pdb.specs.Inlinees.{InlineeEntry}
 use Rattle.pdb.specs.ModuleStream.{ModuleBytes}
 use Rattle.pdb.specs.Forms.{record_at}
 use Rattle.pdb.specs.SymbolList.{Entry}
 use Rattle.pdb_list.specs.Texts.{fault_text}
-use Rattle.pdb_list.specs.ModuleTexts.{here, line_text, line_list_text, inlinee_text, inlinee_list_text, inlinee_with, sites_of_text, site_lines, site_text, sites_text, unless_fault, with_lines, behind_symbol}
+use Rattle.pdb_list.specs.ModuleTexts.{here, line_text, line_list_text, inlinee_text, inlinee_list_text, inlinee_with, sites_of_text, site_lines, site_text, sites_text, unless_fault, with_lines}
 use Rattle.pdb_list.specs.ModuleTexts.Here.{at_site}
 
 no_fault : (xs rest : List ℕ) (f : Option Error) → true ≡ is_none f → (xs ++ fault_text f) ++ rest ≡ xs ++ unless_fault f rest

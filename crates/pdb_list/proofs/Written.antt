@@ -1,10 +1,13 @@
 -- What has been written, piece after piece.
-use Rattle.std.proofs.Common.{◌≡◌, ℕ, min, suc, ◌+◌, ◌-◌, ◌<◌, ◌≤◌, List, ◌++◌, length, get_or, take, drop, Option, Some, None, sym, ap, ◌∙◌, append_assoc, arith, flat_map, length-drop, length-append, Result, Ok, Err, OnOk, OnErr}
+use Rattle.std.proofs.Common.{◌≡◌, ℕ, min, suc, ◌+◌, ◌-◌, ◌<◌, ◌≤◌, List, ◌++◌, length, get_or, take, drop, Option, Some, None, sym, ap, subst, ◌∙◌, append_assoc, arith, flat_map, length-drop, length-append, Result, Ok, Err, OnOk, OnErr}
 use Rattle.std.specs.Io.KnownBytes.{Appends}
 use Rattle.std.proofs.lemmas.List.{take-append-le, take-append-drop, drop-take, take-take}
 use Rattle.std.proofs.lemmas.Grind.{common_steps, flat_map-append}
 use Rattle.std.proofs.Math.Seq.{take-append-add, drop-cons}
-use Rattle.pdb_list.specs.Written.{WroteFront}
+use Rattle.std.specs.Prelude.{IsErrOf, IsErrAnd}
+use Rattle.pdb_list.specs.declared.engine.RunError.{RunError}
+use Rattle.pdb_list.specs.declared.engine.RunError.TheVariants.{OutOfMemory, Open, Write}
+use Rattle.pdb_list.specs.Written.{Wrote, WroteFirst, WroteFront}
 
 pub on_ok : {A E : Type 0} {P Q : Type 0} (r : Result A E) → (P → Q) → OnOk r P → OnOk r Q
 on_ok (Ok x) f h = f h
@@ -92,3 +95,50 @@ texts_front f a b c xs i d lt h w =
     let all = appends_then a b c first (take w.0 (f (get_or xs i d))) h w.2 in
     let whole = flat_map f xs in
     shorter a c whole (length first + w.0) (rw e at all)
+
+-- ---- what a run wrote, by how it ended
+
+-- all texts of some things, and then a run over further ones
+pub wrote_then : {X : Type 0} (f : X → List ℕ) (a b c : Option (List ℕ)) (xs ys : List X) (r : Result (Unit {0}) RunError)
+    → Appends a b (flat_map f xs) → Wrote f b c ys r → Wrote f a c (xs ++ ys) r
+wrote_then f a b c xs ys (Ok tt) h w = rw (flat_map-append f xs ys) (appends_then a b c (flat_map f xs) (flat_map f ys) h w)
+wrote_then f a b c xs ys (Err OutOfMemory) h w =
+    let e : flat_map f (take (length xs + w.0) (xs ++ ys)) ≡ flat_map f xs ++ flat_map f (take w.0 ys) =
+    ap (flat_map f) (take-append-add xs ys w.0) ∙ flat_map-append f xs (take w.0 ys) in
+    (length xs + w.0, omega (arith, w.1, length-append xs ys), rw e (appends_then a b c (flat_map f xs) (flat_map f (take w.0 ys)) h w.2))
+wrote_then f a b c xs ys (Err Write) h w = rw (flat_map-append f xs ys) (front_then a b c (flat_map f xs) (flat_map f ys) h w)
+wrote_then f a b c xs ys (Err (Open e)) h w = absurd w
+
+-- a run that stopped, whatever was still to come
+pub wrote_less : {X : Type 0} (f : X → List ℕ) (a b : Option (List ℕ)) (xs ys : List X) (e : RunError)
+    → Wrote f a b xs (Err e) → Wrote f a b (xs ++ ys) (Err e)
+wrote_less f a b xs ys OutOfMemory w =
+    let e : take w.0 (xs ++ ys) ≡ take w.0 xs = take-append-le w.0 xs ys w.1 in
+    (w.0, omega (arith, w.1, length-append xs ys), rw e w.2)
+wrote_less f a b xs ys Write w = rw (flat_map-append f xs ys) (front_of a b (flat_map f xs) (flat_map f ys) w)
+wrote_less f a b xs ys (Open e) w = absurd w
+
+pub wrote_all : {X : Type 0} (f : X → List ℕ) (a b : Option (List ℕ)) (xs : List X) (r : Result (Unit {0}) RunError)
+    → Wrote f a b xs r → OnOk r (Appends a b (flat_map f xs))
+wrote_all f a b xs (Ok tt) w = w
+wrote_all f a b xs (Err e) w = tt
+
+pub wrote_first : {X : Type 0} (f : X → List ℕ) (a b : Option (List ℕ)) (xs : List X) (r : Result (Unit {0}) RunError)
+    → Wrote f a b xs r → IsErrOf r OutOfMemory → WroteFirst f a b xs
+wrote_first f a b xs r w h = subst (Wrote f a b xs) h w
+
+pub wrote_front : {X : Type 0} (f : X → List ℕ) (a b : Option (List ℕ)) (xs : List X) (r : Result (Unit {0}) RunError)
+    → Wrote f a b xs r → IsErrOf r Write → WroteFront a b (flat_map f xs)
+wrote_front f a b xs r w h = subst (Wrote f a b xs) h w
+
+-- a write that failed leaves a beginning
+pub wrote_failed : {X : Type 0} (f : X → List ℕ) (a b : Option (List ℕ)) (xs : List X) (r : Result (Unit {0}) RunError)
+    → IsErrAnd r (λ e. e ≡ Write) → WroteFront a b (flat_map f xs) → Wrote f a b xs r
+wrote_failed f a b xs (Ok tt) h w = absurd h
+wrote_failed f a b xs (Err e) h w = subst (λ e. Wrote f a b xs (Err e)) (sym h) w
+
+-- a run that stopped over some things has stopped over all
+pub wrote_stopped : {X : Type 0} (f : X → List ℕ) (a b : Option (List ℕ)) (xs ys : List X) (e : RunError) (r : Result (Unit {0}) RunError)
+    → IsErrAnd r (λ x. x ≡ e) → Wrote f a b xs (Err e) → Wrote f a b (xs ++ ys) r
+wrote_stopped f a b xs ys e (Ok tt) h w = absurd h
+wrote_stopped f a b xs ys e (Err x) h w = subst (λ x. Wrote f a b (xs ++ ys) (Err x)) (sym h) (wrote_less f a b xs ys e w)

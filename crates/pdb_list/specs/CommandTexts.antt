@@ -1,5 +1,5 @@
 -- The texts of lists of commands.
-use Rattle.std.specs.Prelude.{ℕ, List, [], flat_map}
+use Rattle.std.specs.Prelude.{ℕ, List, [], flat_map, Option, Some, None}
 use Rattle.pdb.specs.Error.{Error}
 use Rattle.pdb.specs.ModuleStream.{ModuleBytes}
 use Rattle.pdb.specs.Error.TheVariants.{OutOfMemory}
@@ -34,6 +34,16 @@ command_text file (Files k) = module_text file k (of_module_text (Files k))
 command_text file (Inlinees k) = module_text file k (of_module_text (Inlinees k))
 command_text file (Imports k i) = module_text file k (of_module_text (Imports k i))
 command_text file (Exports k) = module_text file k (of_module_text (Exports k))
+
+-- the place in the list of modules of the one that a command names
+abbrev pub place_of : Command → Option ℕ
+place_of (Symbols k) = Some k
+place_of (Lines k) = Some k
+place_of (Files k) = Some k
+place_of (Inlinees k) = Some k
+place_of (Imports k i) = Some k
+place_of (Exports k) = Some k
+place_of command = None
 
 -- the texts of commands, joined
 abbrev pub texts : List ℕ → List Command → List ℕ

@@ -1,41 +1,85 @@
-//! The module that a command names by its place in the list of modules.
+//! The modules that commands name by their places in the list of modules.
 
-ghost use Rattle.std.specs.Prelude.{◌≡◌, ◌≢◌, ◌+◌, ◌<◌, ◌≤◌, length, true, IfOk, IfErr};
-ghost use Rattle.pdb.specs.Refusal.{Answers, Gives};
+ghost use Rattle.std.specs.Prelude.{◌≡◌, ◌≢◌, IfOk, IfErr};
+ghost use Rattle.std.specs.Option.{ForSome};
+ghost use Rattle.pdb.specs.Error.TheVariants.{IoError, OutOfMemory};
+ghost use Rattle.pdb.specs.Refusal.{Gives};
 ghost use Rattle.pdb.specs.Source.{Continues, MayFail};
 ghost use Rattle.pdb.specs.DbiViews.{modules_left};
-ghost use Rattle.pdb.specs.Modules.{modules_in};
-ghost use Rattle.pdb.specs.Answers.{item_at, module_of_file};
-ghost use Rattle.pdb_list.specs.Chosen.{module_in};
+ghost use Rattle.pdb.specs.Left.{ended};
+ghost use Rattle.pdb.specs.Answers.{module_of_file};
 
-use pdb::{
-    DebugInformation, FallibleIterator, Module, ModuleInfo, ModuleIter, PDB, Result, Source,
-};
+use pdb::{Error, FallibleIterator, Module, ModuleInfo, ModuleIter, PDB, Result, Source};
+use std::alloc::{AllocError, Global};
 
-/// The module with this place among those that are left.
-fn nth<'m>(mut modules: ModuleIter<'m>, k: u32) -> Result<Option<Module<'m>>>
-    ensures { Answers (λ m. m) result (item_at k (modules_left modules.entry)) }
-{
-    for _ in 0..k {
-        if modules.next()?.is_none() {
-            return Ok(None);
+/// The list of modules, each of which is read once.
+#[derive(Drop)]
+pub struct ModuleList<'m> {
+    read: Vec<Module<'m>>,
+    left: ModuleIter<'m>,
+    fault: Option<Error>,
+    ghost of_bytes: { ForSome fault (λ e. (e ≢ OutOfMemory) × (e ≢ IoError) × (modules_left left ≡ ended)) },
+}
+
+impl<'m> ModuleList<'m> {
+    ghost use Rattle.pdb_list.specs.Chosen.{listed, info_at, HasRead};
+
+    /// The modules that an iterator has left.
+    pub fn new(alloc: Global, left: ModuleIter<'m>) -> Self
+        ensures { listed result ≡ modules_left left.entry }
+    {
+        ModuleList {
+            read: Vec::new(alloc),
+            left,
+            fault: None,
         }
     }
-    modules.next()
+
+    /// Reads on up to the module with this place, or to the end of the list.
+    fn read_to(&mut self, k: usize) -> std::result::Result<(), AllocError>
+        ensures kept { IfOk result (λ _. listed self.new ≡ listed self.old) }
+        ensures there { IfOk result (λ _. HasRead k self.new) }
+    {
+        while self.read.len() <= k {
+            match self.left.next() {
+                Ok(Some(module)) => self.read.push(module)?,
+                Ok(None) => return Ok(()),
+                Err(e) => {
+                    self.fault = Some(e);
+                    return Ok(());
+                }
+            }
+        }
+        Ok(())
+    }
+
+    /// The stream of the module with this place in the list; none where there is no such module, or it has no stream.
+    #[tactic(auto, using(crate::proofs::ModuleLists::lookup_read, crate::proofs::ModuleLists::lookup_past), unfolding(crate::specs::Chosen::info_at))]
+    pub fn module_info<'s, S: Source<'s>>(
+        &mut self,
+        pdb: &mut PDB<'s, S>,
+        k: u32,
+    ) -> Result<Option<ModuleInfo<'s>>>
+        ensures continues { Continues pdb.old pdb.new }
+        ensures kept { IfOk result (λ _. listed self.new ≡ listed self.old) }
+        ensures kept_refused { IfErr result (λ e. e ≢ OutOfMemory → listed self.new ≡ listed self.old) }
+        ensures answer { Gives (λ m. m) (MayFail pdb.old pdb.new) result (info_at pdb.old.file k (listed self.old)) }
+    {
+        self.read_to(k as usize)?;
+        match self.read.get(k as usize) {
+            Some(module) => pdb.module_info(module),
+            None => match self.fault {
+                Some(e) => Err(e),
+                None => Ok(None),
+            },
+        }
+    }
 }
 
-/// The module with this place in the list of modules.
-#[tactic(auto, unfolding(crate::specs::Chosen::module_in))]
-fn module_at<'m>(information: &'m DebugInformation<'_>, k: u32) -> Result<Option<Module<'m>>>
-    ensures { Answers (λ m. m) result (module_in information.entry.now k) }
-{
-    nth(information.modules()?, k)
-}
-
-/// The stream of the module with this place in the list of modules; none where there is no such module, or it has no
-/// stream.
-#[tactic(auto, unfolding(crate::specs::Chosen::module_in, pdb::specs::Answers::module_listed, pdb::specs::Answers::module_of_file))]
+/// The stream of the module with this place in the list of modules of a file.
+#[tactic(auto, unfolding(crate::specs::Chosen::info_at, pdb::specs::Answers::module_listed, pdb::specs::Answers::module_of_file))]
 pub fn chosen_module<'s, S: Source<'s>>(
+    alloc: Global,
     pdb: &mut PDB<'s, S>,
     k: u32,
 ) -> Result<Option<ModuleInfo<'s>>>
@@ -43,8 +87,6 @@ pub fn chosen_module<'s, S: Source<'s>>(
     ensures answer { Gives (λ m. m) (MayFail pdb.old pdb.new) result (module_of_file pdb.old.file k) }
 {
     let information = pdb.debug_information()?;
-    match module_at(&information, k)? {
-        Some(module) => pdb.module_info(&module),
-        None => Ok(None),
-    }
+    let modules = information.modules()?;
+    ModuleList::new(alloc, modules).module_info(pdb, k)
 }

@@ -3,6 +3,8 @@
 ghost use Rattle.std.specs.Prelude.{◌≡◌, ◌+◌, ◌<◌, ◌≤◌, length, map, string_bytes, IfOk};
 ghost use Rattle.std.specs.Char.{is_ascii_digit};
 ghost use Rattle.std.specs.List.{list_all};
+ghost use Rattle.std.specs.Option.{is_some};
+ghost use Rattle.pdb_list.specs.CommandTexts.{place_of};
 ghost use Rattle.pdb_list.specs.Words.{Tells, plain_command, takes_module, module_command, is_short_numeral, number_in, number_at, longer_at, command_at, spelled, asks_for_sample};
 
 use std::alloc::{AllocError, AllocFailed, Global};
@@ -34,6 +36,35 @@ pub enum Command {
     Imports(u32, u32),
     /// What a module exports to others: `exports K`.
     Exports(u32),
+}
+
+impl Command {
+    ghost use Rattle.std.specs.Prelude.{IfSome, List, ℕ};
+    ghost use Rattle.pdb_list.specs.CommandTexts.{command_text, of_module_text, place_of};
+    ghost use Rattle.pdb_list.specs.ModuleTexts.{module_text};
+
+    /// The place in the list of modules of the one that the command names, where it names one.
+    pub fn module_place(self) -> Option<u32>
+        ensures place { result ≡ place_of self }
+        ensures text { IfSome result (λ k. (file : List ℕ) → command_text file self ≡ module_text file k (of_module_text self)) }
+    {
+        match self {
+            Command::Symbols(k)
+            | Command::Lines(k)
+            | Command::Files(k)
+            | Command::Inlinees(k)
+            | Command::Imports(k, _)
+            | Command::Exports(k) => Some(k),
+            _ => None,
+        }
+    }
+}
+
+/// Whether a command names a module.
+pub fn names_module(command: &Command) -> bool
+    ensures { result ≡ is_some (place_of command.now) }
+{
+    command.module_place().is_some()
 }
 
 /// Why words spell no commands.

@@ -1,17 +1,19 @@
 //! Texts written to a writer.
 
-ghost use Rattle.std.specs.Prelude.{◌≡◌, ◌≢◌, ◌++◌, true, OnOk, OnErr, IfOk, IsErrOf, Ok, Err};
+ghost use Rattle.std.specs.Prelude.{◌≡◌, ◌≢◌, ◌≤◌, ◌++◌, ◌∷◌, true, length, OnOk, OnErr, IfOk, IfErr, IsErrOf, Ok, Err};
 ghost use Rattle.std.specs.Io.KnownBytes.{Appends, Keeps};
 ghost use Rattle.pdb.specs.Error.{Error};
 ghost use Rattle.pdb.specs.Error.TheVariants.{OutOfMemory};
 ghost use Rattle.pdb.specs.Source.{State, Continues};
 ghost use Rattle.pdb.specs.Container.{opens};
-ghost use Rattle.pdb_list.specs.Written.{WroteFirst, WroteFront};
+ghost use Rattle.pdb_list.specs.Chosen.{IsListOf, KeptOf, listed};
+ghost use Rattle.pdb_list.specs.Written.{Wrote, WroteFirst, WroteFront};
 ghost use Rattle.pdb_list.specs.CommandTexts.{command_text, of_module_text, run_error_of, texts};
-ghost use Rattle.pdb_list.specs.ModuleTexts.{module_text};
+ghost use Rattle.pdb_list.specs.ModuleTexts.{module_text, text_of_module};
+ghost use Rattle.pdb_list.specs.Texts.{error_text};
 
-use crate::chosen::chosen_module;
-use crate::command::Command;
+use crate::chosen::{ModuleList, chosen_module};
+use crate::command::{Command, names_module};
 use crate::contributions::put_contributions;
 use crate::cross_module::{put_exports, put_import};
 use crate::files::put_files;
@@ -107,6 +109,23 @@ fn put_of_module(
     }
 }
 
+/// The text of a command over what was found of a module.
+fn put_found(
+    alloc: Global,
+    out: &mut Vec<u8>,
+    found: pdb::Result<Option<ModuleInfo<'_>>>,
+    command: Command,
+) -> Result<(), AllocError>
+    ensures found { IfOk found.entry (λ m. OnOk result (out.new.items ≡ out.old.items ++ text_of_module (of_module_text command) m)) }
+    ensures refused { IfErr found.entry (λ e. OnOk result ((e ≢ OutOfMemory) × (out.new.items ≡ out.old.items ++ error_text e))) }
+{
+    match found {
+        Ok(Some(info)) => put_of_module(alloc, out, &info, command),
+        Ok(None) => put_none(out),
+        Err(e) => put_refusal(out, e),
+    }
+}
+
 /// The text of a command over the module with this place in the list of modules.
 fn put_of_chosen<'s, S: Source<'s>>(
     alloc: Global,
@@ -118,11 +137,26 @@ fn put_of_chosen<'s, S: Source<'s>>(
     ensures continues { Continues pdb.old pdb.new }
     ensures text { pdb.old.steady ≡ true → OnOk result (out.new.items ≡ out.old.items ++ module_text pdb.old.file k (of_module_text command)) }
 {
-    match chosen_module(pdb, k) {
-        Ok(Some(info)) => put_of_module(alloc, out, &info, command),
-        Ok(None) => put_none(out),
-        Err(e) => put_refusal(out, e),
-    }
+    let found = chosen_module(alloc, pdb, k);
+    put_found(alloc, out, found, command)
+}
+
+/// The same by a list of modules that is kept.
+#[tactic(auto, using(crate::proofs::ModuleLists::info_of_list))]
+fn put_of_kept<'s, S: Source<'s>>(
+    alloc: Global,
+    out: &mut Vec<u8>,
+    pdb: &mut PDB<'s, S>,
+    modules: &mut ModuleList<'_>,
+    k: u32,
+    command: Command,
+) -> Result<(), AllocError>
+    ensures continues { Continues pdb.old pdb.new }
+    ensures kept { OnOk result (listed modules.new ≡ listed modules.old) }
+    ensures text { pdb.old.steady ≡ true → IsListOf pdb.old.file modules.old → OnOk result (out.new.items ≡ out.old.items ++ module_text pdb.old.file k (of_module_text command)) }
+{
+    let found = modules.module_info(pdb, k);
+    put_found(alloc, out, found, command)
 }
 
 /// The text of a command over an opened file.
@@ -151,6 +185,101 @@ fn put_text<'s, S: Source<'s>>(
     }
 }
 
+/// The text of a command over an opened file, by the list of modules where one is kept.
+fn put_next<'s, S: Source<'s>>(
+    alloc: Global,
+    out: &mut Vec<u8>,
+    pdb: &mut PDB<'s, S>,
+    kept: &mut Option<ModuleList<'_>>,
+    command: Command,
+) -> Result<(), AllocError>
+    ensures continues { Continues pdb.old pdb.new }
+    ensures kept { KeptOf pdb.old.file kept.old → OnOk result (KeptOf pdb.old.file kept.new) }
+    ensures text { pdb.old.steady ≡ true → KeptOf pdb.old.file kept.old → OnOk result (out.new.items ≡ out.old.items ++ command_text pdb.old.file command) }
+{
+    match (kept, command.module_place()) {
+        (Some(modules), Some(k)) => put_of_kept(alloc, out, pdb, modules, k, command),
+        _ => put_text(alloc, out, pdb, command),
+    }
+}
+
+/// Writes the commands' texts, one after the other. Each text is composed and then written.
+fn write_texts<'s, S: Source<'s>, W: Write>(
+    alloc: Global,
+    pdb: &mut PDB<'s, S>,
+    kept: &mut Option<ModuleList<'_>>,
+    commands: &[Command],
+    out: &mut W,
+) -> Result<(), RunError>
+    ensures continues { Continues pdb.old pdb.new }
+    ensures opened { (e : Error) → IsErrOf result (RunError.Open e) → ⊥ }
+    ensures wrote { pdb.old.steady ≡ true → KeptOf pdb.old.file kept.old → Wrote (command_text pdb.old.file) (W.contents out.old) (W.contents out.new) commands.now result }
+{
+    let mut text = Vec::new(alloc);
+    for command in commands {
+        text.clear();
+        put_next(alloc, &mut text, pdb, kept, *command)?;
+        write_out(out, &text)?;
+    }
+    Ok(())
+}
+
+/// Writes the line of a refusal in place of a command's text, and the texts of the commands behind it.
+fn write_refused<'s, S: Source<'s>, W: Write>(
+    alloc: Global,
+    pdb: &mut PDB<'s, S>,
+    refusal: Error,
+    commands: &[Command],
+    out: &mut W,
+) -> Result<(), RunError>
+    ensures opened { (e : Error) → IsErrOf result (RunError.Open e) → ⊥ }
+    ensures wrote { pdb.old.steady ≡ true → (first : Command) → (refusal ≢ OutOfMemory → command_text pdb.old.file first ≡ error_text refusal) → Wrote (command_text pdb.old.file) (W.contents out.old) (W.contents out.new) (first ∷ commands.now) result }
+{
+    let mut line = Vec::new(alloc);
+    put_refusal(&mut line, refusal)?;
+    write_out(out, &line)?;
+    write_texts(alloc, pdb, &mut None, commands, out)
+}
+
+/// Writes the commands' texts. Where the first names a module, the list of modules is kept for all of them.
+fn write_rest<'s, S: Source<'s>, W: Write>(
+    alloc: Global,
+    pdb: &mut PDB<'s, S>,
+    commands: &[Command],
+    out: &mut W,
+) -> Result<(), RunError>
+    ensures opened { (e : Error) → IsErrOf result (RunError.Open e) → ⊥ }
+    ensures wrote { pdb.old.steady ≡ true → Wrote (command_text pdb.old.file) (W.contents out.old) (W.contents out.new) commands.now result }
+{
+    let Some((first, others)) = commands.split_first() else {
+        return Ok(());
+    };
+    let Some(_) = first.module_place() else {
+        return write_texts(alloc, pdb, &mut None, commands, out);
+    };
+    let information = match pdb.debug_information() {
+        Ok(information) => information,
+        Err(e) => return write_refused(alloc, pdb, e, others, out),
+    };
+    match information.modules() {
+        Ok(modules) => {
+            let mut kept = Some(ModuleList::new(alloc, modules));
+            write_texts(alloc, pdb, &mut kept, commands, out)
+        }
+        Err(e) => write_refused(alloc, pdb, e, others, out),
+    }
+}
+
+/// How many commands stand before the first that names a module.
+fn plain_count(commands: &[Command]) -> usize
+    ensures { result ≤ length commands.now }
+{
+    commands
+        .iter()
+        .position(names_module)
+        .unwrap_or(commands.len())
+}
+
 /// Opens the file of a source, and writes the commands' texts over it, one after the other. Each text is composed and
 /// then written. A command that is refused has its items before the fault and then the line `error N`, and the next
 /// command follows. The promises on the texts are made for a source that is steady.
@@ -177,13 +306,9 @@ pub fn run<'s, S: Source<'s>, W: Write>(
         Ok(pdb) => pdb,
         Err(e) => return Err(open_error(e)),
     };
-    let mut text = Vec::new(alloc);
-    for command in commands {
-        text.clear();
-        put_text(alloc, &mut text, &mut pdb, *command)?;
-        write_out(out, &text)?;
-    }
-    Ok(())
+    let (plain, rest) = commands.split_at(plain_count(commands));
+    write_texts(alloc, &mut pdb, &mut None, plain, out)?;
+    write_rest(alloc, &mut pdb, rest, out)
 }
 
 #[cfg(test)]

@@ -37,8 +37,8 @@ fn note<'a>(known: &mut Known<'a>, inlinee: Inlinee<'a>) -> Result<(), AllocErro
     ensures { OnOk result ((xs : List InlineeEntry) → listed_in known.old ≡ inlinee_with xs → listed_in known.new ≡ inlinee_with (xs ++ inlinee.entry ∷ [])) }
 {
     let id = inlinee.index().0;
-    if !known.contains_key(&id) {
-        known.insert(id, inlinee)?;
+    if let Some(first) = known.insert(id, inlinee)? {
+        known.insert(id, first)?;
     }
     Ok(())
 }

@@ -57,7 +57,7 @@ fn read_up_to<R: Read>(alloc: Global, most: usize, input: &mut R) -> Result<Vec<
 /// where a growth was refused.
 pub fn read_all<R: Read>(alloc: Global, input: &mut R) -> Result<Vec<u8>, Fault>
     ensures all { IfOk result (λ v. Consumes (R.remaining input.old) (R.remaining input.new) v.items × IsAtEnd (R.remaining input.new)) }
-    ensures most { IfOk result (λ v. vec_len v ≤ MOST_BYTES) }
+    ensures most { IfOk result (λ v. vec_len v ≤ 1099511627776) }
     ensures refused { IfErr result (λ e. (e ≡ Fault.Read) ⊎ (e ≡ Fault.Memory)) }
 {
     read_up_to(alloc, MOST_BYTES, input)
@@ -73,8 +73,8 @@ mod tests {
         let alloc = rt.alloc();
         let read = read_all(alloc, &mut ThreeBytes::ending(1)).expect(&rt, "one read");
         is(&rt, "read.as_slice()", &read.as_slice(), &b"abc".as_slice());
-        let read = read_all(alloc, &mut ThreeBytes::ending(40000)).expect(&rt, "many reads");
-        is(&rt, "read.len()", &read.len(), &120000);
+        let read = read_all(alloc, &mut ThreeBytes::ending(70000)).expect(&rt, "many reads");
+        is(&rt, "read.len()", &read.len(), &210000);
         is(&rt, "read.last()", &read.last(), &Some(&b'c'));
         let read = read_all(alloc, &mut ThreeBytes::ending(0)).expect(&rt, "no byte");
         assert!(rt; read.is_empty());

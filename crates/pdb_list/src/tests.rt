@@ -1,6 +1,18 @@
 //! Runs of the program over files made by hand: texts and refusals from outside.
 
+mod asked_again;
 mod commands;
+mod container;
+mod cuts;
+mod ends;
+mod memory;
+mod module_texts;
+mod parts_asked_again;
+mod sites;
+mod sizes;
+mod tables;
+mod texts;
+mod views;
 
 use crate::command::Command;
 use crate::engine::{RunError, run};
@@ -11,11 +23,9 @@ use pdb::{Error, FallibleIterator, MemorySource, Msf, PDB, Source, StreamIndex};
 use std::alloc::Global;
 use std::process::Abort;
 use std::test::Fail;
+use texts::GLOBALS as TEXT;
 
 const GLOBALS: [Command; 1] = [Command::Globals];
-
-const TEXT: &[u8] =
-    b"symbol 00000000 110e Public main\nsymbol 00000014 1108 UserDefinedType va_list\nsymbol 00000024 1125 ProcedureReference main\nsymbol 00000038 1107 Constant ONE\nsymbol 00000048 110d Data g\nsymbol 00000058 1012 refused 12\n";
 
 /// The sample with other bytes of streams 3 and 5.
 fn sample_of<'b>(alloc: Global, dbi: &'b [u8], symbols: &'b [u8]) -> Result<Vec<u8>, Error> {
@@ -158,18 +168,8 @@ fn symbols_cut_at_each_place(rt: HostRuntime) -> Result<(), Fail> {
 }
 
 #[test]
-fn files_cut_at_each_place(rt: HostRuntime) -> Result<(), Fail> {
+fn a_file_without_its_last_filling_has_all_streams(rt: HostRuntime) -> Result<(), Fail> {
     let file = sample::file(rt.alloc())?;
-    for k in 0..5633usize {
-        let cut = file.get(..k).unwrap_or(&[]);
-        let refused = ended(rt.alloc(), cut, &GLOBALS);
-        let wanted = match k {
-            0..52 => Some(RunError::Open(Error::UnrecognizedFileFormat)),
-            52..5124 => Some(RunError::Open(Error::UnexpectedEof)),
-            _ => None,
-        };
-        is(&rt, "cut to", &refused, &wanted);
-    }
     let mut msf = Msf::open(
         rt.alloc(),
         MemorySource::new(file.get(..5124).unwrap_or(&[])),

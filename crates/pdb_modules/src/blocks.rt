@@ -7,7 +7,7 @@ ghost use Rattle.pdb_modules.specs.Blocks.{block_at, block_length, entry_width, 
 ghost use Rattle.pdb_modules.specs.BlockViews.{block_of};
 
 use crate::line::{Columns, Entry, Line};
-use crate::numbers::{u16_at, u32_at};
+use pdb_base::little_endian::{u16_at, u32_at};
 use pdb_base::{Error, FileIndex, ParseBuffer, Part, Result};
 
 /// A block: the file of its entries, how many there are, and the bytes behind its header.

@@ -6,7 +6,7 @@ ghost use Rattle.pdb_base.specs.Refusal.{Gives};
 ghost use Rattle.pdb_modules.specs.CrossModule.{export_in, exports_in, global_of, Increases};
 ghost use Rattle.pdb_modules.specs.ExportViews.{export_of, local_of, global_number_of, is_id};
 
-use crate::numbers::u32_at;
+use pdb_base::little_endian::u32_at;
 use pdb_base::{
     Error, FallibleIterator, IdIndex, ItemIndex, Local, Part, Result, Steps, TypeIndex,
 };

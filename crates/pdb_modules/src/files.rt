@@ -6,7 +6,7 @@ ghost use Rattle.pdb_base.specs.Refusal.{Answers};
 ghost use Rattle.pdb_modules.specs.Files.{checksum_of, entry_at, entry_length, file_of, file_at, files_of};
 ghost use Rattle.pdb_modules.specs.FileViews.{bytes_of_entry, shown_checksum, shown_file};
 
-use crate::numbers::{u8_at, u32_at};
+use pdb_base::little_endian::{u8_at, u32_at};
 use pdb_base::{Error, FallibleIterator, ParseBuffer, Result, Steps, StringRef};
 use std::alloc::AllocError;
 

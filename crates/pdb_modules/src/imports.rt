@@ -6,7 +6,7 @@ ghost use Rattle.pdb_base.specs.Refusal.{Answers, Gives};
 ghost use Rattle.pdb_modules.specs.CrossModule.{imported_at, imported_length, imports_in, reference_of};
 ghost use Rattle.pdb_modules.specs.ImportViews.{module_of};
 
-use crate::numbers::u32_at;
+use pdb_base::little_endian::u32_at;
 use pdb_base::{Error, ItemIndex, Local, ParseBuffer, Result, StringRef};
 use std::alloc::Global;
 use std::fmt;

@@ -6,7 +6,7 @@ ghost use Rattle.pdb_base.specs.Refusal.{Answers};
 ghost use Rattle.pdb_modules.specs.Inlinees.{extra_files_at, extra_length, inlinee_at, inlinee_length, inlinees_in};
 
 use crate::inlined_lines::InlineeLineIterator;
-use crate::numbers::u32_at;
+use pdb_base::little_endian::u32_at;
 use pdb_base::{
     Error, FallibleIterator, FileIndex, IdIndex, ParseBuffer, PdbInternalSectionOffset, Result,
     Steps,

@@ -15,7 +15,6 @@ mod line_program;
 mod line_subsection;
 mod lines;
 mod module_info;
-mod numbers;
 mod parts;
 mod pending;
 mod rows;

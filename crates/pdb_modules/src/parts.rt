@@ -12,9 +12,9 @@ ghost use Rattle.pdb_modules.specs.SubsectionViews.{bytes_of_piece};
 ghost use Rattle.pdb_modules.specs.PartViews.{program_of_parts};
 
 use crate::line_subsection::LineSubsection;
-use crate::numbers::{u16_at, u32_at};
 use crate::sort::sort;
 use crate::subsections::{FILE_CHECKSUMS, LINES, Piece, read_piece};
+use pdb_base::little_endian::{u16_at, u32_at};
 use pdb_base::{Error, ParseBuffer, PdbInternalSectionOffset, Result};
 use std::alloc::Global;
 

@@ -38,7 +38,7 @@ pub(crate) fn parse_record(alloc: Global, bytes: &[u8]) -> Result<SymbolData<'_>
 }
 
 // What a record of a kind says, its fields at the buffer's place.
-#[inline]
+#[inline(never)]
 #[tactic(auto, using(crate::proofs::Memory::answers_parses, crate::proofs::FormTable::scope_end_read, crate::proofs::FormTable::inline_site_end_read, crate::proofs::FormTable::procedure_end_read))]
 fn parse_fields<'t>(
     alloc: Global,

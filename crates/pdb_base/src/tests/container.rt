@@ -3,9 +3,8 @@
 use super::is;
 use crate::*;
 use std::alloc::Global;
-use std::cell::Cell;
 
-fn put(bytes: &mut Vec<u8>, at: usize, number: u32) {
+pub fn put(bytes: &mut Vec<u8>, at: usize, number: u32) {
     for (i, byte) in number.to_le_bytes().iter().enumerate() {
         if at < bytes.len() && i < bytes.len() - at {
             bytes[at + i] = *byte;
@@ -17,7 +16,7 @@ const MAGIC: &[u8; 32] = b"Microsoft C/C++ MSF 7.00\r\n\x1aDS\0\0\0";
 
 /// Six pages: 1 has the directory's list, 4 the directory, 2, 3 and 5 the streams. Stream 0 has a page and 44 bytes
 /// in pages 2 and 3, stream 1 is absent, stream 2 has 4 bytes in page 5, stream 3 is empty.
-fn file(alloc: Global, page_size: u32) -> Result<Vec<u8>> {
+pub fn file(alloc: Global, page_size: u32) -> Result<Vec<u8>> {
     let page = page_size as usize % 65536;
     let mut bytes = Vec::new(alloc);
     for number in 0..6u8 {
@@ -316,69 +315,5 @@ fn other_formats_are_named(rt: HostRuntime) -> Result<()> {
         &open(rt.alloc(), &bytes).err(),
         &Some(Error::UnrecognizedFileFormat),
     );
-    Ok(())
-}
-
-/// A file in memory that tells how many slices the last view had, and how many views there were.
-#[derive(Drop)]
-struct Watched<'s> {
-    source: MemorySource<'s>,
-    slices: &'s Cell<usize>,
-    views: &'s Cell<u32>,
-}
-
-impl<'s> Meaning for Watched<'s> {
-    ghost use Rattle.std.specs.Prelude.{true};
-
-    ghost state = { λ s. record { file = s.source; failures = 0; steady = true } };
-}
-
-impl<'s> Source<'s> for Watched<'s> {
-    fn view(&mut self, alloc: Global, slices: &[SourceSlice]) -> Result<View<'s>> {
-        self.slices.set(slices.len());
-        self.views.set(self.views.get().saturating_add(1));
-        self.source.view(alloc, slices)
-    }
-
-    fn failures(&self) -> u64 {
-        0
-    }
-
-    fn steady(&self) -> bool {
-        true
-    }
-}
-
-#[test]
-fn a_run_of_pages_is_one_slice(rt: HostRuntime) -> Result<()> {
-    for (first, second, slices) in [(2, 3, 1), (3, 2, 2), (2, 2, 2), (2, 5, 2), (4, 5, 1)] {
-        let mut bytes = file(rt.alloc(), 256)?;
-        put(&mut bytes, 1024 + 20, first);
-        put(&mut bytes, 1024 + 24, second);
-        let (seen, views) = (Cell::new(0), Cell::new(0));
-        let source = Watched {
-            source: MemorySource::new(&bytes),
-            slices: &seen,
-            views: &views,
-        };
-        let mut msf = Msf::open(rt.alloc(), source)?;
-        is(&rt, "views.get()", &views.get(), &4);
-        let stream = msf.get(0, None)?;
-        is(&rt, "pages and", &seen.get(), &slices);
-        is(
-            &rt,
-            "stream.as_slice().last().copied()",
-            &stream.as_slice().last().copied(),
-            &Some(second as u8),
-        );
-        is(&rt, "views.get()", &views.get(), &5);
-        is(
-            &rt,
-            "msf.get(3, None)?.as_slice().len()",
-            &msf.get(3, None)?.as_slice().len(),
-            &0,
-        );
-        is(&rt, "an empty stream asks for no view", &views.get(), &5);
-    }
     Ok(())
 }

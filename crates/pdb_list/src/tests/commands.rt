@@ -1,5 +1,9 @@
 //! The information, the names, the modules and the contributions.
 
+use super::texts::{
+    CONTRIBUTIONS as CONTRIBUTIONS_TEXT, INFORMATION as INFORMATION_TEXT, MODULES as MODULES_TEXT,
+    NAMES as NAMES_TEXT, changed, joined, with_stream,
+};
 use super::{TEXT, lists};
 use crate::command::Command;
 use crate::fakes::is;
@@ -8,61 +12,14 @@ use pdb::{Error, MemorySource, PDB};
 use std::alloc::Global;
 use std::test::Fail;
 
-const INFORMATION_TEXT: &[u8] = b"info 20000404 1 2 00112233445566778899aabbccddeeff\n";
-
 const HEADER_TEXT: &[u8] = b"dbi 2 Amd64\n";
 
-const NAMES_TEXT: &[u8] = b"name 7 /names\n";
-
-const MODULES_TEXT: &[u8] = b"module 0 6 84 0 176 a.obj\nobject a.obj\n";
-
-const CONTRIBUTIONS_TEXT: &[u8] = b"contribution 0001:00000100 48 60500020 0 00000000 00000000\n";
-
-/// The sample with other bytes of streams 1 and 3.
-fn with_streams<'b>(alloc: Global, information: &'b [u8], dbi: &'b [u8]) -> Result<Vec<u8>, Error> {
-    sample::file_of(
-        alloc,
-        &[
-            Some(&[]),
-            Some(information),
-            None,
-            Some(dbi),
-            None,
-            Some(&streams::SYMBOLS),
-            Some(&streams::MODULE),
-            Some(&streams::STRINGS),
-            Some(&streams::SECTIONS),
-        ],
-    )
-}
-
 fn with_information(alloc: Global, information: &[u8]) -> Result<Vec<u8>, Error> {
-    with_streams(alloc, information, &streams::DBI)
+    with_stream(alloc, 1, information)
 }
 
 fn with_dbi(alloc: Global, dbi: &[u8]) -> Result<Vec<u8>, Error> {
-    with_streams(alloc, &streams::INFORMATION, dbi)
-}
-
-/// Some texts, one after the other.
-fn joined(alloc: Global, texts: &[&[u8]]) -> Result<Vec<u8>, Fail> {
-    let mut all = Vec::new(alloc);
-    for text in texts {
-        all.extend_from_slice(text)?;
-    }
-    Ok(all)
-}
-
-/// Bytes with other ones at a place.
-fn changed(alloc: Global, bytes: &[u8], at: usize, part: &[u8]) -> Result<Vec<u8>, Fail> {
-    let mut all = Vec::new(alloc);
-    all.extend_from_slice(bytes)?;
-    for (i, byte) in part.iter().enumerate() {
-        if at < all.len() && i < all.len() - at {
-            all[at + i] = *byte;
-        }
-    }
-    Ok(all)
+    with_stream(alloc, 3, dbi)
 }
 
 #[test]
@@ -189,66 +146,6 @@ fn the_first_name_is_taken(rt: HostRuntime) -> Result<(), Fail> {
         &pdb.named_stream(b"").err(),
         &Some(Error::StreamNameNotFound),
     );
-    Ok(())
-}
-
-#[test]
-fn a_part_past_the_end_is_refused(rt: HostRuntime) -> Result<(), Fail> {
-    for (at, modules, contributions) in [
-        (24usize, false, false),
-        (28, true, false),
-        (32, true, true),
-        (36, true, true),
-        (40, true, true),
-        (52, true, true),
-    ] {
-        let dbi = changed(rt.alloc(), &streams::DBI, at, b"\xff\xff\xff\xff")?;
-        let file = with_dbi(rt.alloc(), &dbi)?;
-        let first: &[u8] = if modules { MODULES_TEXT } else { b"error 1\n" };
-        let second: &[u8] = if contributions {
-            CONTRIBUTIONS_TEXT
-        } else {
-            b"error 1\n"
-        };
-        let text = joined(rt.alloc(), &[first, second])?;
-        let commands = [Command::Modules, Command::Contributions];
-        lists(&rt, rt.alloc(), &file, &commands, &text);
-    }
-    let information = changed(rt.alloc(), &streams::INFORMATION, 28, b"\xff\xff\xff\xff")?;
-    let file = with_information(rt.alloc(), &information)?;
-    lists(&rt, rt.alloc(), &file, &[Command::Names], b"error 1\n");
-    Ok(())
-}
-
-#[test]
-fn an_information_stream_cut_at_each_place(rt: HostRuntime) -> Result<(), Fail> {
-    for k in 0..68usize {
-        let file = with_information(rt.alloc(), &streams::INFORMATION[..k])?;
-        let error: &[u8] = b"error 1\n";
-        let text = match k {
-            0..32 => joined(rt.alloc(), &[error, error])?,
-            32..67 => joined(rt.alloc(), &[INFORMATION_TEXT, HEADER_TEXT, error])?,
-            _ => joined(rt.alloc(), &[INFORMATION_TEXT, HEADER_TEXT, NAMES_TEXT])?,
-        };
-        let commands = [Command::Info, Command::Names];
-        lists(&rt, rt.alloc(), &file, &commands, &text);
-    }
-    Ok(())
-}
-
-#[test]
-fn a_dbi_stream_cut_at_each_place(rt: HostRuntime) -> Result<(), Fail> {
-    for k in 0..185usize {
-        let file = with_dbi(rt.alloc(), &streams::DBI[..k])?;
-        let error: &[u8] = b"error 1\n";
-        let header = if k < 64 { error } else { HEADER_TEXT };
-        let modules = if k < 140 { error } else { MODULES_TEXT };
-        let contributions = if k < 172 { error } else { CONTRIBUTIONS_TEXT };
-        let texts = [INFORMATION_TEXT, header, modules, contributions];
-        let text = joined(rt.alloc(), &texts)?;
-        let commands = [Command::Info, Command::Modules, Command::Contributions];
-        lists(&rt, rt.alloc(), &file, &commands, &text);
-    }
     Ok(())
 }
 

@@ -1,9 +1,8 @@
-use Rattle.std.proofs.Common.{◌≡◌, ℕ, List, Option, Some, None, Result, Ok, Err, refl, sym, ap, ◌∙◌}
+use Rattle.std.proofs.Common.{◌≡◌, ℕ, List, Option, Some, None, Result, Ok, Err, refl, ap, ◌∙◌}
 use Rattle.pdb_base.specs.declared.error.Error.{Error}
 use Rattle.pdb_base.specs.Refusal.{◌>>=◌}
 use Rattle.pdb_base.specs.Container.{stream_of}
 use Rattle.pdb_dbi.specs.Modules.{ModuleEntry}
-use Rattle.pdb_modules.specs.ModuleStream.{ModuleBytes}
 use Rattle.pdb.specs.Answers.{debug_information_in, module_listed, module_of_file, module_info_in, info_listed, raw_stream_in}
 use Rattle.pdb.proofs.laws.modules_stand_on_their_own_stream.Goals as goal
 

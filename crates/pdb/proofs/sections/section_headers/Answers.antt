@@ -1,4 +1,4 @@
-use Rattle.std.proofs.Common.{◌≢◌, ◌<◌, ◌∙◌, ap, sym, Ok, length, arith, refl, append-nil}
+use Rattle.std.proofs.Common.{◌≢◌, ◌<◌, ◌∙◌, ap, Ok, length, arith, refl, append-nil}
 use Rattle.std.proofs.lemmas.Result.{err_from_is_err_and}
 use Rattle.pdb_base.specs.SectionHeader.{headers_of}
 use Rattle.pdb_base.proofs.Passing.{refused_fails}

@@ -1,4 +1,3 @@
-use Rattle.std.proofs.Common.{◌∙◌, ap}
 use Rattle.pdb_list.specs.Texts.{contributed_text}
 use Rattle.pdb_list.proofs.LinePieces.{contributed}
 use Rattle.pdb_list.proofs.contributions.put_contributed.Goals as goal

@@ -1,4 +1,4 @@
-use Rattle.std.proofs.Common.{◌++◌, ◌+◌, ◌/◌, ◌%◌, List, ℕ, ap, sym, ◌∙◌, append_assoc, arith}
+use Rattle.std.proofs.Common.{◌++◌, ◌/◌, ◌%◌, List, ℕ, ap, sym, ◌∙◌, append_assoc, arith}
 use Rattle.std.specs.Fmt.{decimal}
 use Rattle.pdb_list.specs.Digits.{four_digits}
 use Rattle.pdb_list.proofs.Pairs.{decimal_more}

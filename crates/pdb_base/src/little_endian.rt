@@ -1,11 +1,12 @@
-//! Numbers at places that are known to be there.
+//! Numbers, the least byte first, at places that are known to be there.
 
 ghost use Rattle.std.specs.Prelude.{◌≡◌, ◌+◌, ◌≤◌, length};
 ghost use Rattle.pdb_base.specs.Fields.{number};
 
 /// The number of one byte at a place.
-#[tactic(auto, unfolding(pdb_base::specs::Fields::number))]
-pub(crate) fn u8_at(bytes: &[u8], at: usize) -> u8
+#[inline]
+#[tactic(auto, unfolding(crate::specs::Fields::number))]
+pub fn u8_at(bytes: &[u8], at: usize) -> u8
     requires { at + 1 ≤ length bytes.now }
     ensures { result ≡ number bytes.now at 1 }
 {
@@ -13,8 +14,9 @@ pub(crate) fn u8_at(bytes: &[u8], at: usize) -> u8
 }
 
 /// The number of two bytes at a place.
-#[tactic(auto, unfolding(pdb_base::specs::Fields::number))]
-pub(crate) fn u16_at(bytes: &[u8], at: usize) -> u16
+#[inline]
+#[tactic(auto, unfolding(crate::specs::Fields::number))]
+pub fn u16_at(bytes: &[u8], at: usize) -> u16
     requires { at + 2 ≤ length bytes.now }
     ensures { result ≡ number bytes.now at 2 }
 {
@@ -22,8 +24,9 @@ pub(crate) fn u16_at(bytes: &[u8], at: usize) -> u16
 }
 
 /// The number of four bytes at a place.
-#[tactic(auto, unfolding(pdb_base::specs::Fields::number))]
-pub(crate) fn u32_at(bytes: &[u8], at: usize) -> u32
+#[inline]
+#[tactic(auto, unfolding(crate::specs::Fields::number))]
+pub fn u32_at(bytes: &[u8], at: usize) -> u32
     requires { at + 4 ≤ length bytes.now }
     ensures { result ≡ number bytes.now at 4 }
 {
