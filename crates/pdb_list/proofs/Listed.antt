@@ -1,61 +1,117 @@
--- The first inlined function of each id, in a map.
-use Rattle.std.proofs.Common.{◌≡◌, ◌==◌, ℕ, List, [], ◌∷◌, ◌++◌, Option, Some, None, is_some, Bool, true, false, cond, refl, sym, ap, ◌∙◌, arith, eqb-true}
+-- The first inlined function of each id: a stable sort by the ids keeps it, and halving finds it.
+use Rattle.std.proofs.Common.{◌≡◌, ◌==◌, ℕ, zero, suc, ◌<◌, ◌≤◌, List, [], ◌∷◌, length, get_or, filter, find, Option, Some, None, Bool, true, false, cond, refl, sym, ap, ◌∙◌, arith}
 use Rattle.std.proofs.Math.Path.{fun_ext}
-use Rattle.std.specs.Option.{option_or}
-use Rattle.std.specs.Ordering.{nat_cmp}
-use Rattle.std.specs.BTreeMap.{BTreeMap, get, is_at, Updates}
-use Rattle.std.proofs.lemmas.List.Folds.{find-append}
+use Rattle.std.proofs.lemmas.Bool.{eq-eqb, ne_eqb, ltb-true, ltb-false}
 use Rattle.std.proofs.lemmas.Bool.Decides.{nat_tests}
+use Rattle.std.proofs.lemmas.List.Sorted.{IsPartitionedBy-ltb}
+use Rattle.std.specs.Prelude.{nat_lt}
+use Rattle.std.specs.List.Sorted.{IsNonDecreasingBy, IsPartitionPoint, IsPartitionedBy, IsStableByKey, ties}
+use Rattle.std.specs.Ordering.{is_lt, nat_cmp}
 use Rattle.pdb.specs.Inlinees.{InlineeEntry}
-use Rattle.pdb_list.specs.Known.{listed_in}
 use Rattle.pdb_list.specs.ModuleTexts.{inlinee_with}
 
--- a list with one more function
-one_more : (xs : List InlineeEntry) (x : InlineeEntry) (q : ℕ) → inlinee_with (xs ++ x ∷ []) q ≡ option_or (inlinee_with xs q) (cond (x.index == q) (Some x) None)
-one_more xs x q = find-append (λ y. y.index == q) xs (x ∷ [])
+abbrev pub id_of : InlineeEntry → ℕ
+id_of x = x.index
 
-first_stays : {A : Type 0} (a b : Option A) → is_some a ≡ true → option_or a b ≡ a
-first_stays None b e = absurd cc
-first_stays (Some x) b e = refl
+-- ---- what is found is the first of those that pass
 
-nothing_more : {A : Type 0} (a : Option A) → option_or a None ≡ a
-nothing_more None = refl
-nothing_more (Some x) = refl
+abbrev first : {X : Type 0} → List X → Option X
+first [] = None
+first (x ∷ xs) = Some x
 
--- at the id itself, and elsewhere
-at_id : (b : Bool) (xs : List InlineeEntry) (x : InlineeEntry) (q : ℕ) → (x.index == q) ≡ b → is_some (inlinee_with xs x.index) ≡ true → inlinee_with xs q ≡ option_or (inlinee_with xs q) (cond b (Some x) None)
-at_id true xs x q e h = let s : x.index ≡ q = eqb-true x.index q e in sym (first_stays (inlinee_with xs q) (Some x) (rw s at h))
-at_id false xs x q e h = sym (nothing_more (inlinee_with xs q))
+found_by : {X : Type 0} (p : X → Bool) (x : X) (xs : List X) (b : Bool) → find p xs ≡ first (filter p xs) → cond b (Some x) (find p xs) ≡ first (cond b (x ∷ filter p xs) (filter p xs))
+found_by p x xs true h = refl
+found_by p x xs false h = h
 
--- one with its id is known
-not_noted : (known : BTreeMap ℕ InlineeEntry) (x : InlineeEntry) (xs : List InlineeEntry) → listed_in known ≡ inlinee_with xs → is_some (get nat_cmp known x.index) ≡ true → listed_in known ≡ inlinee_with (xs ++ x ∷ [])
-not_noted known x xs e h = e ∙ fun_ext (λ q. at_id (x.index == q) xs x q refl (sym (ap (λ (f : ℕ → Option InlineeEntry). is_some (f x.index)) e) ∙ h) ∙ sym (one_more xs x q))
+found_first : {X : Type 0} (p : X → Bool) (xs : List X) → find p xs ≡ first (filter p xs)
+found_first p [] = refl
+found_first p (x ∷ xs) = found_by p x xs (p x) (found_first p xs)
 
--- none with its id was known, and it was put into the map
-put_at : (b : Bool) (known : Option InlineeEntry) (xs : List InlineeEntry) (x : InlineeEntry) (q : ℕ) → (x.index == q) ≡ b → known ≡ inlinee_with xs q → inlinee_with xs x.index ≡ None → cond b (Some x) known ≡ option_or (inlinee_with xs q) (cond b (Some x) None)
-put_at true known xs x q e h n = let s : x.index ≡ q = eqb-true x.index q e in let m : inlinee_with xs q ≡ None = (rw s at n) in rw m refl
-put_at false known xs x q e h n = h ∙ sym (nothing_more (inlinee_with xs q))
+find_ext : {X : Type 0} (p q : X → Bool) → ((x : X) → p x ≡ q x) → (xs : List X) → find p xs ≡ find q xs
+find_ext p q h [] = refl
+find_ext p q h (x ∷ xs) = ap (λ (b : Bool). cond b (Some x) (find p xs)) (h x) ∙ ap (λ (r : Option _). cond (q x) (Some x) r) (find_ext p q h xs)
 
-same_test : (a b : ℕ) → is_at (nat_cmp a) b ≡ (a == b)
-same_test a b = grind (arith, nat_tests)
+-- ---- a stable sort keeps the first of each id
 
-pub noted : (known new : BTreeMap ℕ InlineeEntry) (x : InlineeEntry) (xs : List InlineeEntry) → listed_in known ≡ inlinee_with xs → get nat_cmp known x.index ≡ None → Updates nat_cmp known new x.index (Some x) → listed_in new ≡ inlinee_with (xs ++ x ∷ [])
-noted known new x xs e h u = fun_ext (λ q.
-    u.0 q ∙ ap (λ b. cond b (Some x) (get nat_cmp known q)) (same_test x.index q)
-    ∙ put_at (x.index == q) (get nat_cmp known q) xs x q refl (ap (λ (f : ℕ → Option InlineeEntry). f q) e) (sym (ap (λ (f : ℕ → Option InlineeEntry). f x.index) e) ∙ h)
-    ∙ sym (one_more xs x q))
+same_id : (x y : InlineeEntry) → ties (λ a b. is_lt (nat_cmp (id_of a) (id_of b))) x y ≡ (id_of y == id_of x)
+same_id x y = grind (arith, nat_tests)
 
-back_at : {A : Type 0} (b : Bool) (known first : Option A) (x : A) → (b ≡ true → known ≡ first) → cond b first (cond b (Some x) known) ≡ known
-back_at true known first x h = sym (h refl)
-back_at false known first x h = refl
+abbrev at_id : ℕ → InlineeEntry
+at_id id = record { index = id; file_index = 0; line = 0; extra_files = [] }
 
--- one with its id was known, and was put back
-put_back : (known between new : BTreeMap ℕ InlineeEntry) (x first : InlineeEntry) (id : ℕ) → get nat_cmp known id ≡ Some first
-    → Updates nat_cmp known between id (Some x) → Updates nat_cmp between new id (Some first) → listed_in new ≡ listed_in known
-put_back known between new x first id h u v = fun_ext (λ q.
-    v.0 q ∙ ap (λ k. cond (is_at (nat_cmp id) q) (Some first) k) (u.0 q)
-    ∙ back_at (is_at (nat_cmp id) q) (get nat_cmp known q) (Some first) x (λ e. let s : id ≡ q = eqb-true id q (sym (same_test id q) ∙ e) in ap (get nat_cmp known) (sym s) ∙ h))
+pub sorted_first : (xs ys : List InlineeEntry) → IsStableByKey id_of nat_cmp xs ys → inlinee_with ys ≡ inlinee_with xs
+sorted_first xs ys stable = fun_ext (λ id.
+    let tie = ties (λ a b. is_lt (nat_cmp (id_of a) (id_of b))) (at_id id) in
+    find_ext (λ y. id_of y == id) tie (λ y. sym (same_id (at_id id) y)) ys
+    ∙ found_first tie ys ∙ ap first (stable (at_id id)) ∙ sym (found_first tie xs)
+    ∙ find_ext tie (λ y. id_of y == id) (same_id (at_id id)) xs)
 
-pub kept : (known between new : BTreeMap ℕ InlineeEntry) (x first : InlineeEntry) (xs : List InlineeEntry) → listed_in known ≡ inlinee_with xs → get nat_cmp known x.index ≡ Some first
-    → Updates nat_cmp known between x.index (Some x) → Updates nat_cmp between new x.index (Some first) → listed_in new ≡ inlinee_with (xs ++ x ∷ [])
-kept known between new x first xs e h u v = put_back known between new x first x.index h u v ∙ not_noted known x xs e (ap is_some h)
+-- ---- at the first place of an id that isn't less stands its function, if there is one
+
+none_with : (id : ℕ) (xs : List InlineeEntry) → ((k : ℕ) (d : InlineeEntry) → k < length xs → id < id_of (get_or xs k d)) → inlinee_with xs id ≡ None
+none_with id [] above = refl
+none_with id (x ∷ xs) above =
+    let a = above 0 x (omega arith) in
+    ap (λ (b : Bool). cond b (Some x) (inlinee_with xs id)) (ne_eqb (id_of x) id (λ e. absurd (omega arith)))
+    ∙ none_with id xs (λ k d l. above (suc k) d (omega arith))
+
+-- what halving found
+pub record IsAt (id : ℕ) (xs : List InlineeEntry) (at : ℕ) : Type 0 where
+  pub below : (k : ℕ) (d : InlineeEntry) → k < at → id_of (get_or xs k d) < id
+  pub from : (k : ℕ) (d : InlineeEntry) → at ≤ k → k < length xs → id ≤ id_of (get_or xs k d)
+  pub up : IsNonDecreasingBy id_of xs
+
+tail : (id : ℕ) (x : InlineeEntry) (xs : List InlineeEntry) (at : ℕ) → IsAt id (x ∷ xs) (suc at) → IsAt id xs at
+tail id x xs at h = record {
+  below = λ k d l. h.below (suc k) d (omega arith);
+  from = λ k d l m. h.from (suc k) d (omega arith) (omega arith);
+  up = λ i j d l m. h.up (suc i) (suc j) d (omega arith) (omega arith);
+}
+
+-- none, where nothing stands there
+pub none_there : (id : ℕ) (xs : List InlineeEntry) (at : ℕ) → IsAt id xs at → length xs ≤ at → inlinee_with xs id ≡ None
+none_there id [] at h l = refl
+none_there id (x ∷ xs) zero h l = absurd (omega arith)
+none_there id (x ∷ xs) (suc at) h l =
+    let b = h.below 0 x (omega arith) in
+    ap (λ (b : Bool). cond b (Some x) (inlinee_with xs id)) (ne_eqb (id_of x) id (λ e. absurd (omega arith)))
+    ∙ none_there id xs at (tail id x xs at h) (omega arith)
+
+is_above : (a b : ℕ) → a ≤ b → (a ≡ b → ⊥) → a < b
+is_above a b l n = by_test (nat_lt a b) refl
+  where
+    by_test : (t : Bool) → nat_lt a b ≡ t → a < b
+    by_test true e = ltb-true a b e
+    by_test false e = let m = ltb-false a b e in absurd (n (omega arith))
+
+pub none_other : (id : ℕ) (xs : List InlineeEntry) (at : ℕ) (y : InlineeEntry) → IsAt id xs at → at < length xs → get_or xs at y ≡ y → (id_of y ≡ id → ⊥) → inlinee_with xs id ≡ None
+none_other id [] at y h l e n = absurd (omega arith)
+none_other id (x ∷ xs) zero y h l e n =
+    let f = h.from 0 x (omega arith) (omega arith) in
+    let s : id_of x ≡ id_of y = ap id_of e in
+    let above = is_above id (id_of x) f (λ same. n (sym s ∙ sym same)) in
+    none_with id (x ∷ xs) (λ k d m. let u = h.up 0 k d (omega arith) m in omega arith)
+none_other id (x ∷ xs) (suc at) y h l e n =
+    let b = h.below 0 x (omega arith) in
+    ap (λ (b : Bool). cond b (Some x) (inlinee_with xs id)) (ne_eqb (id_of x) id (λ e. absurd (omega arith)))
+    ∙ none_other id xs at y (tail id x xs at h) (omega arith) e n
+
+pub found_there : (id : ℕ) (xs : List InlineeEntry) (at : ℕ) (y : InlineeEntry) → IsAt id xs at → at < length xs → get_or xs at y ≡ y → id_of y ≡ id → inlinee_with xs id ≡ Some y
+found_there id [] at y h l e n = absurd (omega arith)
+found_there id (x ∷ xs) zero y h l e n = rw e (ap (λ (b : Bool). cond b (Some y) (inlinee_with xs id)) (eq-eqb (id_of y) id n))
+found_there id (x ∷ xs) (suc at) y h l e n =
+    let b = h.below 0 x (omega arith) in
+    ap (λ (b : Bool). cond b (Some x) (inlinee_with xs id)) (ne_eqb (id_of x) id (λ e. absurd (omega arith)))
+    ∙ found_there id xs at y (tail id x xs at h) (omega arith) e n
+
+abbrev pub less : ℕ → InlineeEntry → Bool
+less id x = nat_lt (id_of x) id
+
+pub is_at : (id : ℕ) (items xs : List InlineeEntry) (at : ℕ) → IsNonDecreasingBy id_of items → xs ≡ items → (IsPartitionedBy (less id) xs → IsPartitionPoint (λ x. less id x ≡ true) (λ x. less id x ≡ false) xs at) → IsAt id xs at
+is_at id items xs at rises same by_point =
+    let up : IsNonDecreasingBy id_of xs = rw same rises in
+    let point = by_point (IsPartitionedBy-ltb id_of xs id up) in record {
+  below = λ k d l. ltb-true (id_of (get_or xs k d)) id (point.0 k d (omega arith) l);
+  from = λ k d l m. ltb-false (id_of (get_or xs k d)) id (point.1 k d l m);
+  up = up;
+}

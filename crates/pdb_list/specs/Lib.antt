@@ -5,7 +5,7 @@ pub mod Words
 pub mod Texts
 pub mod Chosen
 pub mod ModuleTexts
-pub mod Known
+pub mod Shown
 pub mod CommandTexts
 pub mod Sample
 pub mod Plan

@@ -1,15 +1,15 @@
 //! The lines of inlined functions, and of the sites into which they were inlined.
 
-ghost use Rattle.std.specs.Prelude.{◌≡◌, ◌++◌, [], ◌∷◌, List, None, OnOk, IfOk, is_none};
+ghost use Rattle.std.specs.Prelude.{◌≡◌, ◌++◌, None, OnOk, IfOk, is_none};
 ghost use Rattle.pdb.specs.AnnotationViews.{annotation_bytes};
 ghost use Rattle.pdb.specs.Forms.{record_at};
-ghost use Rattle.pdb.specs.Inlinees.{InlineeEntry};
 ghost use Rattle.pdb.specs.InlinedViews.{inlined_left};
 ghost use Rattle.pdb.specs.ModuleViews.{inlinees_left};
 ghost use Rattle.pdb.specs.Views.{symbol_of, symbols_left};
-ghost use Rattle.pdb_list.specs.Known.{listed_in, shown_here};
+ghost use Rattle.pdb_list.specs.Shown.{shown_here};
 ghost use Rattle.pdb_list.specs.ModuleTexts.{here, inlinee_list_text, inlinee_text, inlinee_with, inlinees_of_text, line_list_text, site_lines, site_text, sites_of_text, sites_text};
 
+use crate::known::Known;
 use crate::lines::put_line;
 use crate::text::{h8, h8_field, put_error, put_line_end, put_refusal};
 use pdb::{
@@ -17,10 +17,6 @@ use pdb::{
     ModuleInfo, PdbInternalSectionOffset, Symbol, SymbolData, SymbolIndex, SymbolIter,
 };
 use std::alloc::{AllocError, Global};
-use std::collections::BTreeMap;
-
-/// The first inlined function of each id.
-type Known<'a> = BTreeMap<u32, Inlinee<'a>>;
 
 /// The line of an inlined function.
 #[tactic(auto, unfolding(crate::specs::ModuleTexts::inlinee_text))]
@@ -30,17 +26,6 @@ fn put_inlinee(out: &mut Vec<u8>, inlinee: &Inlinee<'_>) -> Result<(), AllocErro
     out.extend_from_slice(b"inlinee ")?;
     out.extend_from_slice(&h8(inlinee.index().0))?;
     put_line_end(out)
-}
-
-/// Notes an inlined function, unless one with its id is known.
-fn note<'a>(known: &mut Known<'a>, inlinee: Inlinee<'a>) -> Result<(), AllocError>
-    ensures { OnOk result ((xs : List InlineeEntry) → listed_in known.old ≡ inlinee_with xs → listed_in known.new ≡ inlinee_with (xs ++ inlinee.entry ∷ [])) }
-{
-    let id = inlinee.index().0;
-    if let Some(first) = known.insert(id, inlinee)? {
-        known.insert(id, first)?;
-    }
-    Ok(())
 }
 
 /// What a symbol is here.
@@ -90,13 +75,13 @@ fn put_site_lines(
     parent: Option<PdbInternalSectionOffset>,
     site: &InlineSiteSymbol<'_>,
 ) -> Result<bool, AllocError>
-    ensures lines { OnOk result (out.new.items ≡ out.old.items ++ line_list_text (site_lines parent (annotation_bytes site.now.annotations) (listed_in known.now site.now.inlinee.0))) }
-    ensures goes_on { IfOk result (λ goes_on. goes_on ≡ is_none (site_lines parent (annotation_bytes site.now.annotations) (listed_in known.now site.now.inlinee.0)).fault) }
+    ensures lines { OnOk result (out.new.items ≡ out.old.items ++ line_list_text (site_lines parent (annotation_bytes site.now.annotations) (inlinee_with known.now site.now.inlinee.0))) }
+    ensures goes_on { IfOk result (λ goes_on. goes_on ≡ is_none (site_lines parent (annotation_bytes site.now.annotations) (inlinee_with known.now site.now.inlinee.0)).fault) }
 {
     let Some(parent) = parent else {
         return Ok(true);
     };
-    match known.get(&site.inlinee.0) {
+    match known.get(site.inlinee.0) {
         Some(inlinee) => put_records(out, inlinee.lines(parent, site)),
         None => Ok(true),
     }
@@ -120,7 +105,7 @@ fn put_list(
     known: &Known<'_>,
     mut symbols: SymbolIter<'_>,
 ) -> Result<(), AllocError>
-    ensures { OnOk result (out.new.items ≡ out.old.items ++ sites_text (listed_in known.now) None (symbols_left symbols.entry).items (symbols_left symbols.entry).fault) }
+    ensures { OnOk result (out.new.items ≡ out.old.items ++ sites_text (inlinee_with known.now) None (symbols_left symbols.entry).items (symbols_left symbols.entry).fault) }
 {
     let mut parent = None;
     loop {
@@ -149,7 +134,7 @@ fn put_sites(
     known: &Known<'_>,
     info: &ModuleInfo<'_>,
 ) -> Result<(), AllocError>
-    ensures { OnOk result (out.new.items ≡ out.old.items ++ sites_of_text (listed_in known.now) info.now) }
+    ensures { OnOk result (out.new.items ≡ out.old.items ++ sites_of_text (inlinee_with known.now) info.now) }
 {
     match info.symbols() {
         Ok(symbols) => put_list(alloc, out, known, symbols),
@@ -166,14 +151,17 @@ fn put_whole(
 ) -> Result<(), AllocError>
     ensures { OnOk result (out.new.items ≡ out.old.items ++ inlinee_list_text info.now (inlinees_left inlinees.entry)) }
 {
-    let mut known = BTreeMap::new(alloc);
+    let mut listed = Vec::new(alloc);
     loop {
         match inlinees.next() {
             Ok(Some(inlinee)) => {
                 put_inlinee(out, &inlinee)?;
-                note(&mut known, inlinee)?;
+                listed.push(inlinee)?;
             }
-            Ok(None) => return put_sites(alloc, out, &known, info),
+            Ok(None) => {
+                let known = Known::of(listed)?;
+                return put_sites(alloc, out, &known, info);
+            }
             Err(e) => return put_error(out, e.number()),
         }
     }

@@ -14,6 +14,7 @@ mod files;
 mod info;
 mod inlinees;
 mod input;
+mod known;
 mod lines;
 mod modules;
 mod names;

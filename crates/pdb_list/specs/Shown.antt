@@ -1,9 +1,5 @@
--- What the code of inlined functions and their sites knows.
-use Rattle.std.specs.Prelude.{ℕ, Option}
-use Rattle.std.specs.Ordering.{nat_cmp}
-use Rattle.std.specs.BTreeMap.{BTreeMap, get}
+-- What a symbol is to the code of inlined functions and their sites.
 use Rattle.pdb.specs.AnnotationViews.{annotation_bytes}
-use Rattle.pdb.specs.Inlinees.{InlineeEntry}
 use Rattle.pdb_list.specs.declared.inlinees.Here.{Here as Read}
 use Rattle.pdb_list.specs.declared.inlinees.Here.TheVariants.{Procedure, Site, Passed}
 use Rattle.pdb_list.specs.ModuleTexts.{Here}
@@ -13,7 +9,3 @@ abbrev pub shown_here : Read → Here
 shown_here (Procedure offset) = at_procedure offset
 shown_here (Site s) = at_site s.inlinee.0 (annotation_bytes s.annotations)
 shown_here Passed = passed
-
--- the inlined function of an id
-abbrev pub listed_in : BTreeMap ℕ InlineeEntry → ℕ → Option InlineeEntry
-listed_in known id = get nat_cmp known id
