@@ -1,5 +1,5 @@
 -- Inlined functions and their sites, put one by one.
-use Rattle.std.proofs.Common.{◌≡◌, ℕ, List, [], ◌∷◌, ◌++◌, true, false, Option, Some, None, is_none, flat_map, refl, sym, ap, ◌∙◌, append_assoc, arith}
+use Rattle.std.proofs.Common.{◌≡◌, ℕ, Result, Ok, Err, List, [], ◌∷◌, ◌++◌, true, false, Option, Some, None, is_none, flat_map, refl, sym, ap, ◌∙◌, append_assoc, arith}
 use Rattle.std.proofs.lemmas.Grind.{common_steps}
 use Rattle.std.proofs.lemmas.List.{append-nil}
 use Rattle.pdb.specs.Error.{Error}
@@ -7,11 +7,14 @@ use Rattle.pdb.specs.PdbInternalSectionOffset.{PdbInternalSectionOffset}
 use Rattle.pdb.specs.Left.{Left, Follows, Ends}
 use Rattle.pdb.specs.Inlinees.{InlineeEntry}
 use Rattle.pdb.specs.ModuleStream.{ModuleBytes}
+use Rattle.pdb.specs.Data.{Data}
+use Rattle.pdb.specs.Data.Data.{Procedure, InlineSite}
+use Rattle.pdb.specs.Scopes.{StartsScope}
 use Rattle.pdb.specs.Forms.{record_at}
 use Rattle.pdb.specs.SymbolList.{Entry}
 use Rattle.pdb_list.specs.Texts.{fault_text}
 use Rattle.pdb_list.specs.ModuleTexts.{here, line_text, line_list_text, inlinee_text, inlinee_list_text, inlinee_with, sites_of_text, site_lines, site_text, sites_text, unless_fault, with_lines}
-use Rattle.pdb_list.specs.ModuleTexts.Here.{at_site}
+use Rattle.pdb_list.specs.ModuleTexts.Here.{at_site, passed}
 
 no_fault : (xs rest : List ℕ) (f : Option Error) → true ≡ is_none f → (xs ++ fault_text f) ++ rest ≡ xs ++ unless_fault f rest
 no_fault xs rest None h = append_assoc xs [] rest
@@ -20,6 +23,13 @@ no_fault xs rest (Some e) h = absurd cc
 a_fault : (xs rest : List ℕ) (f : Option Error) → false ≡ is_none f → xs ++ fault_text f ≡ xs ++ unless_fault f rest
 a_fault xs rest None h = absurd cc
 a_fault xs rest (Some e) h = refl
+
+-- what starts no scope is passed over
+pub passed_over : (r : Result Data Error) → ((d : Data) → r ≡ Ok d → StartsScope d → true ≡ false) → passed ≡ here r
+passed_over (Err e) none = refl
+passed_over (Ok (Procedure s)) none = let e = none (Procedure s) refl tt in absurd cc
+passed_over (Ok (InlineSite s)) none = let e = none (InlineSite s) refl tt in absurd cc
+passed_over (Ok d) none = refl
 
 module _ (listed : ℕ → Option InlineeEntry) (p : Option PdbInternalSectionOffset) (old new : Left Entry) (s : Entry) (id : ℕ) (a : List ℕ) where
   -- the text of the symbols from a site on

@@ -38,10 +38,13 @@ enum Here<'t> {
     Passed,
 }
 
-/// What a symbol is here; want of memory is passed on.
+/// What a symbol is here; want of memory is passed on. Both that count start a scope.
 fn here_of<'t>(alloc: Global, symbol: &Symbol<'t>) -> Result<Here<'t>, AllocError>
     ensures { IfOk result (λ h. shown_here h ≡ here (record_at (symbol_of symbol.now).bytes)) }
 {
+    if !symbol.starts_scope() {
+        return Ok(Here::Passed);
+    }
     match symbol.parse(alloc) {
         Ok(SymbolData::Procedure(procedure)) => Ok(Here::Procedure(procedure.offset)),
         Ok(SymbolData::InlineSite(site)) => Ok(Here::Site(site)),

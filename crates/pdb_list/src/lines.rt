@@ -56,6 +56,21 @@ fn put_kind(out: &mut Vec<u8>, kind: LineInfoKind) -> Result<(), AllocError>
     }
 }
 
+/// A record's columns and kind, and the end of the line.
+#[tactic(auto, unfolding(crate::specs::ModuleTexts::columns_text))]
+fn put_rest(out: &mut Vec<u8>, line: &LineInfo) -> Result<(), AllocError>
+    ensures { OnOk result (out.new.items ≡ out.old.items ++ (columns_text line.now ++ line_kind_text line.now.kind)) }
+{
+    match (line.column_start, line.column_end, line.kind) {
+        (None, None, LineInfoKind::Statement) => out.extend_from_slice(b" - - S\n"),
+        (None, None, LineInfoKind::Expression) => out.extend_from_slice(b" - - E\n"),
+        _ => {
+            put_columns(out, line)?;
+            put_kind(out, line.kind)
+        }
+    }
+}
+
 /// The line of a line record.
 #[tactic(auto, unfolding(crate::specs::ModuleTexts::line_text))]
 pub fn put_line(out: &mut Vec<u8>, line: &LineInfo) -> Result<(), AllocError>
@@ -63,8 +78,7 @@ pub fn put_line(out: &mut Vec<u8>, line: &LineInfo) -> Result<(), AllocError>
 {
     out.extend_from_slice(&head(line.offset))?;
     put_numbers(out, line)?;
-    put_columns(out, line)?;
-    put_kind(out, line.kind)
+    put_rest(out, line)
 }
 
 /// The lines of the records that an iterator has left, and then that of its fault.

@@ -197,6 +197,11 @@ pub fn put_field(out: &mut Vec<u8>, n: u64) -> Result<(), AllocError>
     if n < 10000 {
         return put_short_field(out, n);
     }
+    if n < 100_000_000 {
+        put_short_field(out, n / 10000)?;
+        out.extend_from_slice(&d4(n % 10000))?;
+        return Ok(());
+    }
     out.push(b' ')?;
     put_long_decimal(out, n)
 }

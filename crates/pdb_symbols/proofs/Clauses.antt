@@ -1,5 +1,5 @@
 -- The clauses of parsing, from what is read.
-use Rattle.std.proofs.Common.{◌≡◌, ℕ, List, [], ◌∷◌, None, Result, Ok, Err, ◌⊎◌, inl, inr, ap, subst}
+use Rattle.std.proofs.Common.{◌≡◌, ℕ, List, [], ◌∷◌, None, true, Result, Ok, Err, ◌⊎◌, inl, inr, ap, subst}
 use Rattle.std.specs.Prelude.{◌↔◌, IfOk, IfErr, IsOkAnd, IsErrOf, IsTrue}
 use Rattle.pdb_base.specs.declared.error.Error.{Error}
 use Rattle.pdb_base.specs.declared.error.Error.TheVariants.{UnimplementedSymbolKind, UnexpectedNumericPrefix, IoError, OutOfMemory}
@@ -9,7 +9,8 @@ use Rattle.pdb_symbols.specs.Kinds.{is_in, row}
 use Rattle.pdb_symbols.specs.Data.{Data, shown}
 use Rattle.pdb_symbols.specs.Forms.{kind_at, Is, IsUnlistedPrefix, Refusal, TakesMemory, record_at}
 use Rattle.pdb_symbols.specs.Memory.{Parses}
-use Rattle.pdb_symbols.proofs.ScopeLaws.{wants_are}
+use Rattle.pdb_symbols.specs.Scopes.{starts_of, ends_of, StartsScope, EndsScope}
+use Rattle.pdb_symbols.proofs.ScopeLaws.{starts_are, ends_are, wants_are}
 use Rattle.pdb_symbols.proofs.Records.{record_is, is_record, record_refused, no_row, unlisted}
 
 -- what parsing a record answers
@@ -76,3 +77,10 @@ pub memory_of : (r : Result SymbolData Error) (b : List ℕ) → Parsed r b → 
 memory_of (Ok x) b h = tt
 memory_of (Err e) b (inl h) = λ q. absurd (h.1 q)
 memory_of (Err e) b (inr h) = λ q. wants_are (kind_at b) h.0
+
+-- what a record says starts a scope, or ends one, by its kind
+pub record_starts : (b : List ℕ) (d : Data) → record_at b ≡ Ok d → StartsScope d → starts_of (kind_at b) ≡ true
+record_starts b d e h = starts_are b d (record_is b d e) h
+
+pub record_ends : (b : List ℕ) (d : Data) → record_at b ≡ Ok d → EndsScope d → ends_of (kind_at b) ≡ true
+record_ends b d e h = ends_are b d (record_is b d e) h

@@ -32,12 +32,12 @@ pub struct Symbol<'t> {
 }
 
 impl<'t> Symbol<'t> {
-    ghost use Rattle.std.specs.Prelude.{◌↔◌, ◌⊎◌, IfSome, IsSome, IfOk, IfErr, IsOkAnd, IsErrOf, IsTrue, ℕ, [], ◌∷◌};
+    ghost use Rattle.std.specs.Prelude.{◌↔◌, ◌⊎◌, IfSome, IsSome, IfOk, IfErr, IsOkAnd, IsErrOf, IsTrue, Ok, true, ℕ, [], ◌∷◌};
     ghost use Rattle.pdb_base.specs.declared.error.Error.{Error};
     ghost use Rattle.pdb_base.specs.Refusal.{Gives};
     ghost use Rattle.pdb_symbols.specs.Data.{Data, shown};
     ghost use Rattle.pdb_symbols.specs.Kinds.{is_in};
-    ghost use Rattle.pdb_symbols.specs.Scopes.{starts_of, ends_of};
+    ghost use Rattle.pdb_symbols.specs.Scopes.{starts_of, ends_of, StartsScope, EndsScope};
     ghost use Rattle.pdb_symbols.specs.Forms.{Is, IsUnlistedKind, IsUnlistedPrefix, Refusal, kind_at, record_at};
     ghost use Rattle.pdb_symbols.specs.Views.{symbol_of};
 
@@ -86,18 +86,22 @@ impl<'t> Symbol<'t> {
         self.bytes
     }
 
-    /// Whether records of the kind start a scope, which a later record ends.
+    /// Whether records of the kind start a scope, which a later record ends. A record that says a procedure, a block, a
+    /// thunk, separated code or an inlined call does.
     #[inline]
     pub fn starts_scope(&self) -> bool
-        ensures { result ≡ starts_of (kind_at (symbol_of self.now).bytes) }
+        ensures kind { result ≡ starts_of (kind_at (symbol_of self.now).bytes) }
+        ensures says { (d : Data) → record_at (symbol_of self.now).bytes ≡ Ok d → StartsScope d → result ≡ true }
     {
         kind_starts_scope(self.raw_kind())
     }
 
-    /// Whether records of the kind end a scope.
+    /// Whether records of the kind end a scope. A record that says the end of a scope, of a procedure or of an inlined
+    /// call does.
     #[inline]
     pub fn ends_scope(&self) -> bool
-        ensures { result ≡ ends_of (kind_at (symbol_of self.now).bytes) }
+        ensures kind { result ≡ ends_of (kind_at (symbol_of self.now).bytes) }
+        ensures says { (d : Data) → record_at (symbol_of self.now).bytes ≡ Ok d → EndsScope d → result ≡ true }
     {
         kind_ends_scope(self.raw_kind())
     }
