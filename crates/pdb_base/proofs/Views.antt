@@ -4,12 +4,12 @@ use Rattle.std.specs.Prelude.{nat_lt, nat_le, slice_index}
 use Rattle.std.specs.List.{list_all, flat_map, range_with_len, AllByRecursion}
 use Rattle.std.proofs.lemmas.List.{append-nil, ext_get_or, length-take, length-drop, get_or-take, get_or-drop, map-append}
 use Rattle.std.proofs.lemmas.List.Folds.{list_all_at, list_all-append}
-use Rattle.std.proofs.lemmas.List.Elements.{recursion_from_All}
+use Rattle.std.proofs.lemmas.List.Elements.{All-push, recursion_from_All}
 use Rattle.std.proofs.lemmas.List.FromFn.{length-map-range_with_len, get_or-map-range_with_len}
 use Rattle.std.proofs.lemmas.Bool.Decides.{nat_tests}
 use Rattle.pdb_base.specs.declared.source.SourceSlice.{SourceSlice}
 use Rattle.pdb_base.specs.Source.{is_inside, slice_bytes, viewed}
-use Rattle.pdb_base.specs.Container.{bytes_of_places, tested, paged}
+use Rattle.pdb_base.specs.Container.{bytes_of_places}
 use Rattle.pdb_base.specs.Joined.{slice_places, joined_places, IsFull}
 
 -- what passes a test of all passes it at each place
@@ -77,12 +77,16 @@ viewed-places file ss full = by_test (list_all (is_inside file) ss) refl
     by_test true e = rw (same, e) (ap Ok (bytes_places file ss e))
     by_test false e = rw (same, e) refl
 
--- a stream is the view of the slices that its pages make
-pub paged-viewed : (file : List ℕ) (P used : ℕ) (pages : List ℕ) (size : ℕ) (ss : List SourceSlice) → All IsFull ss → tested P used pages size ≡ Ok (joined_places ss) → paged file P used pages size ≡ viewed file ss
-unfolding paged
-paged-viewed file P used pages size ss full e = rw e (sym (viewed-places file ss full))
+-- so is one, and one without a byte needs no view
+pub viewed-run : (file : List ℕ) (s : SourceSlice) → 0 < s.size → viewed file (s ∷ []) ≡ bytes_of_places file (slice_places s)
+unfolding joined_places
+viewed-run file s full = viewed-places file (s ∷ []) (All-push IsFull [] s (λ k d h. absurd (omega arith)) full) ∙ ap (bytes_of_places file) (append-nil (slice_places s))
 
-pub viewed-none : (file : List ℕ) (ss : List SourceSlice) → length ss ≡ 0 → viewed file ss ≡ Ok []
-unfolding viewed
-viewed-none file [] e = refl
-viewed-none file (s ∷ ss) e = absurd (omega arith)
+pub no-run : (file : List ℕ) (s : SourceSlice) → s.size ≡ 0 → bytes_of_places file (slice_places s) ≡ Ok []
+unfolding bytes_of_places
+no-run file s none = ap (λ (n : ℕ). bytes_of_places file (range_with_len s.offset n)) none
+
+pub run-alone : (ss : List SourceSlice) (s : SourceSlice) → length ss ≡ 0 → joined_places ss ++ slice_places s ≡ slice_places s
+unfolding joined_places
+run-alone [] s e = refl
+run-alone (t ∷ ss) s e = absurd (omega arith)

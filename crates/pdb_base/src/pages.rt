@@ -5,7 +5,7 @@ ghost use Rattle.std.specs.List.{range_with_len};
 ghost use Rattle.std.specs.Int.{div_ceil};
 ghost use Rattle.pdb_base.specs.Refusal.{Gives};
 ghost use Rattle.pdb_base.specs.Source.{Continues, MayFail, view_bytes};
-ghost use Rattle.pdb_base.specs.Container.{numbers, places, tested, paged};
+ghost use Rattle.pdb_base.specs.Container.{bytes_of_places, numbers, tested, paged};
 ghost use Rattle.pdb_base.specs.Joined.{joined_places, slice_places, IsFull};
 
 use crate::error::{Error, Result};
@@ -43,23 +43,30 @@ fn join(
     Ok(SourceSlice { offset, size })
 }
 
-/// The slices of the file that a list of page numbers names, neighbours joined, the last cut to the size.
-pub(crate) fn slices(
+/// Runs of neighbouring bytes in the file: the last apart, so that a single one takes no memory. The last has no byte
+/// where there is no run.
+pub(crate) struct Runs {
+    before: Vec<SourceSlice>,
+    last: SourceSlice,
+}
+
+/// The runs of the file that a list of page numbers names, the last page cut to the size.
+pub(crate) fn page_runs(
     alloc: Global,
     list: &[u8],
     page_size: u32,
     used: u32,
     size: usize,
-) -> Result<Vec<SourceSlice>>
+) -> Result<Runs>
     requires positive { 0 < page_size }
     requires small { size < 2 ^ 32 }
     requires there { 4 * div_ceil size page_size ≤ length list.now }
-    ensures places { Gives (λ v. joined_places v.items) ⊥ result
+    ensures places { Gives (λ r. joined_places r.before.items ++ slice_places r.last) ⊥ result
         (tested page_size used (numbers list.now 0 (div_ceil size page_size)) size) }
-    ensures full { IfOk result (λ v. All IsFull v.items) }
+    ensures full { IfOk result (λ r. All IsFull r.before.items) }
 {
-    let mut joined = Vec::new(alloc);
-    let mut current = SourceSlice { offset: 0, size: 0 };
+    let mut before = Vec::new(alloc);
+    let mut last = SourceSlice { offset: 0, size: 0 };
     let mut left = size;
     for k in 0..size.div_ceil(page_size as usize) {
         let page = u32_at(list, 4 * k);
@@ -68,13 +75,39 @@ pub(crate) fn slices(
         }
         let offset = page as u64 * page_size as u64;
         let part = left.min(page_size as usize);
-        current = join(&mut joined, current, offset, part)?;
+        last = join(&mut before, last, offset, part)?;
         left -= part;
     }
-    if current.size > 0 {
-        joined.push(current)?;
+    Ok(Runs { before, last })
+}
+
+/// The bytes of one run; there is nothing to view of one without a byte.
+fn view_run<'s, S: Source<'s>>(alloc: Global, source: &mut S, run: SourceSlice) -> Result<View<'s>>
+    ensures continues { Continues (S.state source.old) (S.state source.new) }
+    ensures bytes { Gives view_bytes (MayFail (S.state source.old) (S.state source.new)) result
+        (bytes_of_places (S.state source.old).file (slice_places run)) }
+{
+    if run.size == 0 {
+        return Ok(View::Borrowed(&[]));
     }
-    Ok(joined)
+    source.view(alloc, &[run])
+}
+
+/// The bytes of runs, one after the other.
+fn view_runs<'s, S: Source<'s>>(alloc: Global, source: &mut S, runs: Runs) -> Result<View<'s>>
+    requires full { All IsFull runs.before.items }
+    ensures continues { Continues (S.state source.old) (S.state source.new) }
+    ensures bytes { Gives view_bytes (MayFail (S.state source.old) (S.state source.new)) result
+        (bytes_of_places (S.state source.old).file (joined_places runs.before.items ++ slice_places runs.last)) }
+{
+    let Runs { mut before, last } = runs;
+    if before.is_empty() {
+        return view_run(alloc, source, last);
+    }
+    if last.size > 0 {
+        before.push(last)?;
+    }
+    source.view(alloc, &before)
 }
 
 /// A stream of the file, whose page numbers a list names.
@@ -94,9 +127,6 @@ pub(crate) fn view_pages<'s, S: Source<'s>>(
     ensures bytes { Gives view_bytes (MayFail (S.state source.old) (S.state source.new)) result
         (paged (S.state source.old).file page_size used (numbers list.now 0 (div_ceil size page_size)) size) }
 {
-    let slices = slices(alloc, list, page_size, used, size)?;
-    if slices.is_empty() {
-        return Ok(View::Borrowed(&[]));
-    }
-    source.view(alloc, &slices)
+    let runs = page_runs(alloc, list, page_size, used, size)?;
+    view_runs(alloc, source, runs)
 }

@@ -111,7 +111,7 @@ pub is_at : (id : ℕ) (items xs : List InlineeEntry) (at : ℕ) → IsNonDecrea
 is_at id items xs at rises same by_point =
     let up : IsNonDecreasingBy id_of xs = rw same rises in
     let point = by_point (IsPartitionedBy-ltb id_of xs id up) in record {
-  below = λ k d l. ltb-true (id_of (get_or xs k d)) id (point.0 k d (omega arith) l);
-  from = λ k d l m. ltb-false (id_of (get_or xs k d)) id (point.1 k d l m);
-  up = up;
-}
+      below = λ k d l. ltb-true (id_of (get_or xs k d)) id (point.0 k d (omega arith) l);
+      from = λ k d l m. ltb-false (id_of (get_or xs k d)) id (point.1 k d l m);
+      up = up;
+    }

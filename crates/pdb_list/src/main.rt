@@ -33,10 +33,11 @@ use input::read_all;
 use pdb::MemorySource;
 use report::{Fault, report};
 use std::alloc::{AllocError, Global};
+use std::env;
+use std::fs::{self, OpenFile};
 use std::io::{self, ErrorKind};
 use std::process::ExitCode;
 use std::rt::{Env, Files};
-use std::{env, fs};
 
 /// What is listed of the sample: all that can be listed.
 const SAMPLE_COMMANDS: [Command; 12] = [
@@ -79,6 +80,11 @@ fn list_sample<W: io::Write>(alloc: Global, out: &mut W) -> Result<(), Fault> {
     Ok(())
 }
 
+/// How many bytes a file has, as far as the system tells.
+fn size_of(file: &impl OpenFile) -> usize {
+    file.metadata().map_or(0, |it| it.len() as usize)
+}
+
 /// Lists what the words ask for: their commands are taken first, then the file is read.
 fn list(rt: &(impl Env + Files + Print + AllocGlobal)) -> Result<(), Fault> {
     let words = words_of(rt)?;
@@ -94,7 +100,7 @@ fn list(rt: &(impl Env + Files + Print + AllocGlobal)) -> Result<(), Fault> {
     }
     let commands = parse_commands(rt.alloc(), spelled)?;
     let mut file = fs::open(rt, name.as_str()).map_err(|_| Fault::Read)?;
-    let bytes = read_all(rt.alloc(), &mut file)?;
+    let bytes = read_all(rt.alloc(), size_of(&file), &mut file)?;
     run(rt.alloc(), MemorySource::new(&bytes), &commands, &mut out)?;
     Ok(())
 }

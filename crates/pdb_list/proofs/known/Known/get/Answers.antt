@@ -18,6 +18,6 @@ returns-in_default c =
     let same : c.as_slice-sorted.result.now ≡ c.args.self.now = value ∙ c.self.view_is in
     let at = is_at c.args.id c.self.inside.sorted.items _ _ c.self.invariant value (c.partition_point-at.ensures.partitioned (less c.args.id) (always_returns_same _ (λ a r. r ≡ less c.args.id a.0.now) _ (λ a r q k. search rules))) in
     elim c.in_default.branch [
-      in_default-via-in-Some+else-index-id w ↦ let look = w.in-Some.ensures.lookup in rw same at (sym (none_other c.args.id _ _ w.in-Some.inlinee.now at look.3.0 (sym look.1) (rw w.index.ensures at w.if-index-id.false)))
+      | in_default-via-in-Some+else-index-id w ↦ let look = w.in-Some.ensures.lookup in rw same at (sym (none_other c.args.id _ _ w.in-Some.inlinee.now at look.3.0 (sym look.1) (rw w.index.ensures at w.if-index-id.false)))
       | in_default-via-in_default w ↦ rw same at (sym (none_there c.args.id _ _ at (rw w.in_default.is at c.get.ensures.lookup).3))
     ]
