@@ -1,31 +1,43 @@
 //! The lines of inlined functions, and of the sites into which they were inlined.
 
-ghost use Rattle.std.specs.Prelude.{◌≡◌, ◌++◌, None, OnOk, IfOk, is_none};
+ghost use Rattle.std.specs.Prelude.{◌≡◌, ◌++◌, None, OnOk, IfOk, codes, is_none};
 ghost use Rattle.pdb.specs.AnnotationViews.{annotation_bytes};
 ghost use Rattle.pdb.specs.Forms.{record_at};
 ghost use Rattle.pdb.specs.InlinedViews.{inlined_left};
 ghost use Rattle.pdb.specs.ModuleViews.{inlinees_left};
 ghost use Rattle.pdb.specs.Views.{symbol_of, symbols_left};
+ghost use Rattle.pdb_list.specs.Digits.{hex};
 ghost use Rattle.pdb_list.specs.Shown.{shown_here};
 ghost use Rattle.pdb_list.specs.ModuleTexts.{here, inlinee_list_text, inlinee_text, inlinee_with, inlinees_of_text, line_list_text, site_lines, site_text, sites_of_text, sites_text};
 
 use crate::known::Known;
 use crate::lines::put_line;
-use crate::text::{h8, h8_field, put_error, put_line_end, put_refusal};
+use crate::text::{h8, put_error, put_refusal};
 use pdb::{
     Error, FallibleIterator, InlineSiteSymbol, Inlinee, InlineeIterator, InlineeLineIterator,
     ModuleInfo, PdbInternalSectionOffset, Symbol, SymbolData, SymbolIndex, SymbolIter,
 };
 use std::alloc::{AllocError, Global};
 
+/// `inlinee`, an id, and the end of the line.
+#[inline(always)]
+#[tactic(auto, unfolding(crate::specs::Digits::hex))]
+fn inlinee_line(id: u32) -> [u8; 17]
+    ensures { result ≡ codes "inlinee " ++ hex 8 id ++ codes "\n" }
+{
+    let d = h8(id);
+    [
+        b'i', b'n', b'l', b'i', b'n', b'e', b'e', b' ', d[0], d[1], d[2], d[3], d[4], d[5], d[6],
+        d[7], b'\n',
+    ]
+}
+
 /// The line of an inlined function.
 #[tactic(auto, unfolding(crate::specs::ModuleTexts::inlinee_text))]
 fn put_inlinee(out: &mut Vec<u8>, inlinee: &Inlinee<'_>) -> Result<(), AllocError>
     ensures { OnOk result (out.new.items ≡ out.old.items ++ inlinee_text inlinee.now) }
 {
-    out.extend_from_slice(b"inlinee ")?;
-    out.extend_from_slice(&h8(inlinee.index().0))?;
-    put_line_end(out)
+    out.extend_from_slice(&inlinee_line(inlinee.index().0))
 }
 
 /// What a symbol is here.
@@ -90,15 +102,26 @@ fn put_site_lines(
     }
 }
 
+/// `site`, an index and an id, and the end of the line.
+#[inline(always)]
+#[tactic(auto, unfolding(crate::specs::Digits::hex))]
+fn site_line(index: u32, id: u32) -> [u8; 23]
+    ensures { result ≡ codes "site " ++ hex 8 index ++ codes " " ++ hex 8 id ++ codes "\n" }
+{
+    let i = h8(index);
+    let d = h8(id);
+    [
+        b's', b'i', b't', b'e', b' ', i[0], i[1], i[2], i[3], i[4], i[5], i[6], i[7], b' ', d[0],
+        d[1], d[2], d[3], d[4], d[5], d[6], d[7], b'\n',
+    ]
+}
+
 /// The line of a site.
 #[tactic(auto, unfolding(crate::specs::ModuleTexts::site_text))]
 fn put_site(out: &mut Vec<u8>, index: SymbolIndex, id: u32) -> Result<(), AllocError>
     ensures { OnOk result (out.new.items ≡ out.old.items ++ site_text index.0 id) }
 {
-    out.extend_from_slice(b"site ")?;
-    out.extend_from_slice(&h8(index.0))?;
-    out.extend_from_slice(&h8_field(id))?;
-    put_line_end(out)
+    out.extend_from_slice(&site_line(index.0, id))
 }
 
 /// The sites among the symbols that an iterator has left, each with its records, and then the line of a fault.

@@ -2,7 +2,6 @@
 
 ghost use Rattle.std.specs.Prelude.{◌≡◌, ◌≢◌, ◌++◌, true, OnOk, codes};
 ghost use Rattle.std.specs.Fmt.{decimal};
-ghost use Rattle.std.specs.Option.{option_map};
 ghost use Rattle.pdb.specs.Error.TheVariants.{OutOfMemory};
 ghost use Rattle.pdb.specs.Source.{Continues};
 ghost use Rattle.pdb.specs.Data.{shown, name_of};
@@ -19,65 +18,58 @@ use pdb::{
 };
 use std::alloc::{AllocError, Global};
 
-/// The name of a form, with a space behind it where the symbol has a name.
-fn form_name(parsed: &SymbolData<'_>) -> &'static [u8]
-    ensures { result.now ≡ form_text (shown parsed.now) ++ space_text (name_of (shown parsed.now)) }
-{
-    match parsed {
-        SymbolData::ScopeEnd => b"ScopeEnd",
-        SymbolData::ObjName(_) => b"ObjName ",
-        SymbolData::RegisterVariable(_) => b"RegisterVariable",
-        SymbolData::Constant(_) => b"Constant ",
-        SymbolData::UserDefinedType(_) => b"UserDefinedType ",
-        SymbolData::MultiRegisterVariable(_) => b"MultiRegisterVariable",
-        SymbolData::Data(_) => b"Data ",
-        SymbolData::Public(_) => b"Public ",
-        SymbolData::Procedure(_) => b"Procedure ",
-        SymbolData::ThreadStorage(_) => b"ThreadStorage ",
-        SymbolData::CompileFlags(_) => b"CompileFlags",
-        SymbolData::UsingNamespace(_) => b"UsingNamespace ",
-        SymbolData::ProcedureReference(symbol) => match symbol.name {
-            Some(_) => b"ProcedureReference ",
-            None => b"ProcedureReference",
-        },
-        SymbolData::DataReference(symbol) => match symbol.name {
-            Some(_) => b"DataReference ",
-            None => b"DataReference",
-        },
-        SymbolData::AnnotationReference(_) => b"AnnotationReference ",
-        SymbolData::Trampoline(_) => b"Trampoline",
-        SymbolData::Export(_) => b"Export ",
-        SymbolData::Local(_) => b"Local ",
-        SymbolData::BuildInfo(_) => b"BuildInfo",
-        SymbolData::InlineSite(_) => b"InlineSite",
-        SymbolData::InlineSiteEnd => b"InlineSiteEnd",
-        SymbolData::ProcedureEnd => b"ProcedureEnd",
-        SymbolData::Label(_) => b"Label ",
-        SymbolData::Block(_) => b"Block ",
-        SymbolData::RegisterRelative(_) => b"RegisterRelative ",
-        SymbolData::Thunk(_) => b"Thunk ",
-        SymbolData::SeparatedCode(_) => b"SeparatedCode",
-    }
-}
-
-/// A name, where there is one.
+/// A form's name with a space behind it, and a symbol's name.
 #[inline(always)]
-fn put_name(out: &mut Vec<u8>, name: Option<RawString<'_>>) -> Result<(), AllocError>
-    ensures { OnOk result (out.new.items ≡ out.old.items ++ bytes_of (option_map name_bytes name.entry)) }
+fn put_named(out: &mut Vec<u8>, form: &[u8], name: RawString<'_>) -> Result<(), AllocError>
+    ensures { OnOk result (out.new.items ≡ out.old.items ++ (form.now ++ name_bytes name.entry)) }
 {
-    match name {
-        Some(name) => out.extend_from_slice(name.as_bytes()),
-        None => Ok(()),
-    }
+    out.extend_from_slice(form)?;
+    out.extend_from_slice(name.as_bytes())
 }
 
 /// A record's form, and its name where it has one.
-#[inline(always)]
 fn put_data(out: &mut Vec<u8>, parsed: &SymbolData<'_>) -> Result<(), AllocError>
     ensures { OnOk result (out.new.items ≡ out.old.items ++ form_text (shown parsed.now) ++ space_text (name_of (shown parsed.now)) ++ bytes_of (name_of (shown parsed.now))) }
 {
-    out.extend_from_slice(form_name(parsed))?;
-    put_name(out, parsed.name())
+    match parsed {
+        SymbolData::ScopeEnd => out.extend_from_slice(b"ScopeEnd"),
+        SymbolData::ObjName(symbol) => put_named(out, b"ObjName ", symbol.name),
+        SymbolData::RegisterVariable(_) => out.extend_from_slice(b"RegisterVariable"),
+        SymbolData::Constant(symbol) => put_named(out, b"Constant ", symbol.name),
+        SymbolData::UserDefinedType(symbol) => put_named(out, b"UserDefinedType ", symbol.name),
+        SymbolData::MultiRegisterVariable(_) => out.extend_from_slice(b"MultiRegisterVariable"),
+        SymbolData::Data(symbol) => put_named(out, b"Data ", symbol.name),
+        SymbolData::Public(symbol) => put_named(out, b"Public ", symbol.name),
+        SymbolData::Procedure(symbol) => put_named(out, b"Procedure ", symbol.name),
+        SymbolData::ThreadStorage(symbol) => put_named(out, b"ThreadStorage ", symbol.name),
+        SymbolData::CompileFlags(_) => out.extend_from_slice(b"CompileFlags"),
+        SymbolData::UsingNamespace(symbol) => put_named(out, b"UsingNamespace ", symbol.name),
+        SymbolData::ProcedureReference(symbol) => match symbol.name {
+            Some(name) => put_named(out, b"ProcedureReference ", name),
+            None => out.extend_from_slice(b"ProcedureReference"),
+        },
+        SymbolData::DataReference(symbol) => match symbol.name {
+            Some(name) => put_named(out, b"DataReference ", name),
+            None => out.extend_from_slice(b"DataReference"),
+        },
+        SymbolData::AnnotationReference(symbol) => put_named(
+            out,
+            b"AnnotationReference ",
+            symbol.name,
+        ),
+        SymbolData::Trampoline(_) => out.extend_from_slice(b"Trampoline"),
+        SymbolData::Export(symbol) => put_named(out, b"Export ", symbol.name),
+        SymbolData::Local(symbol) => put_named(out, b"Local ", symbol.name),
+        SymbolData::BuildInfo(_) => out.extend_from_slice(b"BuildInfo"),
+        SymbolData::InlineSite(_) => out.extend_from_slice(b"InlineSite"),
+        SymbolData::InlineSiteEnd => out.extend_from_slice(b"InlineSiteEnd"),
+        SymbolData::ProcedureEnd => out.extend_from_slice(b"ProcedureEnd"),
+        SymbolData::Label(symbol) => put_named(out, b"Label ", symbol.name),
+        SymbolData::Block(symbol) => put_named(out, b"Block ", symbol.name),
+        SymbolData::RegisterRelative(symbol) => put_named(out, b"RegisterRelative ", symbol.name),
+        SymbolData::Thunk(symbol) => put_named(out, b"Thunk ", symbol.name),
+        SymbolData::SeparatedCode(_) => out.extend_from_slice(b"SeparatedCode"),
+    }
 }
 
 /// `refused`, and the refusal's number.
