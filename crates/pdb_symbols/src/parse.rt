@@ -37,7 +37,8 @@ pub(crate) fn parse_record(alloc: Global, bytes: &[u8]) -> Result<SymbolData<'_>
     parse_fields(alloc, kind_of(bytes), &mut buffer)
 }
 
-// What a record of a kind says, its fields at the buffer's place.
+// What a record of a kind says, its fields at the buffer's place. Each arm returns by itself, and the function stays
+// one: so a form's result is copied once and whole, and not field by field.
 #[inline(never)]
 #[tactic(auto, using(crate::proofs::Memory::answers_parses, crate::proofs::FormTable::scope_end_read, crate::proofs::FormTable::inline_site_end_read, crate::proofs::FormTable::procedure_end_read))]
 fn parse_fields<'t>(
@@ -52,32 +53,32 @@ fn parse_fields<'t>(
         return Err(Error::UnimplementedSymbolKind(kind));
     };
     match form {
-        Form::ScopeEnd => Ok(SymbolData::ScopeEnd),
-        Form::ObjName => parse_obj_name(kind, buffer),
-        Form::RegisterVariable => parse_register_variable(kind, buffer),
-        Form::Constant => parse_constant(kind, buffer),
-        Form::UserDefinedType => parse_user_defined_type(kind, buffer),
-        Form::MultiRegisterVariable => parse_multi_register_variable(alloc, kind, buffer),
-        Form::Data => parse_data(kind, buffer),
-        Form::Public => parse_public(kind, buffer),
-        Form::Procedure => parse_procedure(kind, buffer),
-        Form::ThreadStorage => parse_thread_storage(kind, buffer),
-        Form::CompileFlags => parse_compile_flags(kind, buffer),
-        Form::UsingNamespace => parse_using_namespace(kind, buffer),
-        Form::ProcedureReference => parse_procedure_reference(kind, buffer),
-        Form::DataReference => parse_data_reference(kind, buffer),
-        Form::AnnotationReference => parse_annotation_reference(kind, buffer),
-        Form::Trampoline => parse_trampoline(kind, buffer),
-        Form::Export => parse_export(kind, buffer),
-        Form::Local => parse_local(kind, buffer),
-        Form::BuildInfo => parse_build_info(kind, buffer),
-        Form::InlineSite => parse_inline_site(kind, buffer),
-        Form::InlineSiteEnd => Ok(SymbolData::InlineSiteEnd),
-        Form::ProcedureEnd => Ok(SymbolData::ProcedureEnd),
-        Form::Label => parse_label(kind, buffer),
-        Form::Block => parse_block(kind, buffer),
-        Form::RegisterRelative => parse_register_relative(kind, buffer),
-        Form::Thunk => parse_thunk(kind, buffer),
-        Form::SeparatedCode => parse_separated_code(kind, buffer),
+        Form::ScopeEnd => return Ok(SymbolData::ScopeEnd),
+        Form::ObjName => return parse_obj_name(kind, buffer),
+        Form::RegisterVariable => return parse_register_variable(kind, buffer),
+        Form::Constant => return parse_constant(kind, buffer),
+        Form::UserDefinedType => return parse_user_defined_type(kind, buffer),
+        Form::MultiRegisterVariable => return parse_multi_register_variable(alloc, kind, buffer),
+        Form::Data => return parse_data(kind, buffer),
+        Form::Public => return parse_public(kind, buffer),
+        Form::Procedure => return parse_procedure(kind, buffer),
+        Form::ThreadStorage => return parse_thread_storage(kind, buffer),
+        Form::CompileFlags => return parse_compile_flags(kind, buffer),
+        Form::UsingNamespace => return parse_using_namespace(kind, buffer),
+        Form::ProcedureReference => return parse_procedure_reference(kind, buffer),
+        Form::DataReference => return parse_data_reference(kind, buffer),
+        Form::AnnotationReference => return parse_annotation_reference(kind, buffer),
+        Form::Trampoline => return parse_trampoline(kind, buffer),
+        Form::Export => return parse_export(kind, buffer),
+        Form::Local => return parse_local(kind, buffer),
+        Form::BuildInfo => return parse_build_info(kind, buffer),
+        Form::InlineSite => return parse_inline_site(kind, buffer),
+        Form::InlineSiteEnd => return Ok(SymbolData::InlineSiteEnd),
+        Form::ProcedureEnd => return Ok(SymbolData::ProcedureEnd),
+        Form::Label => return parse_label(kind, buffer),
+        Form::Block => return parse_block(kind, buffer),
+        Form::RegisterRelative => return parse_register_relative(kind, buffer),
+        Form::Thunk => return parse_thunk(kind, buffer),
+        Form::SeparatedCode => return parse_separated_code(kind, buffer),
     }
 }
