@@ -20,10 +20,14 @@ use std::alloc::{AllocError, Global};
 
 /// A form's name with a space behind it, and a symbol's name.
 #[inline(always)]
-fn put_named(out: &mut Vec<u8>, form: &[u8], name: RawString<'_>) -> Result<(), AllocError>
-    ensures { OnOk result (out.new.items ≡ out.old.items ++ (form.now ++ name_bytes name.entry)) }
+fn put_named<const N: usize>(
+    out: &mut Vec<u8>,
+    form: [u8; N],
+    name: RawString<'_>,
+) -> Result<(), AllocError>
+    ensures { OnOk result (out.new.items ≡ out.old.items ++ (form.entry ++ name_bytes name.entry)) }
 {
-    out.extend_from_slice(form)?;
+    out.extend_from_slice(&form)?;
     out.extend_from_slice(name.as_bytes())
 }
 
@@ -33,41 +37,41 @@ fn put_data(out: &mut Vec<u8>, parsed: &SymbolData<'_>) -> Result<(), AllocError
 {
     match parsed {
         SymbolData::ScopeEnd => out.extend_from_slice(b"ScopeEnd"),
-        SymbolData::ObjName(symbol) => put_named(out, b"ObjName ", symbol.name),
+        SymbolData::ObjName(symbol) => put_named(out, *b"ObjName ", symbol.name),
         SymbolData::RegisterVariable(_) => out.extend_from_slice(b"RegisterVariable"),
-        SymbolData::Constant(symbol) => put_named(out, b"Constant ", symbol.name),
-        SymbolData::UserDefinedType(symbol) => put_named(out, b"UserDefinedType ", symbol.name),
+        SymbolData::Constant(symbol) => put_named(out, *b"Constant ", symbol.name),
+        SymbolData::UserDefinedType(symbol) => put_named(out, *b"UserDefinedType ", symbol.name),
         SymbolData::MultiRegisterVariable(_) => out.extend_from_slice(b"MultiRegisterVariable"),
-        SymbolData::Data(symbol) => put_named(out, b"Data ", symbol.name),
-        SymbolData::Public(symbol) => put_named(out, b"Public ", symbol.name),
-        SymbolData::Procedure(symbol) => put_named(out, b"Procedure ", symbol.name),
-        SymbolData::ThreadStorage(symbol) => put_named(out, b"ThreadStorage ", symbol.name),
+        SymbolData::Data(symbol) => put_named(out, *b"Data ", symbol.name),
+        SymbolData::Public(symbol) => put_named(out, *b"Public ", symbol.name),
+        SymbolData::Procedure(symbol) => put_named(out, *b"Procedure ", symbol.name),
+        SymbolData::ThreadStorage(symbol) => put_named(out, *b"ThreadStorage ", symbol.name),
         SymbolData::CompileFlags(_) => out.extend_from_slice(b"CompileFlags"),
-        SymbolData::UsingNamespace(symbol) => put_named(out, b"UsingNamespace ", symbol.name),
+        SymbolData::UsingNamespace(symbol) => put_named(out, *b"UsingNamespace ", symbol.name),
         SymbolData::ProcedureReference(symbol) => match symbol.name {
-            Some(name) => put_named(out, b"ProcedureReference ", name),
+            Some(name) => put_named(out, *b"ProcedureReference ", name),
             None => out.extend_from_slice(b"ProcedureReference"),
         },
         SymbolData::DataReference(symbol) => match symbol.name {
-            Some(name) => put_named(out, b"DataReference ", name),
+            Some(name) => put_named(out, *b"DataReference ", name),
             None => out.extend_from_slice(b"DataReference"),
         },
         SymbolData::AnnotationReference(symbol) => put_named(
             out,
-            b"AnnotationReference ",
+            *b"AnnotationReference ",
             symbol.name,
         ),
         SymbolData::Trampoline(_) => out.extend_from_slice(b"Trampoline"),
-        SymbolData::Export(symbol) => put_named(out, b"Export ", symbol.name),
-        SymbolData::Local(symbol) => put_named(out, b"Local ", symbol.name),
+        SymbolData::Export(symbol) => put_named(out, *b"Export ", symbol.name),
+        SymbolData::Local(symbol) => put_named(out, *b"Local ", symbol.name),
         SymbolData::BuildInfo(_) => out.extend_from_slice(b"BuildInfo"),
         SymbolData::InlineSite(_) => out.extend_from_slice(b"InlineSite"),
         SymbolData::InlineSiteEnd => out.extend_from_slice(b"InlineSiteEnd"),
         SymbolData::ProcedureEnd => out.extend_from_slice(b"ProcedureEnd"),
-        SymbolData::Label(symbol) => put_named(out, b"Label ", symbol.name),
-        SymbolData::Block(symbol) => put_named(out, b"Block ", symbol.name),
-        SymbolData::RegisterRelative(symbol) => put_named(out, b"RegisterRelative ", symbol.name),
-        SymbolData::Thunk(symbol) => put_named(out, b"Thunk ", symbol.name),
+        SymbolData::Label(symbol) => put_named(out, *b"Label ", symbol.name),
+        SymbolData::Block(symbol) => put_named(out, *b"Block ", symbol.name),
+        SymbolData::RegisterRelative(symbol) => put_named(out, *b"RegisterRelative ", symbol.name),
+        SymbolData::Thunk(symbol) => put_named(out, *b"Thunk ", symbol.name),
         SymbolData::SeparatedCode(_) => out.extend_from_slice(b"SeparatedCode"),
     }
 }
