@@ -263,6 +263,38 @@ fn site(out: &mut Vec<u8>, b: &[u8], (section, start): (u16, u32), (file, first)
     }
 }
 
+/// The one part of a kind, where there is but one part.
+fn part(b: &[u8], kind: u32) -> &[u8] {
+    assert!(u32_at(b, 0) == kind);
+    &b[8..8 + u32_at(b, 4) as usize]
+}
+
+fn files(out: &mut Vec<u8>, b: &[u8]) {
+    let mut at = 0;
+    while at < b.len() {
+        let size = b[at + 4] as usize;
+        out.extend_from_slice(b"file ");
+        decimal(out, u32_at(b, at));
+        out.extend_from_slice([&b" none"[..], b" md5 ", b" sha1 ", b" sha256 "][b[at + 5] as usize]);
+        for &byte in &b[at + 6..at + 6 + size] {
+            hex(out, byte.into(), 2);
+        }
+        out.push(b'\n');
+        at += (6 + size + 3) & !3;
+    }
+}
+
+fn exports(out: &mut Vec<u8>, b: &[u8]) {
+    for row in b.chunks_exact(8) {
+        let local = u32_at(row, 0);
+        out.extend_from_slice(if local >> 31 == 1 { &b"export id "[..] } else { b"export type " });
+        hex(out, local & 0x7fff_ffff, 8);
+        out.push(b' ');
+        hex(out, u32_at(row, 4), 8);
+        out.push(b'\n');
+    }
+}
+
 /// The DBI stream, and where each module's record begins in it.
 fn modules_of(file: &File) -> (Vec<u8>, Vec<usize>) {
     let dbi = file.stream(3);
@@ -300,6 +332,8 @@ fn main() {
                 match word.as_str() {
                     "symbols" => symbols(&mut out, own, 4),
                     "lines" => lines(&mut out, data),
+                    "files" => files(&mut out, part(data, 0xf4)),
+                    "exports" => exports(&mut out, part(data, 0xf8)),
                     _ => inlinees(&mut out, own, data),
                 }
             }
