@@ -48,6 +48,27 @@ impl Write for Slow {
     }
 }
 
+/// A reader that gives as much as it is asked for, until it has given so many bytes.
+#[derive(Drop)]
+pub struct Plenty {
+    left: usize,
+}
+
+impl Plenty {
+    pub fn of(left: usize) -> Self {
+        Plenty { left }
+    }
+}
+
+impl Read for Plenty {
+    fn read(&mut self, buf: &mut [u8]) -> io::Result<usize> {
+        let count = buf.len().min(self.left);
+        buf[..count].fill(b'p');
+        self.left -= count;
+        Ok(count)
+    }
+}
+
 /// A reader that gives three bytes a call for some calls, and then ends or fails.
 #[derive(Drop)]
 pub struct ThreeBytes {

@@ -1,11 +1,11 @@
 //! A file, read whole.
 
-ghost use Rattle.std.specs.Prelude.{◌≡◌, ◌≤◌, ◌⊎◌, ◌+◌, ◌++◌, length, IfOk, IfErr, OnOk, vec_len};
+ghost use Rattle.std.specs.Prelude.{◌≡◌, ◌≤◌, ◌<◌, ◌⊎◌, ◌+◌, drop, take, length, IfOk, IfErr, OnOk, vec_len};
 ghost use Rattle.std.specs.Io.KnownBytes.{Consumes, IsAtEnd};
 
 use crate::report::Fault;
 use std::alloc::{AllocError, Global};
-use std::io::Read;
+use std::io::{self, Read};
 
 /// The most bytes that a file may have.
 pub const MOST_BYTES: usize = 1099511627776;
@@ -13,22 +13,46 @@ pub const MOST_BYTES: usize = 1099511627776;
 /// How many bytes are asked for at a time.
 const CHUNK: usize = 16384;
 
-/// How many bytes are copied at a time.
-const PIECE: usize = 4096;
+/// By how many bytes the room for them grows at a time.
+const PIECE: usize = 2048;
 
-/// Puts bytes behind those that are there.
-fn append(all: &mut Vec<u8>, bytes: &[u8]) -> Result<(), AllocError>
-    ensures all { OnOk result (all.new.items ≡ all.old.items ++ bytes.now) }
-    ensures len { OnOk result (vec_len all.new ≡ vec_len all.old + length bytes.now) }
+/// Room for the next bytes, behind those that are there.
+fn make_room(bytes: &mut Vec<u8>) -> Result<(), AllocError>
+    ensures front { OnOk result (take (vec_len bytes.old) bytes.new.items ≡ bytes.old.items) }
+    ensures len { OnOk result (vec_len bytes.new ≡ vec_len bytes.old + 16384) }
 {
-    let mut rest = bytes;
-    while rest.len() > PIECE {
-        let (piece, behind) = rest.split_at(PIECE);
-        all.extend_from_slice(piece)?;
-        rest = behind;
+    for _ in 0..CHUNK / PIECE {
+        bytes.resize(bytes.len() + PIECE, 0)?;
     }
-    all.extend_from_slice(rest)?;
     Ok(())
+}
+
+/// The next bytes that a reader gives, put at a place; answers how many.
+fn read_at<R: Read>(bytes: &mut [u8], at: usize, input: &mut R) -> io::Result<usize>
+    requires { at < length bytes.old }
+    ensures front { take at bytes.new ≡ take at bytes.old }
+    ensures fits { IfOk result (λ n. at + n ≤ length bytes.new) }
+    ensures told { IfOk result (λ n. Consumes (R.remaining input.old) (R.remaining input.new) (take n (drop at bytes.new))) }
+    ensures end { IfOk result (λ n. n ≡ 0 → IsAtEnd (R.remaining input.new)) }
+{
+    input.read(&mut bytes[at..])
+}
+
+/// The next bytes that a reader gives, put behind those that are there; answers how many.
+fn read_more<R: Read>(bytes: &mut Vec<u8>, input: &mut R) -> Result<usize, Fault>
+    ensures front { OnOk result (take (vec_len bytes.old) bytes.new.items ≡ bytes.old.items) }
+    ensures told { OnOk result (Consumes (R.remaining input.old) (R.remaining input.new) (drop (vec_len bytes.old) bytes.new.items)) }
+    ensures len { IfOk result (λ n. vec_len bytes.new ≡ vec_len bytes.old + n) }
+    ensures end { IfOk result (λ n. n ≡ 0 → IsAtEnd (R.remaining input.new)) }
+    ensures refused { IfErr result (λ e. (e ≡ Fault.Read) ⊎ (e ≡ Fault.Memory)) }
+{
+    let at = bytes.len();
+    make_room(bytes)?;
+    let Ok(count) = read_at(bytes.as_mut_slice(), at, input) else {
+        return Err(Fault::Read);
+    };
+    bytes.truncate(at + count);
+    Ok(count)
 }
 
 /// All bytes that a reader has left, if these are at most `most`. There is room for `size` of them at once.
@@ -42,19 +66,15 @@ fn read_up_to<R: Read>(
     ensures most { IfOk result (λ v. vec_len v ≤ most) }
     ensures refused { IfErr result (λ e. (e ≡ Fault.Read) ⊎ (e ≡ Fault.Memory)) }
 {
-    let mut bytes = Vec::with_capacity(alloc, size.min(most))?;
-    let mut chunk = [0u8; CHUNK];
+    let mut bytes = Vec::with_capacity(alloc, size.min(most).saturating_add(CHUNK))?;
     loop {
-        let Ok(count) = input.read(&mut chunk) else {
-            return Err(Fault::Read);
-        };
+        let count = read_more(&mut bytes, input)?;
         if count == 0 {
             return Ok(bytes);
         }
-        if count > most - bytes.len() {
+        if bytes.len() > most {
             return Err(Fault::Read);
         }
-        append(&mut bytes, &chunk[..count])?;
     }
 }
 
@@ -71,16 +91,19 @@ pub fn read_all<R: Read>(alloc: Global, size: usize, input: &mut R) -> Result<Ve
 #[cfg(test)]
 mod tests {
     use super::*;
-    use crate::fakes::{ThreeBytes, is};
+    use crate::fakes::{Plenty, ThreeBytes, is};
 
     #[test]
     fn reads_to_the_end(rt: HostRuntime) {
         let alloc = rt.alloc();
         let read = read_all(alloc, 3, &mut ThreeBytes::ending(1)).expect(&rt, "one read");
         is(&rt, "read.as_slice()", &read.as_slice(), &b"abc".as_slice());
-        let read = read_all(alloc, 5, &mut ThreeBytes::ending(70000)).expect(&rt, "many reads");
-        is(&rt, "read.len()", &read.len(), &210000);
+        let read = read_all(alloc, 5, &mut ThreeBytes::ending(20)).expect(&rt, "many reads");
+        is(&rt, "read.len()", &read.len(), &60);
         is(&rt, "read.last()", &read.last(), &Some(&b'c'));
+        let read = read_all(alloc, 0, &mut Plenty::of(210000)).expect(&rt, "full reads");
+        is(&rt, "read.len()", &read.len(), &210000);
+        is(&rt, "read.last()", &read.last(), &Some(&b'p'));
         let read = read_all(alloc, 0, &mut ThreeBytes::ending(0)).expect(&rt, "no byte");
         assert!(rt; read.is_empty());
         is(
