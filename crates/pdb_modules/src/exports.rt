@@ -295,8 +295,9 @@ impl<'a> CrossModuleExportIter<'a> {
 }
 
 impl<'a> FallibleIterator for CrossModuleExportIter<'a> {
-    ghost use Rattle.std.specs.Prelude.{IfSome, IfNone};
+    ghost use Rattle.std.specs.Prelude.{◌≢◌, IfSome, IfNone};
     ghost use Rattle.pdb_base.specs.Left.{Yields};
+    ghost use Rattle.pdb_base.specs.declared.error.Error.TheVariants.{IoError, OutOfMemory};
     ghost use Rattle.pdb_modules.specs.declared.exports.CrossModuleExport.{CrossModuleExport};
     ghost use Rattle.pdb_modules.specs.ModuleViews.{exports_left, exports_listed, exports_steps};
 
@@ -314,9 +315,9 @@ impl<'a> FallibleIterator for CrossModuleExportIter<'a> {
         ensures listed { exports_listed self.new ≡ exports_listed self.old }
         // Each export takes eight bytes of its part.
         ensures bound { exports_steps self.new ≤ length (exports_listed self.new) }
-        ensures stepped { exports_steps self.new ≤ exports_steps self.old + 1 }
-        ensures grows { exports_steps self.old ≤ exports_steps self.new }
+        ensures stepped { IfOk result (λ o. IfSome o (λ _. exports_steps self.new ≡ exports_steps self.old + 1)) }
         ensures rests { IfOk result (λ o. IfNone o (exports_steps self.new ≡ exports_steps self.old)) }
+        ensures refused { IfErr result (λ e. (e ≢ OutOfMemory) × (e ≢ IoError)) }
     {
         if self.exports.is_empty() {
             return Ok(None);

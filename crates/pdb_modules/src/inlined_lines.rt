@@ -51,8 +51,9 @@ impl<'a> InlineeLineIterator<'a> {
 }
 
 impl<'a> FallibleIterator for InlineeLineIterator<'a> {
-    ghost use Rattle.std.specs.Prelude.{IfOk, IfErr, IfNone};
+    ghost use Rattle.std.specs.Prelude.{◌≢◌, IfOk, IfErr, IfNone};
     ghost use Rattle.pdb_base.specs.Left.{Yields};
+    ghost use Rattle.pdb_base.specs.declared.error.Error.TheVariants.{IoError, OutOfMemory};
     ghost use Rattle.pdb_modules.specs.declared.line_info.LineInfo.{LineInfo};
     ghost use Rattle.pdb_modules.specs.InlinedViews.{inlined_left, inlined_part, inlined_steps, InlinedEnded};
 
@@ -77,6 +78,7 @@ impl<'a> FallibleIterator for InlineeLineIterator<'a> {
         ensures ends { IfOk result (λ o. IfNone o (InlinedEnded self.new)) }
         ensures ends_at_fault { IfErr result (λ _. InlinedEnded self.new) }
         ensures stepped_to_fault { IfErr result (λ _. inlined_steps self.old < inlined_steps self.new) }
+        ensures refused { IfErr result (λ e. (e ≢ OutOfMemory) × (e ≢ IoError)) }
     {
         loop {
             match self.annotations.next() {
