@@ -1,7 +1,8 @@
 -- Which subsection is chosen for a place.
 use Rattle.std.proofs.Common.{◌≡◌, ℕ, zero, suc, ◌-◌, ◌<◌, ◌≤◌, Bool, true, false, cond, List, [], ◌∷◌, length, get_or, Option, Some, None, refl, sym, ap, ◌∙◌, arith}
+use Rattle.std.specs.Prelude.{not}
 use Rattle.std.proofs.lemmas.Bool.{eq-eqb, ne_eqb}
-use Rattle.std.proofs.lemmas.List.{get_or_default, get_or-map, length-map}
+use Rattle.std.proofs.lemmas.List.{get_or_default, length-map}
 use Rattle.pdb_modules.specs.declared.line_program.Listed.{Listed}
 use Rattle.pdb_modules.specs.KeptRows.{subsection_of}
 use Rattle.pdb_modules.specs.LineProgram.{listed_subsections}
@@ -69,6 +70,17 @@ is_last q ss k s l =
 
 -- ---- the search's answer, over the list that it searched
 
+pub not_so : (b : Bool) → not b ≡ true → b ≡ false
+not_so true e = absurd cc
+not_so false e = refl
+
+pub so : (b : Bool) → not b ≡ false → b ≡ true
+so true e = refl
+so false e = absurd cc
+
+abbrev nowhere : Subsection
+nowhere = record { place = record { offset = 0; section = 0 }; code_size = 0; bytes = []; entries = []; fault = None }
+
 module _ (q : PdbInternalSectionOffset) (ls : List Listed) (ss : List Subsection) (n : ℕ) (left : Left LineInfo)
     (seen : listed_subsections ls ≡ ss)
     (inside : n ≤ length ls)
@@ -86,32 +98,27 @@ module _ (q : PdbInternalSectionOffset) (ls : List Listed) (ss : List Subsection
   pub no_part : (b : List ℕ) → n ≡ 0 → b ≡ [] → b ≡ part_for q ss
   no_part b e is = is ∙ (sym (part_of_none q (listed_subsections ls) n below above_all e) ∙ ap (part_for q) seen)
 
-  module _ (k : ℕ) (is_last : k ≡ n - 1) (some : 0 < n) (items : List Listed) (same : ls ≡ items) (l : Listed) (l_is : l ≡ get_or items k l) (p : PdbInternalSectionOffset) (p_is : p ≡ l.part.place) where
+  module _ (k : ℕ) (is_last : k ≡ n - 1) (some : 0 < n) where
     room : n ≤ length (listed_subsections ls)
     room = let c = counted in omega arith
 
     abbrev s : Subsection
-    s = subsection_of l.part
+    s = nowhere
 
-    place_is : p ≡ (get_or (listed_subsections ls) k s).place
-    place_is =
-        p_is ∙ (ap (λ (l : Listed). l.part.place) (l_is ∙ ap (λ (ls : List Listed). get_or ls k l) (sym same))
-        ∙ ap (λ (s : Subsection). s.place) (sym (get_or-map (λ (l : Listed). subsection_of l.part) ls k l s (omega arith))))
-
-    pub another_section : (p.section ≡ q.section → ⊥) → left ≡ ended → left ≡ lines_for q ss
+    pub another_section : ((d : Subsection) → (get_or (listed_subsections ls) k d).place.section ≡ q.section → ⊥) → left ≡ ended → left ≡ lines_for q ss
     another_section other is =
-        is ∙ (sym (for_other q (listed_subsections ls) n below above_all k s is_last some room (λ e. other (ap (λ (p : PdbInternalSectionOffset). p.section) place_is ∙ e))) ∙ ap (lines_for q) seen)
+        is ∙ (sym (for_other q (listed_subsections ls) n below above_all k s is_last some room (other s)) ∙ ap (lines_for q) seen)
 
-    pub same_section : p.section ≡ q.section → ((d : Subsection) → left ≡ lines_of (get_or ss k d ∷ [])) → left ≡ lines_for q ss
+    pub same_section : ((d : Subsection) → (get_or (listed_subsections ls) k d).place.section ≡ q.section) → ((d : Subsection) → left ≡ lines_of (get_or ss k d ∷ [])) → left ≡ lines_for q ss
     same_section e is =
         is s ∙ (ap (λ (ss : List Subsection). lines_of (get_or ss k s ∷ [])) (sym seen)
-        ∙ (sym (for_one q (listed_subsections ls) n below above_all k s is_last some room (ap (λ (p : PdbInternalSectionOffset). p.section) (sym place_is) ∙ e)) ∙ ap (lines_for q) seen))
+        ∙ (sym (for_one q (listed_subsections ls) n below above_all k s is_last some room (e s)) ∙ ap (lines_for q) seen))
 
-    pub part_elsewhere : (b : List ℕ) → (p.section ≡ q.section → ⊥) → b ≡ [] → b ≡ part_for q ss
+    pub part_elsewhere : (b : List ℕ) → ((d : Subsection) → (get_or (listed_subsections ls) k d).place.section ≡ q.section → ⊥) → b ≡ [] → b ≡ part_for q ss
     part_elsewhere b other is =
-        is ∙ (sym (part_of_other q (listed_subsections ls) n below above_all k s is_last some room (λ e. other (ap (λ (p : PdbInternalSectionOffset). p.section) place_is ∙ e))) ∙ ap (part_for q) seen)
+        is ∙ (sym (part_of_other q (listed_subsections ls) n below above_all k s is_last some room (other s)) ∙ ap (part_for q) seen)
 
-    pub part_here : (b : List ℕ) → p.section ≡ q.section → ((d : Subsection) → b ≡ (get_or ss k d).bytes) → b ≡ part_for q ss
+    pub part_here : (b : List ℕ) → ((d : Subsection) → (get_or (listed_subsections ls) k d).place.section ≡ q.section) → ((d : Subsection) → b ≡ (get_or ss k d).bytes) → b ≡ part_for q ss
     part_here b e is =
         is s ∙ (ap (λ (ss : List Subsection). (get_or ss k s).bytes) (sym seen)
-        ∙ (sym (part_of_one q (listed_subsections ls) n below above_all k s is_last some room (ap (λ (p : PdbInternalSectionOffset). p.section) (sym place_is) ∙ e)) ∙ ap (part_for q) seen))
+        ∙ (sym (part_of_one q (listed_subsections ls) n below above_all k s is_last some room (e s)) ∙ ap (part_for q) seen))

@@ -1,5 +1,5 @@
 -- Faults of blocks of lines: they are the bytes' own, neither want of memory nor a failure of the source.
-use Rattle.std.proofs.Common.{◌≡◌, ◌≢◌, ℕ, ◌+◌, ◌-◌, ◌*◌, Bool, true, false, cond, List, [], ◌∷◌, length, get_or, take, drop, Option, Some, None, Result, Ok, Err, refl, sym, ◌∙◌}
+use Rattle.std.proofs.Common.{◌≡◌, ◌≢◌, ℕ, ◌+◌, ◌-◌, ◌*◌, Bool, true, false, cond, List, [], ◌∷◌, length, take, drop, Option, Some, None, Result, Ok, Err, sym, ◌∙◌}
 use Rattle.std.specs.Prelude.{nat_le, nat_lt}
 use Rattle.std.specs.Option.{ForSome}
 use Rattle.pdb_base.specs.declared.error.Error.{Error}
@@ -10,8 +10,8 @@ use Rattle.pdb_base.specs.Reading.{refusal}
 use Rattle.pdb_base.specs.Refusal.{◌>>=◌}
 use Rattle.pdb_base.specs.Tiling.{end_of, tiling, listing}
 use Rattle.pdb_modules.specs.declared.line_program.Listed.{Listed}
-use Rattle.pdb_modules.specs.Blocks.{LineBlock, entry_width, block_in, block_behind, block_at, blocks, blocks_from}
-use Rattle.pdb_modules.specs.Lines.{Subsection, first_of, program_fault, lines_of}
+use Rattle.pdb_modules.specs.Blocks.{entry_width, block_in, block_behind, block_at, blocks, blocks_from}
+use Rattle.pdb_modules.specs.Lines.{first_of, program_fault, lines_of}
 use Rattle.pdb_modules.specs.KeptRows.{subsection_of}
 use Rattle.pdb_modules.specs.LineProgram.{listed_subsections}
 use Rattle.pdb_modules.proofs.Faults.{fault_of_lines}
