@@ -68,6 +68,53 @@ is_last q ss k s l =
     upto_some q ss k s l.there (ap (λ (s : Subsection). is_upto s.place q) l.is ∙ l.upto) (λ j e m n. ap (λ (s : Subsection). is_upto s.place q) (get_or_default ss j e s n) ∙ l.last j m n)
     ∙ ap Some l.is
 
+-- none is chosen where all stand behind the place
+none_before : (b : Bool) (s : Subsection) → cond b (Some s) None ≡ None → b ≡ false
+none_before true s e = absurd cc
+none_before false s e = refl
+
+pub all_behind : (q : PdbInternalSectionOffset) (ss : List Subsection) → last_upto q ss ≡ None → (k : ℕ) (d : Subsection) → k < length ss → is_upto (get_or ss k d).place q ≡ false
+all_behind q [] e k d h = absurd (omega arith)
+all_behind q (x ∷ ss) e k d h = by_rest (last_upto q ss) refl e k h (λ f k h. all_behind q ss f k d h)
+  where
+    Behind : Type 0
+    Behind = last_upto q ss ≡ None → (k : ℕ) → k < length ss → is_upto (get_or ss k d).place q ≡ false
+
+    by_rest : (o : Option Subsection) → last_upto q ss ≡ o → later o (cond (is_upto x.place q) (Some x) None) ≡ None → (k : ℕ) → k < length (x ∷ ss) → Behind → is_upto (get_or (x ∷ ss) k d).place q ≡ false
+    by_rest (Some t) f e k h rest = absurd cc
+    by_rest None f e zero h rest = none_before (is_upto x.place q) x e
+    by_rest None f e (suc k) h rest = rest f k (omega arith)
+
+-- and the one that is chosen is the last one at or before it
+abbrev Chosen : PdbInternalSectionOffset → List Subsection → Subsection → Type 0
+Chosen q ss s = (k : ℕ) × IsLastUpto q ss k s
+
+one_further : (q : PdbInternalSectionOffset) (x : Subsection) (ss : List Subsection) (k : ℕ) (s : Subsection) → IsLastUpto q ss k s → IsLastUpto q (x ∷ ss) (suc k) s
+one_further q x ss k s l = record { there = let t = l.there in omega arith; is = l.is; upto = l.upto; last = last }
+  where
+    last : (j : ℕ) → suc k < j → j < length (x ∷ ss) → is_upto (get_or (x ∷ ss) j s).place q ≡ false
+    last zero h i = absurd (omega arith)
+    last (suc j) h i = l.last j (omega arith) (omega arith)
+
+first_alone : (q : PdbInternalSectionOffset) (s : Subsection) (ss : List Subsection) → is_upto s.place q ≡ true → last_upto q ss ≡ None → IsLastUpto q (s ∷ ss) 0 s
+first_alone q s ss upto none = record { there = omega arith; is = refl; upto = upto; last = last }
+  where
+    last : (j : ℕ) → 0 < j → j < length (s ∷ ss) → is_upto (get_or (s ∷ ss) j s).place q ≡ false
+    last zero h i = absurd (omega arith)
+    last (suc j) h i = all_behind q ss none j s (omega arith)
+
+pub last_found : (q : PdbInternalSectionOffset) (ss : List Subsection) (s : Subsection) → last_upto q ss ≡ Some s → Chosen q ss s
+last_found q [] s e = absurd cc
+last_found q (x ∷ ss) s e = by_rest (last_upto q ss) refl e (λ f. last_found q ss s f)
+  where
+    here : (b : Bool) → is_upto x.place q ≡ b → last_upto q ss ≡ None → cond b (Some x) None ≡ Some s → Chosen q (x ∷ ss) s
+    here true u none e = let same : x ≡ s = cc in (0, rw (← same) (first_alone q x ss u none))
+    here false u none e = absurd cc
+
+    by_rest : (o : Option Subsection) → last_upto q ss ≡ o → later o (cond (is_upto x.place q) (Some x) None) ≡ Some s → (last_upto q ss ≡ Some s → Chosen q ss s) → Chosen q (x ∷ ss) s
+    by_rest (Some t) f e rest = let same : t ≡ s = cc in let found = rest (f ∙ ap Some same) in (suc found.0, one_further q x ss found.0 s found.1)
+    by_rest None f e rest = here (is_upto x.place q) refl f e
+
 -- ---- the search's answer, over the list that it searched
 
 pub not_so : (b : Bool) → not b ≡ true → b ≡ false
