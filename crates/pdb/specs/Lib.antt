@@ -40,6 +40,12 @@ pub use Rattle.pdb_symbols.specs.Flags
 pub use Rattle.pdb_symbols.specs.Languages
 pub use Rattle.pdb_symbols.specs.Processors
 pub use Rattle.pdb_symbols.specs.Scopes
+pub use Rattle.pdb_items.specs.Items
+pub use Rattle.pdb_items.specs.IdForms
+pub use Rattle.pdb_items.specs.Ids
+pub use Rattle.pdb_items.specs.TypeNames
+pub use Rattle.pdb_items.specs.Qualified
+pub use Rattle.pdb_items.specs.ItemViews
 pub use Rattle.pdb_modules.specs.ModuleStream
 pub use Rattle.pdb_modules.specs.ModuleViews
 pub use Rattle.pdb_modules.specs.LineProgram

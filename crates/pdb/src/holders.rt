@@ -3,13 +3,15 @@
 ghost use Rattle.std.specs.Prelude.{◌≡◌};
 ghost use Rattle.std.specs.Option.{option_map};
 
-use pdb_base::{ImageSectionHeader, Stream};
+use pdb_base::{ImageSectionHeader, Result, Stream};
+use pdb_items::{ItemFinder, ItemIter};
+use std::alloc::Global;
 use std::marker::Model;
 
-/// The stream of type records, stream 2, unparsed. A contract sees it as the list of its bytes.
+/// The stream of type records, stream 2 (TPI). A contract sees it as the list of its bytes.
 #[derive(Drop)]
 pub struct TypeInformation<'s> {
-    stream: Stream<'s>,
+    types: Stream<'s>,
 }
 
 impl<'s> Model for TypeInformation<'s> {
@@ -17,28 +19,51 @@ impl<'s> Model for TypeInformation<'s> {
 
     ghost Value = { List ℕ };
 
-    ghost view = { λ t. t.stream };
+    ghost view = { λ t. t.types };
 }
 
 impl<'s> TypeInformation<'s> {
-    pub(crate) fn new(stream: Stream<'s>) -> Self
-        ensures { result ≡ stream.entry }
+    ghost use Rattle.std.specs.Prelude.{IfOk, Ok};
+    ghost use Rattle.pdb_base.specs.Refusal.{Answers, Gives};
+    ghost use Rattle.pdb_items.specs.Items.{item_records_of, items_in, known_items_in};
+    ghost use Rattle.pdb_items.specs.ItemViews.{items_left, items_bytes, items_steps};
+
+    pub(crate) fn new(types: Stream<'s>) -> Self
+        ensures { result ≡ types.entry }
     {
-        TypeInformation { stream }
+        TypeInformation { types }
     }
 
     /// The stream.
     pub fn stream(&self) -> &Stream<'s>
         ensures { result.now ≡ self.now }
     {
-        &self.stream
+        &self.types
+    }
+
+    /// The types, in the order of their indices. `UnexpectedEof` where the stream's header of 56 bytes isn't there, or
+    /// the bytes of the records that it tells.
+    pub fn iter(&self) -> Result<ItemIter<'_>>
+        ensures left { Answers items_left result (items_in self.now) }
+        ensures bytes { IfOk result (λ it. item_records_of self.now ≡ Ok (items_bytes it)) }
+        ensures steps { IfOk result (λ it. items_steps it ≡ 0) }
+    {
+        ItemIter::new(self.types.as_slice())
+    }
+
+    /// The types up to the first fault, found by their indices. It is refused as `iter` is, and takes four bytes of
+    /// memory for each item that was seen.
+    pub fn finder(&self, alloc: Global) -> Result<ItemFinder<'_>>
+        ensures { Gives (λ f. f) ⊥ result (known_items_in self.now) }
+    {
+        ItemFinder::new(alloc, self.types.as_slice())
     }
 }
 
-/// The stream of id records, stream 4, unparsed. A contract sees it as the list of its bytes.
+/// The stream of id records, stream 4 (IPI). A contract sees it as the list of its bytes.
 #[derive(Drop)]
 pub struct IdInformation<'s> {
-    stream: Stream<'s>,
+    ids: Stream<'s>,
 }
 
 impl<'s> Model for IdInformation<'s> {
@@ -46,21 +71,44 @@ impl<'s> Model for IdInformation<'s> {
 
     ghost Value = { List ℕ };
 
-    ghost view = { λ i. i.stream };
+    ghost view = { λ i. i.ids };
 }
 
 impl<'s> IdInformation<'s> {
-    pub(crate) fn new(stream: Stream<'s>) -> Self
-        ensures { result ≡ stream.entry }
+    ghost use Rattle.std.specs.Prelude.{IfOk, Ok};
+    ghost use Rattle.pdb_base.specs.Refusal.{Answers, Gives};
+    ghost use Rattle.pdb_items.specs.Items.{item_records_of, items_in, known_items_in};
+    ghost use Rattle.pdb_items.specs.ItemViews.{items_left, items_bytes, items_steps};
+
+    pub(crate) fn new(ids: Stream<'s>) -> Self
+        ensures { result ≡ ids.entry }
     {
-        IdInformation { stream }
+        IdInformation { ids }
     }
 
     /// The stream.
     pub fn stream(&self) -> &Stream<'s>
         ensures { result.now ≡ self.now }
     {
-        &self.stream
+        &self.ids
+    }
+
+    /// The ids, in the order of their indices. `UnexpectedEof` where the stream's header of 56 bytes isn't there, or
+    /// the bytes of the records that it tells.
+    pub fn iter(&self) -> Result<ItemIter<'_>>
+        ensures left { Answers items_left result (items_in self.now) }
+        ensures bytes { IfOk result (λ it. item_records_of self.now ≡ Ok (items_bytes it)) }
+        ensures steps { IfOk result (λ it. items_steps it ≡ 0) }
+    {
+        ItemIter::new(self.ids.as_slice())
+    }
+
+    /// The ids up to the first fault, found by their indices. It is refused as `iter` is, and takes four bytes of
+    /// memory for each item that was seen.
+    pub fn finder(&self, alloc: Global) -> Result<ItemFinder<'_>>
+        ensures { Gives (λ f. f) ⊥ result (known_items_in self.now) }
+    {
+        ItemFinder::new(alloc, self.ids.as_slice())
     }
 }
 

@@ -171,7 +171,7 @@ impl<'s, S: Source<'s>> PDB<'s, S> {
         Ok(SymbolTable::new(stream))
     }
 
-    /// The stream of type records, stream 2, unparsed.
+    /// The stream of type records, stream 2.
     pub fn type_information(&mut self) -> Result<TypeInformation<'s>>
         ensures continues { Continues self.old self.new }
         ensures answer { Gives (λ t. t) (MayFail self.old self.new) result (stream_of self.old.file 2 None) }
@@ -179,7 +179,7 @@ impl<'s, S: Source<'s>> PDB<'s, S> {
         Ok(TypeInformation::new(self.msf.get(TYPE_STREAM, None)?))
     }
 
-    /// The stream of id records, stream 4, unparsed.
+    /// The stream of id records, stream 4.
     pub fn id_information(&mut self) -> Result<IdInformation<'s>>
         ensures continues { Continues self.old self.new }
         ensures answer { Gives (λ i. i) (MayFail self.old self.new) result (stream_of self.old.file 4 None) }

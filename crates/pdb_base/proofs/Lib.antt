@@ -14,3 +14,4 @@ pub mod HeadLemmas
 pub mod OpenLemmas
 pub mod Fronts
 pub mod ZeroRuns
+pub mod Layouts

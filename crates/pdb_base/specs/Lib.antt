@@ -15,3 +15,4 @@ pub mod Heads
 pub mod StringTable
 pub mod SectionHeader
 pub mod Runs
+pub mod Layouts

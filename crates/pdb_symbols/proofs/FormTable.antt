@@ -7,7 +7,8 @@ use Rattle.pdb_symbols.specs.Data.{Data}
 use Rattle.pdb_symbols.specs.Data.Data.{ScopeEnd, InlineSiteEnd, ProcedureEnd}
 use Rattle.pdb_symbols.specs.FormTable.{laid, IsOf, read_of}
 use Rattle.pdb_symbols.specs.Groups.{thunk_tail}
-use Rattle.pdb_symbols.proofs.Layouts.{Tells, Ends, then_tells, behind_tells, together_tells, grouped_tells, by_kind_tells, given_tells, saying_tells, times_tells, nothing_tells, number_tells, number_as_tells, signed_tells, offset_tells, variant_tells, name_tells, cstring_tells, optional_name_tells, rest_tells, then_ends, behind_ends, together_ends, grouped_ends, by_kind_ends, given_ends, saying_ends, times_ends, nothing_ends, number_ends, number_as_ends, signed_ends, offset_ends, name_ends, cstring_ends, optional_name_ends, rest_ends}
+use Rattle.pdb_base.proofs.Layouts.{Tells, Ends, then_tells, behind_tells, together_tells, grouped_tells, by_kind_tells, given_tells, saying_tells, times_tells, nothing_tells, number_tells, number_as_tells, signed_tells, variant_tells, cstring_tells, rest_tells, then_ends, behind_ends, together_ends, grouped_ends, by_kind_ends, given_ends, saying_ends, times_ends, nothing_ends, number_ends, number_as_ends, signed_ends, cstring_ends, rest_ends}
+use Rattle.pdb_symbols.proofs.Parts.{offset_tells, name_tells, optional_name_tells, offset_ends, name_ends, optional_name_ends}
 
 thunk_tail_tells : (n : ℕ) → Tells (thunk_tail n)
 unfolding thunk_tail

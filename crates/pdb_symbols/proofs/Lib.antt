@@ -1,5 +1,4 @@
 pub mod Parts
-pub mod Layouts
 pub mod FormTable
 pub mod Records
 pub mod Memory

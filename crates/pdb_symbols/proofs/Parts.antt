@@ -11,7 +11,8 @@ use Rattle.pdb_base.specs.Refusal.{◌>>=◌}
 use Rattle.pdb_base.specs.Fields.{bytes_at, cstring_at, pascal_at}
 use Rattle.pdb_base.specs.Places.{IsCString, IsPascal}
 use Rattle.pdb_base.proofs.Places.{bind_ok, OnlyEof, bind_eof, ok_eof, number_is, is_number, number_eof, pascal_is, is_pascal, pascal_eof, cstring_is, is_cstring, cstring_eof}
-use Rattle.pdb_symbols.specs.Parts.{IsOffset, IsName, IsOptionalName, offset_at, name_at, optional_name_at}
+use Rattle.pdb_base.proofs.Layouts.{Tells, Ends}
+use Rattle.pdb_symbols.specs.Parts.{IsOffset, IsName, IsOptionalName, offset_at, name_at, optional_name_at, offset, name, optional_name}
 
 pub offset_is : (b : List ℕ) (p : ℕ) (o : PdbInternalSectionOffset) → offset_at b p ≡ Ok o → IsOffset b p o
 unfolding offset_at
@@ -80,6 +81,26 @@ optional_eof_at false b p = bind_eof _ _ (cstring_eof b p) (λ _. ok_eof _)
 pub optional_name_eof : (kind : ℕ) (b : List ℕ) (p : ℕ) → OnlyEof (optional_name_at kind b p)
 unfolding optional_name_at
 optional_name_eof kind b p = optional_eof_at (nat_lt kind 0x1100) b p
+
+-- ---- the same as parts of layouts
+
+pub offset_tells : Tells offset
+offset_tells = record { is = λ kind b i x e. offset_is b i x e; reads = λ kind b i x h. is_offset b i x h }
+
+pub name_tells : Tells name
+name_tells = record { is = λ kind b i x e. name_is kind b i x e; reads = λ kind b i x h. is_name kind b i x h }
+
+pub optional_name_tells : Tells optional_name
+optional_name_tells = record { is = λ kind b i x e. optional_name_is kind b i x e; reads = λ kind b i x h. is_optional_name kind b i x h }
+
+pub offset_ends : Ends offset
+offset_ends = record { eof = λ kind b i. offset_eof b i }
+
+pub name_ends : Ends name
+name_ends = record { eof = λ kind b i. name_eof kind b i }
+
+pub optional_name_ends : Ends optional_name
+optional_name_ends = record { eof = λ kind b i. optional_name_eof kind b i }
 
 -- ---- the bytes that are left
 

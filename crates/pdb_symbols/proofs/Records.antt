@@ -12,7 +12,7 @@ use Rattle.pdb_symbols.specs.declared.form.Form.TheVariants as form
 use Rattle.pdb_symbols.specs.Kinds.{row}
 use Rattle.pdb_symbols.specs.Data.{Data}
 use Rattle.pdb_symbols.specs.FormTable.{read_of}
-use Rattle.pdb_symbols.specs.Layouts.{together_at}
+use Rattle.pdb_base.specs.Layouts.{together_at}
 use Rattle.pdb_symbols.specs.Forms.{kind_at, IsForm, Is, IsUnlistedPrefix, Refusal, fields_at, record_at}
 use Rattle.pdb_symbols.proofs.Parts.{name_eof}
 use Rattle.pdb_symbols.proofs.FormTable.{of_is, is_of, form_ends, ends_of}

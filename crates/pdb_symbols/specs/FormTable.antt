@@ -9,7 +9,8 @@ use Rattle.pdb_symbols.specs.Data.Data.{ScopeEnd, ObjName, RegisterVariable, Con
 use Rattle.pdb_symbols.specs.Flags.{has}
 use Rattle.pdb_symbols.specs.Groups.{symbol_index, type_index, id_index, register, typed_value, local_flags, register_count, named_register, procedure_flags, scope, body, typed, span, site, invocation_count, separated_code_flags, two_places, thunk_head, thunk_does, trampoline_type, export_flags, compiled_for, versions}
 use Rattle.pdb_symbols.specs.Kinds.{is_in}
-use Rattle.pdb_symbols.specs.Layouts.{Part, ◌▷◌, behind, times, nothing, number, number_as, signed, offset, name, optional_name, rest}
+use Rattle.pdb_base.specs.Layouts.{Part, ◌▷◌, behind, times, nothing, number, number_as, signed, rest}
+use Rattle.pdb_symbols.specs.Parts.{offset, name, optional_name}
 use Rattle.pdb_symbols.specs.Parts.{module_of}
 
 -- a form: how its records are laid out behind the kind, and what their parts say in a record of a kind

@@ -21,7 +21,8 @@ use Rattle.pdb_symbols.specs.Data.ThunkDoes.{NoType, Adjustor, VCall, PCode, Loa
 use Rattle.pdb_symbols.specs.Flags.{procedure_flags_of, compile_flags_of, local_flags_of, export_flags_of, separated_code_flags_of}
 use Rattle.pdb_symbols.specs.Kinds.{is_in}
 use Rattle.pdb_symbols.specs.Languages.{language_of}
-use Rattle.pdb_symbols.specs.Layouts.{Part, ◌▷◌, by_kind, given, saying, together, grouped, cstring, number, number_as, offset, variant, name}
+use Rattle.pdb_base.specs.Layouts.{Part, ◌▷◌, by_kind, given, saying, together, grouped, cstring, number, number_as, variant}
+use Rattle.pdb_symbols.specs.Parts.{offset, name}
 use Rattle.pdb_symbols.specs.Processors.{cpu_of}
 
 -- ---- indices

@@ -7,7 +7,6 @@ pub mod Annotations
 pub mod AnnotationViews
 pub mod Data
 pub mod Parts
-pub mod Layouts
 pub mod Groups
 pub mod FormTable
 pub mod Forms

@@ -1,10 +1,11 @@
 -- Parts that several forms have: what is read at a place, and what stands there as facts on places.
-use Rattle.std.specs.Prelude.{ℕ, ◌+◌, ◌-◌, ◌<◌, ◌≤◌, List, Option, Some, None, Result, Ok, MatchBool, nat_lt, ◌==◌, if◌then◌else◌}
+use Rattle.std.specs.Prelude.{ℕ, ◌+◌, ◌-◌, ◌<◌, ◌≤◌, List, length, Option, Some, None, Result, Ok, MatchBool, nat_lt, ◌==◌, if◌then◌else◌}
 use Rattle.pdb_base.specs.declared.error.Error.{Error}
 use Rattle.pdb_base.specs.declared.index.PdbInternalSectionOffset.{PdbInternalSectionOffset}
 use Rattle.pdb_base.specs.Refusal.{◌>>=◌}
 use Rattle.pdb_base.specs.Fields.{number_at, cstring_at, pascal_at}
 use Rattle.pdb_base.specs.Places.{IsNumber, IsCString, IsPascal}
+use Rattle.pdb_base.specs.Layouts.{Part, width_given, cstring}
 
 -- 0 is no module, and any other number the module before it
 abbrev pub module_of : ℕ → Option ℕ
@@ -42,3 +43,15 @@ optional_name_at kind b p = if nat_lt kind 0x1100 then Ok None else cstring_at b
 
 abbrev pub module_at : List ℕ → ℕ → Result (Option ℕ) Error
 module_at b p = number_at b p 2 >>= (λ n. Ok (module_of n))
+
+-- ---- the same as parts of layouts
+
+abbrev pub offset : Part PdbInternalSectionOffset
+offset = record { at = λ kind b i. offset_at b i; Stands = λ kind b i o. IsOffset b i o; width = λ kind b i o. 6 }
+
+abbrev pub name : Part (List ℕ)
+name = record { at = λ kind b i. name_at kind b i; Stands = λ kind b i s. IsName kind b i s; width = λ kind b i s. length s + 1 }
+
+-- a name that kinds below 0x1100 have not
+abbrev pub optional_name : Part (Option (List ℕ))
+optional_name = record { at = λ kind b i. optional_name_at kind b i; Stands = λ kind b i s. IsOptionalName kind b i s; width = λ kind b i s. width_given cstring kind b i s }

@@ -3,7 +3,7 @@
 ghost use Rattle.std.specs.Prelude.{◌≡◌};
 ghost use Rattle.pdb_base.specs.Refusal.{Answers};
 ghost use Rattle.pdb_symbols.specs.Data.{shown};
-ghost use Rattle.pdb_symbols.specs.Layouts.{ReadsPart};
+ghost use Rattle.pdb_base.specs.Layouts.{ReadsPart};
 ghost use Rattle.pdb_symbols.specs.Groups.{compiled_for, three_numbers, qfe, version, versions, version_parts};
 ghost use Rattle.pdb_symbols.specs.FormTable.{read_of};
 ghost use Rattle.pdb_symbols.specs.declared.form.Form.TheVariants as form;
@@ -94,7 +94,7 @@ pub(crate) fn parse_obj_name<'t>(kind: u16, buffer: &mut ParseBuffer<'t>) -> Res
 
 // A language, flags, a byte that is unused, and a processor.
 #[inline]
-#[tactic(auto, unfolding(crate::specs::Layouts::grouped_at))]
+#[tactic(auto, unfolding(pdb_base::specs::Layouts::grouped_at))]
 fn parse_compiled_for(
     kind: u16,
     buffer: &mut ParseBuffer<'_>,
@@ -109,7 +109,7 @@ fn parse_compiled_for(
 }
 
 #[inline]
-#[tactic(auto, unfolding(crate::specs::Layouts::together_at))]
+#[tactic(auto, unfolding(pdb_base::specs::Layouts::together_at))]
 fn parse_three_numbers(buffer: &mut ParseBuffer<'_>) -> Result<(u16, u16, u16)>
     ensures { ReadsPart (λ x. (x.0, (x.1, x.2))) three_numbers 0 buffer.old buffer.new result }
 {
@@ -132,7 +132,7 @@ fn parse_qfe(kind: u16, buffer: &mut ParseBuffer<'_>) -> Result<Option<u16>>
 }
 
 #[inline]
-#[tactic(auto, unfolding(crate::specs::Layouts::grouped_at))]
+#[tactic(auto, unfolding(pdb_base::specs::Layouts::grouped_at))]
 fn parse_version(kind: u16, buffer: &mut ParseBuffer<'_>) -> Result<CompilerVersion>
     ensures { ReadsPart version_parts version kind buffer.old buffer.new result }
 {
@@ -148,7 +148,7 @@ fn parse_version(kind: u16, buffer: &mut ParseBuffer<'_>) -> Result<CompilerVers
 
 // The versions of the front end and of the back end.
 #[inline]
-#[tactic(auto, unfolding(crate::specs::Layouts::grouped_at))]
+#[tactic(auto, unfolding(pdb_base::specs::Layouts::grouped_at))]
 fn parse_versions(
     kind: u16,
     buffer: &mut ParseBuffer<'_>,

@@ -6,7 +6,7 @@ ghost use Rattle.pdb_base.specs.Cursor.{Reads};
 ghost use Rattle.pdb_base.specs.Refusal.{Answers};
 ghost use Rattle.pdb_base.specs.Text.{name_bytes};
 ghost use Rattle.pdb_symbols.specs.Parts.{offset_at, name_at, optional_name_at, module_at};
-ghost use Rattle.pdb_symbols.specs.Layouts.{ReadsPart, rest};
+ghost use Rattle.pdb_base.specs.Layouts.{ReadsPart, rest};
 ghost use Rattle.pdb_symbols.specs.Groups.{optional_index, span, two_places};
 
 use pdb_base::{ParseBuffer, PdbInternalSectionOffset, RawString, Result, SymbolIndex};
@@ -89,7 +89,7 @@ pub(crate) fn parse_rest<'t>(buffer: &mut ParseBuffer<'t>) -> Result<&'t [u8]>
 
 // Parent, end and a length.
 #[inline]
-#[tactic(auto, unfolding(crate::specs::Layouts::together_at))]
+#[tactic(auto, unfolding(pdb_base::specs::Layouts::together_at))]
 pub(crate) fn parse_span(buffer: &mut ParseBuffer<'_>) -> Result<(SymbolIndex, SymbolIndex, u32)>
     ensures { ReadsPart (λ x. (x.0, (x.1, x.2))) span 0 buffer.old buffer.new result }
 {
@@ -101,7 +101,7 @@ pub(crate) fn parse_span(buffer: &mut ParseBuffer<'_>) -> Result<(SymbolIndex, S
 
 // Two places: the offset of each, and behind them the section of each.
 #[inline]
-#[tactic(auto, unfolding(crate::specs::Layouts::together_at))]
+#[tactic(auto, unfolding(pdb_base::specs::Layouts::together_at))]
 pub(crate) fn parse_two_places(
     buffer: &mut ParseBuffer<'_>,
 ) -> Result<(PdbInternalSectionOffset, PdbInternalSectionOffset)>

@@ -3,7 +3,7 @@
 ghost use Rattle.std.specs.Prelude.{◌≡◌};
 ghost use Rattle.pdb_base.specs.Refusal.{Answers};
 ghost use Rattle.pdb_symbols.specs.Data.{shown};
-ghost use Rattle.pdb_symbols.specs.Layouts.{ReadsPart};
+ghost use Rattle.pdb_base.specs.Layouts.{ReadsPart};
 ghost use Rattle.pdb_symbols.specs.Groups.{procedure_flags, scope, body, typed, site, invocation_count};
 ghost use Rattle.pdb_symbols.specs.FormTable.{read_of};
 ghost use Rattle.pdb_symbols.specs.declared.form.Form.TheVariants as form;
@@ -112,7 +112,7 @@ pub struct SeparatedCodeSymbol {
 
 // Parent, end and next.
 #[inline]
-#[tactic(auto, unfolding(crate::specs::Layouts::together_at))]
+#[tactic(auto, unfolding(pdb_base::specs::Layouts::together_at))]
 pub(crate) fn parse_scope(
     buffer: &mut ParseBuffer<'_>,
 ) -> Result<(Option<SymbolIndex>, SymbolIndex, Option<SymbolIndex>)>
@@ -126,7 +126,7 @@ pub(crate) fn parse_scope(
 
 // A procedure's length, and where its body begins and ends.
 #[inline]
-#[tactic(auto, unfolding(crate::specs::Layouts::together_at))]
+#[tactic(auto, unfolding(pdb_base::specs::Layouts::together_at))]
 fn parse_body(buffer: &mut ParseBuffer<'_>) -> Result<(u32, u32, u32)>
     ensures { ReadsPart (λ x. (x.0, (x.1, x.2))) body 0 buffer.old buffer.new result }
 {
@@ -146,7 +146,7 @@ fn parse_procedure_flags(buffer: &mut ParseBuffer<'_>) -> Result<ProcedureFlags>
 
 // A procedure's type, its place and its flags.
 #[inline]
-#[tactic(auto, unfolding(crate::specs::Layouts::together_at))]
+#[tactic(auto, unfolding(pdb_base::specs::Layouts::together_at))]
 fn parse_typed(
     buffer: &mut ParseBuffer<'_>,
 ) -> Result<(TypeIndex, PdbInternalSectionOffset, ProcedureFlags)>
@@ -186,7 +186,7 @@ pub(crate) fn parse_procedure<'t>(kind: u16, buffer: &mut ParseBuffer<'t>) -> Re
 
 // Parent, end and inlinee.
 #[inline]
-#[tactic(auto, unfolding(crate::specs::Layouts::together_at))]
+#[tactic(auto, unfolding(pdb_base::specs::Layouts::together_at))]
 fn parse_site(buffer: &mut ParseBuffer<'_>) -> Result<(Option<SymbolIndex>, SymbolIndex, IdIndex)>
     ensures { ReadsPart (λ x. (x.0, (x.1, x.2))) site 0 buffer.old buffer.new result }
 {

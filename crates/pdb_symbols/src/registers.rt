@@ -3,7 +3,7 @@
 ghost use Rattle.std.specs.Prelude.{◌≡◌};
 ghost use Rattle.pdb_symbols.specs.Data.{shown, shown_register, shown_registers};
 ghost use Rattle.pdb_symbols.specs.Groups.{named_register, register_count};
-ghost use Rattle.pdb_symbols.specs.Layouts.{ReadsPart, list_at};
+ghost use Rattle.pdb_base.specs.Layouts.{ReadsPart, list_at};
 ghost use Rattle.pdb_symbols.specs.FormTable.{read_of};
 ghost use Rattle.pdb_symbols.specs.Memory.{Parses};
 ghost use Rattle.pdb_symbols.specs.declared.form.Form.TheVariants as form;

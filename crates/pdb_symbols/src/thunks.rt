@@ -3,7 +3,7 @@
 ghost use Rattle.std.specs.Prelude.{◌≡◌};
 ghost use Rattle.pdb_base.specs.Refusal.{Answers};
 ghost use Rattle.pdb_symbols.specs.Data.{shown, shown_thunk_kind, adjustor_delta, adjustor_target};
-ghost use Rattle.pdb_symbols.specs.Layouts.{ReadsPart};
+ghost use Rattle.pdb_base.specs.Layouts.{ReadsPart};
 ghost use Rattle.pdb_symbols.specs.Groups.{thunk_place, thunk_head, thunk_does, trampoline_of};
 ghost use Rattle.pdb_symbols.specs.FormTable.{read_of};
 ghost use Rattle.pdb_symbols.specs.declared.form.Form.TheVariants as form;
@@ -113,7 +113,7 @@ pub struct TrampolineSymbol {
 
 // A place, a length and an ordinal.
 #[inline]
-#[tactic(auto, unfolding(crate::specs::Layouts::together_at))]
+#[tactic(auto, unfolding(pdb_base::specs::Layouts::together_at))]
 fn parse_thunk_place(buffer: &mut ParseBuffer<'_>) -> Result<(PdbInternalSectionOffset, u16, u8)>
     ensures { ReadsPart (λ x. (x.0, (x.1, x.2))) thunk_place 0 buffer.old buffer.new result }
 {
@@ -129,7 +129,7 @@ type ThunkHead = (
 );
 
 #[inline]
-#[tactic(auto, unfolding(crate::specs::Layouts::together_at))]
+#[tactic(auto, unfolding(pdb_base::specs::Layouts::together_at))]
 fn parse_thunk_head(buffer: &mut ParseBuffer<'_>) -> Result<ThunkHead>
     ensures { ReadsPart (λ x. ((x.0.0, (x.0.1, x.0.2)), (x.1.0, (x.1.1, x.1.2)))) thunk_head 0 buffer.old buffer.new result }
 {
@@ -140,7 +140,7 @@ fn parse_thunk_head(buffer: &mut ParseBuffer<'_>) -> Result<ThunkHead>
 
 // What a thunk of an ordinal does, behind its name.
 #[inline]
-#[tactic(auto, unfolding(crate::specs::Layouts::together_at, crate::specs::Groups::thunk_tail))]
+#[tactic(auto, unfolding(pdb_base::specs::Layouts::together_at, crate::specs::Groups::thunk_tail))]
 fn parse_thunk_kind<'t>(ordinal: u8, buffer: &mut ParseBuffer<'t>) -> Result<ThunkKind<'t>>
     ensures { Answers shown_thunk_kind result ((thunk_does ordinal).at 0 buffer.old.bytes buffer.old.place) }
 {

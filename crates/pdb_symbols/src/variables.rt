@@ -3,7 +3,7 @@
 ghost use Rattle.std.specs.Prelude.{◌≡◌};
 ghost use Rattle.pdb_base.specs.Refusal.{Answers};
 ghost use Rattle.pdb_symbols.specs.Data.{shown};
-ghost use Rattle.pdb_symbols.specs.Layouts.{ReadsPart};
+ghost use Rattle.pdb_base.specs.Layouts.{ReadsPart};
 ghost use Rattle.pdb_symbols.specs.Groups.{typed_value};
 ghost use Rattle.pdb_symbols.specs.FormTable.{read_of};
 ghost use Rattle.pdb_symbols.specs.declared.form.Form.TheVariants as form;
@@ -157,7 +157,7 @@ pub(crate) fn parse_user_defined_type<'t>(
 }
 
 #[inline]
-#[tactic(auto, unfolding(crate::specs::Layouts::together_at))]
+#[tactic(auto, unfolding(pdb_base::specs::Layouts::together_at))]
 fn parse_typed_value(buffer: &mut ParseBuffer<'_>) -> Result<(TypeIndex, Variant)>
     ensures { ReadsPart (λ x. (x.0, x.1)) typed_value 0 buffer.old buffer.new result }
 {

@@ -184,3 +184,81 @@ fn refused_numbers_leave_the_rest(rt: HostRuntime) -> Result<()> {
     is(&rt, "failures", &pdb.failures(), &0);
     Ok(())
 }
+
+/// A stream of one structure, `S`, with the index 0x1000.
+const TYPES: [u8; 80] = [
+    0x0b, 0xca, 0x31, 0x01, 0x38, 0x00, 0x00, 0x00, 0x00, 0x10, 0x00, 0x00, 0x01, 0x10, 0x00, 0x00,
+    0x18, 0x00, 0x00, 0x00, 0x00, 0x00, 0x00, 0x00, 0x00, 0x00, 0x00, 0x00, 0x00, 0x00, 0x00, 0x00,
+    0x00, 0x00, 0x00, 0x00, 0x00, 0x00, 0x00, 0x00, 0x00, 0x00, 0x00, 0x00, 0x00, 0x00, 0x00, 0x00,
+    0x00, 0x00, 0x00, 0x00, 0x00, 0x00, 0x00, 0x00, 0x16, 0x00, 0x05, 0x15, 0x00, 0x00, 0x00, 0x00,
+    0x00, 0x00, 0x00, 0x00, 0x00, 0x00, 0x00, 0x00, 0x00, 0x00, 0x00, 0x00, 0x04, 0x00, 0x53, 0x00,
+];
+
+/// A stream of two functions: `m`, a member of the type 0x1000, and `f`; then a record that is cut.
+const IDS: [u8; 92] = [
+    0x0b, 0xca, 0x31, 0x01, 0x38, 0x00, 0x00, 0x00, 0x00, 0x20, 0x00, 0x00, 0x02, 0x20, 0x00, 0x00,
+    0x24, 0x00, 0x00, 0x00, 0x00, 0x00, 0x00, 0x00, 0x00, 0x00, 0x00, 0x00, 0x00, 0x00, 0x00, 0x00,
+    0x00, 0x00, 0x00, 0x00, 0x00, 0x00, 0x00, 0x00, 0x00, 0x00, 0x00, 0x00, 0x00, 0x00, 0x00, 0x00,
+    0x00, 0x00, 0x00, 0x00, 0x00, 0x00, 0x00, 0x00, 0x0e, 0x00, 0x02, 0x16, 0x00, 0x10, 0x00, 0x00,
+    0x75, 0x00, 0x00, 0x00, 0x6d, 0x00, 0xf2, 0xf1, 0x0c, 0x00, 0x01, 0x16, 0x00, 0x00, 0x00, 0x00,
+    0x76, 0x00, 0x00, 0x00, 0x66, 0x00, 0x07, 0x00, 0x01, 0x16, 0x00, 0x00,
+];
+
+#[test]
+fn items_of_types_and_ids(rt: HostRuntime) -> Result<()> {
+    let mut streams = SAMPLE;
+    streams[2] = Some(&TYPES);
+    streams[4] = Some(&IDS);
+    let bytes = file_of(rt.alloc(), &streams)?;
+    let mut pdb = PDB::open(rt.alloc(), MemorySource::new(&bytes))?;
+    let types = pdb.type_information()?;
+    let ids = pdb.id_information()?;
+    let mut types_left = types.iter()?;
+    let first = types_left
+        .next()?
+        .map(|item| (item.index(), item.raw_kind()));
+    is(&rt, "first type", &first, &Some((0x1000, 0x1505)));
+    is(&rt, "no type", &types_left.next()?.is_none(), &true);
+    let mut ids_left = ids.iter()?;
+    let first = ids_left.next()?.map(|item| (item.index(), item.raw_kind()));
+    is(&rt, "first id", &first, &Some((0x2000, 0x1602)));
+    is(&rt, "fault", &ids_left.count(), &Err(Error::UnexpectedEof));
+    let known_types = types.finder(rt.alloc())?;
+    let known_ids = ids.finder(rt.alloc())?;
+    let member = qualified_name(&known_ids, &known_types, IdIndex(0x2000));
+    let wanted = QualifiedName {
+        scope: Some(RawString::from("S")),
+        name: RawString::from("m"),
+    };
+    is(&rt, "member", &member, &Some(wanted));
+    let function = qualified_name(&known_ids, &known_types, IdIndex(0x2001));
+    let wanted = QualifiedName {
+        scope: None,
+        name: RawString::from("f"),
+    };
+    is(&rt, "function", &function, &Some(wanted));
+    is(&rt, "cut", &known_ids.find(0x2002), &None);
+    Ok(())
+}
+
+#[test]
+fn types_and_ids_without_a_header_are_refused(rt: HostRuntime) -> Result<()> {
+    let mut streams = SAMPLE;
+    streams[2] = Some(&TYPES[..55]);
+    streams[4] = Some(&IDS[..91]);
+    let bytes = file_of(rt.alloc(), &streams)?;
+    let mut pdb = PDB::open(rt.alloc(), MemorySource::new(&bytes))?;
+    let types = pdb.type_information()?;
+    let ids = pdb.id_information()?;
+    let refused = Some(Error::UnexpectedEof);
+    is(&rt, "types", &types.iter().err(), &refused);
+    is(&rt, "ids", &ids.iter().err(), &refused);
+    is(
+        &rt,
+        "known types",
+        &types.finder(rt.alloc()).err(),
+        &refused,
+    );
+    is(&rt, "known ids", &ids.finder(rt.alloc()).err(), &refused);
+    Ok(())
+}

@@ -1,7 +1,7 @@
 use Rattle.std.proofs.Common.{◌≡◌, ◌-◌}
 use Rattle.pdb_symbols.specs.Data.{shown_registers}
 use Rattle.pdb_symbols.specs.Groups.{named_register}
-use Rattle.pdb_symbols.specs.Layouts.{list_at}
+use Rattle.pdb_base.specs.Layouts.{list_at}
 use Rattle.pdb_symbols.proofs.RegisterLoop.{with_front}
 use Rattle.pdb_symbols.proofs.registers.parse_registers.Given as goal
 

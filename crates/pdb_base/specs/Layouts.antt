@@ -2,13 +2,11 @@
 use Rattle.std.specs.Prelude.{ℕ, zero, suc, ℤ, ◌+◌, ◌≡◌, Bool, true, false, List, [], ◌∷◌, length, drop, Result, Ok, Err, Option, Some, None, if◌then◌else◌}
 use Rattle.std.specs.Int.{w32}
 use Rattle.pdb_base.specs.declared.error.Error.{Error}
-use Rattle.pdb_base.specs.declared.index.PdbInternalSectionOffset.{PdbInternalSectionOffset}
 use Rattle.pdb_base.specs.declared.variant.Variant.{Variant as Value}
 use Rattle.pdb_base.specs.Cursor.{Cursor, Reads}
 use Rattle.pdb_base.specs.Refusal.{◌>>=◌}
-use Rattle.pdb_base.specs.Fields.{number_at, signed_at, cstring_at, variant_at, variant_width}
-use Rattle.pdb_base.specs.Places.{IsNumber, IsSigned, IsCString, IsVariant}
-use Rattle.pdb_symbols.specs.Parts.{IsOffset, IsName, IsOptionalName, offset_at, name_at, optional_name_at}
+use Rattle.pdb_base.specs.Fields.{number_at, bytes_at, signed_at, cstring_at, variant_at, variant_width}
+use Rattle.pdb_base.specs.Places.{IsNumber, IsSlice, IsSigned, IsCString, IsVariant}
 
 -- a part, by the record's kind, its bytes and a place: what is read there, what stands there, how wide it is
 pub record Part (A : Type 0) : Type 1 where
@@ -134,22 +132,16 @@ number_as {A} w f = record { at = λ kind b i. number_at b i w >>= (λ n. Ok (f 
 abbrev pub signed : Part ℤ
 signed = record { at = λ kind b i. signed_at b i w32; Stands = λ kind b i x. IsSigned b i w32 x; width = λ kind b i x. 4 }
 
-abbrev pub offset : Part PdbInternalSectionOffset
-offset = record { at = λ kind b i. offset_at b i; Stands = λ kind b i o. IsOffset b i o; width = λ kind b i o. 6 }
-
 abbrev pub variant : Part Value
 variant = record { at = λ kind b i. variant_at b i; Stands = λ kind b i v. IsVariant b i v; width = λ kind b i v. variant_width b i }
 
-abbrev pub name : Part (List ℕ)
-name = record { at = λ kind b i. name_at kind b i; Stands = λ kind b i s. IsName kind b i s; width = λ kind b i s. length s + 1 }
-
--- a name before a zero byte, whatever the kind
+-- a name before a zero byte
 abbrev pub cstring : Part (List ℕ)
 cstring = record { at = λ kind b i. cstring_at b i; Stands = λ kind b i s. IsCString b i s; width = λ kind b i s. length s + 1 }
 
--- a name that kinds below 0x1100 have not
-abbrev pub optional_name : Part (Option (List ℕ))
-optional_name = record { at = λ kind b i. optional_name_at kind b i; Stands = λ kind b i s. IsOptionalName kind b i s; width = λ kind b i s. width_given cstring kind b i s }
+-- so many bytes
+abbrev pub slice : ℕ → Part (List ℕ)
+slice n = record { at = λ kind b i. bytes_at b i n; Stands = λ kind b i s. IsSlice b i n s; width = λ kind b i s. n }
 
 -- the bytes that are left
 abbrev pub rest : Part (List ℕ)

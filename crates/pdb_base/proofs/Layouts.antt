@@ -2,10 +2,9 @@
 use Rattle.std.proofs.Common.{◌≡◌, ℕ, zero, suc, ◌+◌, Bool, true, false, List, [], ◌∷◌, length, Option, Some, None, Ok, refl, sym, ap, arith}
 use Rattle.pdb_base.specs.Refusal.{◌>>=◌}
 use Rattle.std.specs.Int.{w32}
-use Rattle.pdb_base.proofs.Places.{bind_ok, OnlyEof, bind_eof, ok_eof, number_is, is_number, number_eof, cstring_is, is_cstring, cstring_eof}
+use Rattle.pdb_base.proofs.Places.{bind_ok, OnlyEof, bind_eof, ok_eof, number_is, is_number, number_eof, slice_is, is_slice, slice_eof, cstring_is, is_cstring, cstring_eof}
 use Rattle.pdb_base.proofs.Variants.{signed_is, is_signed, signed_eof, variant_is, is_variant}
-use Rattle.pdb_symbols.specs.Layouts.{Part, ◌▷◌, behind, saying, together, together_at, grouped, grouped_at, by_kind, given, number, number_as, signed, offset, variant, name, cstring, optional_name, rest, times, list_at, nothing}
-use Rattle.pdb_symbols.proofs.Parts.{offset_is, is_offset, offset_eof, name_is, is_name, name_eof, optional_name_is, is_optional_name, optional_name_eof}
+use Rattle.pdb_base.specs.Layouts.{Part, ◌▷◌, behind, saying, together, together_at, grouped, grouped_at, by_kind, given, number, number_as, signed, variant, cstring, slice, rest, times, list_at, nothing}
 
 -- a part's reading is what stands there
 pub record Tells {A : Type 0} (p : Part A) : Type 0 where
@@ -159,20 +158,14 @@ number_as_tells w f = record {
 pub signed_tells : Tells signed
 signed_tells = record { is = λ kind b i x e. signed_is b i w32 x e; reads = λ kind b i x h. is_signed b i w32 x h }
 
-pub offset_tells : Tells offset
-offset_tells = record { is = λ kind b i x e. offset_is b i x e; reads = λ kind b i x h. is_offset b i x h }
-
 pub variant_tells : Tells variant
 variant_tells = record { is = λ kind b i x e. variant_is b i x e; reads = λ kind b i x h. is_variant b i x h }
-
-pub name_tells : Tells name
-name_tells = record { is = λ kind b i x e. name_is kind b i x e; reads = λ kind b i x h. is_name kind b i x h }
 
 pub cstring_tells : Tells cstring
 cstring_tells = record { is = λ kind b i x e. cstring_is b i x e; reads = λ kind b i x h. is_cstring b i x h }
 
-pub optional_name_tells : Tells optional_name
-optional_name_tells = record { is = λ kind b i x e. optional_name_is kind b i x e; reads = λ kind b i x h. is_optional_name kind b i x h }
+pub slice_tells : (n : ℕ) → Tells (slice n)
+slice_tells n = record { is = λ kind b i x e. slice_is b i n x e; reads = λ kind b i x h. is_slice b i n x h }
 
 pub rest_tells : Tells rest
 rest_tells = record { is = λ kind b i x e. cc; reads = λ kind b i x h. ap Ok (sym h) }
@@ -186,17 +179,11 @@ number_as_ends w f = record { eof = λ kind b i. bind_eof _ _ (number_eof b i w)
 pub signed_ends : Ends signed
 signed_ends = record { eof = λ kind b i. signed_eof b i w32 }
 
-pub offset_ends : Ends offset
-offset_ends = record { eof = λ kind b i. offset_eof b i }
-
-pub name_ends : Ends name
-name_ends = record { eof = λ kind b i. name_eof kind b i }
-
 pub cstring_ends : Ends cstring
 cstring_ends = record { eof = λ kind b i. cstring_eof b i }
 
-pub optional_name_ends : Ends optional_name
-optional_name_ends = record { eof = λ kind b i. optional_name_eof kind b i }
+pub slice_ends : (n : ℕ) → Ends (slice n)
+slice_ends n = record { eof = λ kind b i. slice_eof b i n }
 
 pub rest_ends : Ends rest
 rest_ends = record { eof = λ kind b i. ok_eof _ }
