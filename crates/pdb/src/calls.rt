@@ -6,8 +6,7 @@ ghost use Rattle.pdb.specs.Answers.Call.{PdbInformation, NamedStream, DebugInfor
 ghost use Rattle.std.specs.Option.{option_map};
 
 use crate::holders::{AddressMap, FrameTable, IdInformation, TypeInformation};
-use crate::pdb::PDB;
-use crate::pdb::StreamIndexExt;
+use crate::pdb::{PDB, StreamIndexExt};
 use pdb_base::{ImageSectionHeader, Result, Source, Stream, StreamIndex, StringTable};
 use pdb_dbi::{DebugInformation, Module, PDBInformation};
 use pdb_modules::ModuleInfo;
@@ -46,10 +45,7 @@ fn raw_stream<'s, S: Source<'s>>(
     pdb.raw_stream(index)
 }
 
-fn get<'s, S: Source<'s>>(
-    pdb: &mut PDB<'s, S>,
-    index: StreamIndex,
-) -> Result<Option<Stream<'s>>>
+fn get<'s, S: Source<'s>>(pdb: &mut PDB<'s, S>, index: StreamIndex) -> Result<Option<Stream<'s>>>
     ensures { GoesOn (made pdb.old pdb.new (RawStream index.0) (option_map (λ s. s)) result) }
 {
     index.get(pdb)

@@ -270,3 +270,19 @@ fn separated_code_has_a_length_of_four_bytes(rt: HostRuntime) -> Result<()> {
     is(&rt, "len", &code.len, &0x0c0b_0a09);
     Ok(())
 }
+
+#[test]
+fn data_stands_at_its_place(rt: HostRuntime) -> Result<()> {
+    let rows: [(&[u8], u16, u32); 2] = [
+        (b"\x0d\x11\x74\0\0\0\x10\0\0\0\x03\0\x61\0", 3, 16),
+        (b"\x0c\x11\x20\0\0\0\xf0\x24\x01\0\x02\0\x61\0", 2, 74992),
+    ];
+    for (bytes, section, offset) in rows {
+        let SymbolData::Data(data) = parsed(rt.alloc(), bytes)? else {
+            return Err(OTHER_FORM);
+        };
+        let place = PdbInternalSectionOffset::new(section, offset);
+        is(&rt, "place", &data.offset, &place);
+    }
+    Ok(())
+}

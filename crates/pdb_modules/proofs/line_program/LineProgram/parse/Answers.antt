@@ -14,6 +14,6 @@ returns-in-Ok-clause-program c =
 pub returns-in-Ok-clause-lean : goal.returns-in-Ok-clause-lean
 returns-in-Ok-clause-lean c =
     λ none. (
-      let listed = none_listed c.args.lines_data.now c.in-Ok.parts.lines.items c.in-Ok.parts.checksums.now c.in-Ok.ensures.parts none in
-      c.resolve.ensures.lean (omega (arith, listed, ap length c.as_slice.ensures.value))
+    let listed = none_listed c.args.lines_data.now c.in-Ok.parts.lines.items c.in-Ok.parts.checksums.now c.in-Ok.ensures.parts none in
+    c.resolve.ensures.lean (omega (arith, listed, ap length c.as_slice.ensures.value))
     )
