@@ -88,6 +88,11 @@ fn symbols(out: &mut Vec<u8>, b: &[u8], mut at: usize) {
     while at < b.len() {
         let (size, kind) = (u16_at(b, at) as usize, u16_at(b, at + 2));
         let (form, name): (&[u8], usize) = match kind {
+            0x113e => (b"Local ", 10),
+            0x1103 => (b"Block ", 22),
+            0x1110 => (b"Procedure ", 39),
+            0x0006 => (b"ScopeEnd", 0),
+            0x1012 | 0x1142 => (b"refused 12", 0),
             0x110e => (b"Public ", 14),
             0x1108 => (b"UserDefinedType ", 8),
             0x1125 => (b"ProcedureReference ", 14),
@@ -100,7 +105,9 @@ fn symbols(out: &mut Vec<u8>, b: &[u8], mut at: usize) {
         hex(out, kind.into(), 4);
         out.push(b' ');
         out.extend_from_slice(form);
-        out.extend_from_slice(cstring(b, at + name));
+        if name > 0 {
+            out.extend_from_slice(cstring(b, at + name));
+        }
         out.push(b'\n');
         at += 2 + size;
     }

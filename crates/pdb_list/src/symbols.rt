@@ -1,7 +1,6 @@
 //! The lines of symbols.
 
 ghost use Rattle.std.specs.Prelude.{◌≡◌, ◌≢◌, ◌++◌, true, OnOk, codes};
-ghost use Rattle.std.specs.Fmt.{decimal};
 ghost use Rattle.pdb.specs.Error.TheVariants.{OutOfMemory};
 ghost use Rattle.pdb.specs.Source.{Continues};
 ghost use Rattle.pdb.specs.Data.{shown, name_of};
@@ -12,91 +11,84 @@ ghost use Rattle.pdb_list.specs.Digits.{hex};
 ghost use Rattle.pdb_list.specs.Texts.{globals_text, form_text, space_text, bytes_of, refused_text, record_text, symbol_text, symbols_text};
 ghost use Rattle.pdb_list.specs.ModuleTexts.{symbols_of_text};
 
-use crate::text::{h4, h8, put_decimal, put_error, put_line_end, put_refusal};
+use crate::text::{h4, h8, put_error, put_line_end, put_refusal, put_refused_line};
 use pdb::{
     Error, FallibleIterator, ModuleInfo, PDB, RawString, Source, Symbol, SymbolData, SymbolIter,
 };
 use std::alloc::{AllocError, Global};
 
-/// A form's name with a space behind it, and a symbol's name.
+/// A form's name with a space behind it, a symbol's name, and the end of the line.
 #[inline(always)]
 fn put_named<const N: usize>(
     out: &mut Vec<u8>,
     form: [u8; N],
     name: RawString<'_>,
 ) -> Result<(), AllocError>
-    ensures { OnOk result (out.new.items ≡ out.old.items ++ (form.entry ++ name_bytes name.entry)) }
+    ensures { OnOk result (out.new.items ≡ out.old.items ++ (form.entry ++ name_bytes name.entry ++ codes "\n")) }
 {
     out.extend_from_slice(&form)?;
-    out.extend_from_slice(name.as_bytes())
+    out.extend_from_slice(name.as_bytes())?;
+    put_line_end(out)
 }
 
-/// A record's form, and its name where it has one.
+/// A record's form, its name where it has one, and the end of the line.
 fn put_data(out: &mut Vec<u8>, parsed: &SymbolData<'_>) -> Result<(), AllocError>
-    ensures { OnOk result (out.new.items ≡ out.old.items ++ form_text (shown parsed.now) ++ space_text (name_of (shown parsed.now)) ++ bytes_of (name_of (shown parsed.now))) }
+    ensures { OnOk result (out.new.items ≡ out.old.items ++ form_text (shown parsed.now) ++ space_text (name_of (shown parsed.now)) ++ bytes_of (name_of (shown parsed.now)) ++ codes "\n") }
 {
     match parsed {
-        SymbolData::ScopeEnd => out.extend_from_slice(b"ScopeEnd"),
+        SymbolData::ScopeEnd => out.extend_from_slice(b"ScopeEnd\n"),
         SymbolData::ObjName(symbol) => put_named(out, *b"ObjName ", symbol.name),
-        SymbolData::RegisterVariable(_) => out.extend_from_slice(b"RegisterVariable"),
+        SymbolData::RegisterVariable(_) => out.extend_from_slice(b"RegisterVariable\n"),
         SymbolData::Constant(symbol) => put_named(out, *b"Constant ", symbol.name),
         SymbolData::UserDefinedType(symbol) => put_named(out, *b"UserDefinedType ", symbol.name),
-        SymbolData::MultiRegisterVariable(_) => out.extend_from_slice(b"MultiRegisterVariable"),
+        SymbolData::MultiRegisterVariable(_) => out.extend_from_slice(b"MultiRegisterVariable\n"),
         SymbolData::Data(symbol) => put_named(out, *b"Data ", symbol.name),
         SymbolData::Public(symbol) => put_named(out, *b"Public ", symbol.name),
         SymbolData::Procedure(symbol) => put_named(out, *b"Procedure ", symbol.name),
         SymbolData::ThreadStorage(symbol) => put_named(out, *b"ThreadStorage ", symbol.name),
-        SymbolData::CompileFlags(_) => out.extend_from_slice(b"CompileFlags"),
+        SymbolData::CompileFlags(_) => out.extend_from_slice(b"CompileFlags\n"),
         SymbolData::UsingNamespace(symbol) => put_named(out, *b"UsingNamespace ", symbol.name),
         SymbolData::ProcedureReference(symbol) => match symbol.name {
             Some(name) => put_named(out, *b"ProcedureReference ", name),
-            None => out.extend_from_slice(b"ProcedureReference"),
+            None => out.extend_from_slice(b"ProcedureReference\n"),
         },
         SymbolData::DataReference(symbol) => match symbol.name {
             Some(name) => put_named(out, *b"DataReference ", name),
-            None => out.extend_from_slice(b"DataReference"),
+            None => out.extend_from_slice(b"DataReference\n"),
         },
         SymbolData::AnnotationReference(symbol) => put_named(
             out,
             *b"AnnotationReference ",
             symbol.name,
         ),
-        SymbolData::Trampoline(_) => out.extend_from_slice(b"Trampoline"),
+        SymbolData::Trampoline(_) => out.extend_from_slice(b"Trampoline\n"),
         SymbolData::Export(symbol) => put_named(out, *b"Export ", symbol.name),
         SymbolData::Local(symbol) => put_named(out, *b"Local ", symbol.name),
-        SymbolData::BuildInfo(_) => out.extend_from_slice(b"BuildInfo"),
-        SymbolData::InlineSite(_) => out.extend_from_slice(b"InlineSite"),
-        SymbolData::InlineSiteEnd => out.extend_from_slice(b"InlineSiteEnd"),
-        SymbolData::ProcedureEnd => out.extend_from_slice(b"ProcedureEnd"),
+        SymbolData::BuildInfo(_) => out.extend_from_slice(b"BuildInfo\n"),
+        SymbolData::InlineSite(_) => out.extend_from_slice(b"InlineSite\n"),
+        SymbolData::InlineSiteEnd => out.extend_from_slice(b"InlineSiteEnd\n"),
+        SymbolData::ProcedureEnd => out.extend_from_slice(b"ProcedureEnd\n"),
         SymbolData::Label(symbol) => put_named(out, *b"Label ", symbol.name),
         SymbolData::Block(symbol) => put_named(out, *b"Block ", symbol.name),
         SymbolData::RegisterRelative(symbol) => put_named(out, *b"RegisterRelative ", symbol.name),
         SymbolData::Thunk(symbol) => put_named(out, *b"Thunk ", symbol.name),
-        SymbolData::SeparatedCode(_) => out.extend_from_slice(b"SeparatedCode"),
+        SymbolData::SeparatedCode(_) => out.extend_from_slice(b"SeparatedCode\n"),
     }
-}
-
-/// `refused`, and the refusal's number.
-fn put_number(out: &mut Vec<u8>, number: u8) -> Result<(), AllocError>
-    ensures { OnOk result (out.new.items ≡ out.old.items ++ (codes "refused " ++ decimal number)) }
-{
-    out.extend_from_slice(b"refused ")?;
-    put_decimal(out, u64::from(number))
 }
 
 /// A refusal in a symbol's line; want of memory is passed on.
 fn put_refused(out: &mut Vec<u8>, e: Error) -> Result<(), AllocError>
-    ensures { OnOk result ((e ≢ OutOfMemory) × (out.new.items ≡ out.old.items ++ refused_text e)) }
+    ensures { OnOk result ((e ≢ OutOfMemory) × (out.new.items ≡ out.old.items ++ refused_text e ++ codes "\n")) }
 {
     match e {
         Error::OutOfMemory => Err(AllocError),
-        e => put_number(out, e.number()),
+        e => put_refused_line(out, e.number()),
     }
 }
 
-/// What a symbol's record says: its form and name; or `refused` and the refusal's number.
+/// What a symbol's record says: its form and name; or `refused` and the refusal's number; and the end of the line.
 fn put_record(alloc: Global, out: &mut Vec<u8>, symbol: &Symbol<'_>) -> Result<(), AllocError>
-    ensures { OnOk result (out.new.items ≡ out.old.items ++ record_text (record_at (symbol_of symbol.now).bytes)) }
+    ensures { OnOk result (out.new.items ≡ out.old.items ++ record_text (record_at (symbol_of symbol.now).bytes) ++ codes "\n") }
 {
     match symbol.parse(alloc) {
         Ok(parsed) => put_data(out, &parsed),
@@ -124,8 +116,7 @@ fn put_symbol(alloc: Global, out: &mut Vec<u8>, symbol: &Symbol<'_>) -> Result<(
     ensures { OnOk result (out.new.items ≡ out.old.items ++ symbol_text (symbol_of symbol.now)) }
 {
     out.extend_from_slice(&head(symbol.index().0, symbol.raw_kind()))?;
-    put_record(alloc, out, symbol)?;
-    put_line_end(out)
+    put_record(alloc, out, symbol)
 }
 
 /// The lines of the symbols that an iterator has left, and then that of its fault.

@@ -167,6 +167,23 @@ pub fn put_decimal(out: &mut Vec<u8>, n: u64) -> Result<(), AllocError>
     put_long_decimal(out, n)
 }
 
+/// `refused`, a number in decimal digits, and the end of a line.
+#[tactic(auto, using(crate::proofs::Pairs::decimal_two))]
+pub fn put_refused_line(out: &mut Vec<u8>, n: u8) -> Result<(), AllocError>
+    ensures { OnOk result (out.new.items ≡ out.old.items ++ (codes "refused " ++ decimal n ++ codes "\n")) }
+{
+    let n = u64::from(n);
+    if 10 <= n && n < 100 {
+        let d = d2(n);
+        return out.extend_from_slice(&[
+            b'r', b'e', b'f', b'u', b's', b'e', b'd', b' ', d[0], d[1], b'\n',
+        ]);
+    }
+    out.extend_from_slice(b"refused ")?;
+    put_decimal(out, n)?;
+    put_line_end(out)
+}
+
 /// A space, and a number below 10000 in decimal digits.
 #[inline(always)]
 #[tactic(auto, using(std::proofs::lemmas::Fmt::decimal_digit, crate::proofs::Pairs::decimal_two, crate::proofs::Pairs::decimal_three, crate::proofs::Pairs::decimal_of_four))]
