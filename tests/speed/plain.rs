@@ -331,8 +331,9 @@ fn finder(out: &mut Vec<u8>, ids: &Items) {
 }
 
 /// The name of a function with its scope; of files whose types are all structures.
-fn qualified_name<'a>(ids: &Items<'a>, types: &Items<'a>, item: &'a [u8]) -> Option<(&'a [u8], &'a [u8])> {
-    let before = u32_at(item, 4);
+fn qualified_name<'a>(ids: &Items<'a>, types: &Items<'a>, id: u32) -> Option<(&'a [u8], &'a [u8])> {
+    let item = ids.find(id)?;
+    let before = u32_at(item, 2);
     match u16_at(item, 0) {
         0x1601 => {
             let scope = ids.find(before).filter(|it| u16_at(it, 0) == 0x1605);
@@ -347,8 +348,10 @@ fn qualified_name<'a>(ids: &Items<'a>, types: &Items<'a>, item: &'a [u8]) -> Opt
 fn qualified(out: &mut Vec<u8>, ids: &Items, types: &Items) {
     let (mut count, mut size) = (0u32, 0);
     for index in 0x1000.. {
-        let Some(item) = ids.find(index) else { break };
-        if let Some((scope, name)) = qualified_name(ids, types, item) {
+        if ids.find(index).is_none() {
+            break;
+        }
+        if let Some((scope, name)) = qualified_name(ids, types, index) {
             count += 1;
             size += scope.len() + name.len();
         }
