@@ -164,6 +164,7 @@ pub data Call : Type 0 where
   AddressMap : Call
   StringTable : Call
   ModuleInfo : (listed : ModuleEntry) → Call
+  ModuleAt : (place : ℕ) → Call
   RawStream : (number : ℕ) → Call
 
 -- what a contract sees of a call's answer
@@ -179,6 +180,7 @@ Seen FrameTable = Frames
 Seen AddressMap = Addresses
 Seen StringTable = List ℕ
 Seen (ModuleInfo m) = Option ModuleBytes
+Seen (ModuleAt k) = Option ModuleBytes
 Seen (RawStream n) = Option (List ℕ)
 
 -- what a call answers for a file
@@ -194,6 +196,7 @@ answer file FrameTable = frame_table_in file
 answer file AddressMap = address_map_in file
 answer file StringTable = string_table_in file
 answer file (ModuleInfo m) = module_info_in file m
+answer file (ModuleAt k) = module_of_file file k
 answer file (RawStream n) = raw_stream_in file n
 
 -- a call that was made: the states before it and behind it, and what it gave

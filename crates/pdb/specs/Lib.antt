@@ -33,6 +33,7 @@ pub use Rattle.pdb_base.specs.Cursor
 pub use Rattle.pdb_base.specs.Index
 pub use Rattle.pdb_base.specs.Places
 pub use Rattle.pdb_base.specs.Tiling
+pub use Rattle.pdb_base.specs.Reading
 pub use Rattle.pdb_symbols.specs.AnnotationViews
 pub use Rattle.pdb_symbols.specs.Annotations
 pub use Rattle.pdb_symbols.specs.Flags

@@ -2,11 +2,11 @@
 
 ghost use Rattle.pdb_dbi.specs.DbiViews.{information};
 ghost use Rattle.pdb.specs.Answers.{GoesOn, made};
-ghost use Rattle.pdb.specs.Answers.Call.{PdbInformation, NamedStream, DebugInformation as DebugInformationCall, GlobalSymbols, TypeInformation as TypesCall, IdInformation as IdsCall, Sections, FrameTable as FrameTableCall, AddressMap as AddressMapCall, StringTable as StringTableCall, ModuleInfo as ModuleInfoCall, RawStream};
+ghost use Rattle.pdb.specs.Answers.Call.{PdbInformation, NamedStream, DebugInformation as DebugInformationCall, GlobalSymbols, TypeInformation as TypesCall, IdInformation as IdsCall, Sections, FrameTable as FrameTableCall, AddressMap as AddressMapCall, StringTable as StringTableCall, ModuleInfo as ModuleInfoCall, ModuleAt, RawStream};
 ghost use Rattle.std.specs.Option.{option_map};
 
 use crate::holders::{AddressMap, FrameTable, IdInformation, TypeInformation};
-use crate::pdb::PDB;
+use crate::pdb::{PDB, StreamIndexExt};
 use pdb_base::{ImageSectionHeader, Result, Source, Stream, StreamIndex, StringTable};
 use pdb_dbi::{DebugInformation, Module, PDBInformation};
 use pdb_modules::ModuleInfo;
@@ -43,6 +43,21 @@ fn raw_stream<'s, S: Source<'s>>(
     ensures { GoesOn (made pdb.old pdb.new (RawStream index.0) (λ s. s) result) }
 {
     pdb.raw_stream(index)
+}
+
+fn get<'s, S: Source<'s>>(pdb: &mut PDB<'s, S>, index: StreamIndex) -> Result<Option<Stream<'s>>>
+    ensures { GoesOn (made pdb.old pdb.new (RawStream index.0) (option_map (λ s. s)) result) }
+{
+    index.get(pdb)
+}
+
+fn module_at<'s, S: Source<'s>>(
+    pdb: &mut PDB<'s, S>,
+    place: usize,
+) -> Result<Option<ModuleInfo<'s>>>
+    ensures { GoesOn (made pdb.old pdb.new (ModuleAt place) (λ i. i) result) }
+{
+    pdb.module_at(place)
 }
 
 fn type_information<'s, S: Source<'s>>(pdb: &mut PDB<'s, S>) -> Result<TypeInformation<'s>>

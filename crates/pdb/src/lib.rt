@@ -6,6 +6,7 @@ mod holders;
 pub mod laws;
 mod named;
 mod pdb;
+mod places;
 mod sections;
 
 pub use holders::AddressMap;

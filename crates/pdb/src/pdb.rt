@@ -7,10 +7,11 @@ ghost use Rattle.pdb_base.specs.Source.{State, Continues, MayFail};
 ghost use Rattle.pdb_base.specs.Container.{opens, stream_of};
 ghost use Rattle.pdb_dbi.specs.Header.{header_in};
 ghost use Rattle.pdb_dbi.specs.DbiViews.{information};
-ghost use Rattle.pdb.specs.Answers.{information_in, named_stream_in, debug_information_in, global_symbols_in, raw_stream_in, listed_stream as listed_stream_in, extra_streams_of_file, headers_in, sections_in, frame_table_in, transformed_in, address_map_in, string_table_in, module_info_in};
+ghost use Rattle.pdb.specs.Answers.{information_in, named_stream_in, debug_information_in, global_symbols_in, raw_stream_in, listed_stream as listed_stream_in, extra_streams_of_file, headers_in, sections_in, frame_table_in, transformed_in, address_map_in, string_table_in, module_info_in, module_of_file};
 
 use crate::holders::{AddressMap, FrameTable, IdInformation, OMAPTable, TypeInformation};
 use crate::named::index_named;
+use crate::places::item_at;
 use crate::sections::section_headers;
 use pdb_base::{
     Error, ImageSectionHeader, Meaning, Msf, Result, Source, Stream, StreamIndex, StringTable,
@@ -295,6 +296,22 @@ impl<'s, S: Source<'s>> PDB<'s, S> {
             return Ok(None);
         };
         Ok(Some(ModuleInfo::parse(stream, module)))
+    }
+
+    /// The stream of the module at this place of the list of modules, counted from 0; none where the whole list has no
+    /// such module, or the module has no stream. What stands behind the module isn't read. It is refused as
+    /// `debug_information` and `DebugInformation::modules`, and `UnexpectedEof` where a module before it isn't all there.
+    #[tactic(auto, using(pdb_base::proofs::Passing::may_after), unfolding(crate::specs::Answers::module_of_file, crate::specs::Answers::module_listed))]
+    pub fn module_at(&mut self, place: usize) -> Result<Option<ModuleInfo<'s>>>
+        ensures continues { Continues self.old self.new }
+        ensures answer { Gives (λ i. i) (MayFail self.old self.new) result (module_of_file self.old.file place) }
+    {
+        let information = self.debug_information()?;
+        let modules = information.modules()?;
+        match item_at(modules, place)? {
+            Some(module) => self.module_info(&module),
+            None => Ok(None),
+        }
     }
 
     /// The stream of this number, unparsed; none for the index of no stream, `0xffff`.

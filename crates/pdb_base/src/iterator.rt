@@ -1,8 +1,9 @@
 //! Iterators whose `next` may be refused.
 
-ghost use Rattle.std.specs.Prelude.{◌^◌, ◌<◌, length};
+ghost use Rattle.std.specs.Prelude.{◌≢◌, ◌^◌, ◌<◌, length, IfErr};
 ghost use Rattle.std.specs.Result.{result_map_both};
 ghost use Rattle.pdb_base.specs.Left.{Left, Yields, Counts, Collects, Finds};
+ghost use Rattle.pdb_base.specs.declared.error.Error.TheVariants.{IoError, OutOfMemory};
 
 use crate::error::{Error, Result};
 use std::alloc::Global;
@@ -25,13 +26,16 @@ pub trait FallibleIterator: Drop {
     /// The first item that is left, then the fault once, then nothing.
     fn next(&mut self) -> Result<Option<Self::Item>>
         ensures yields { Yields shown (left self.old) result (left self.new) }
-        ensures few { length (left self.old).items < 2 ^ 64 };
+        ensures few { length (left self.old).items < 2 ^ 64 }
+        // A fault is the bytes' own, so that a caller may pass it on.
+        ensures refused { IfErr result (λ e. (e ≢ OutOfMemory) × (e ≢ IoError)) };
 
     /// How many items are left, or the fault after them.
     final fn count(mut self) -> Result<usize>
     where
         Self: Sized,
-        ensures { Counts (left self) result }
+        ensures counts { Counts (left self) result }
+        ensures refused { IfErr result (λ e. (e ≢ OutOfMemory) × (e ≢ IoError)) }
     {
         let mut n = 0usize;
         while let Some(_x) = self.next()? {
@@ -44,7 +48,8 @@ pub trait FallibleIterator: Drop {
     final fn collect(mut self, alloc: Global) -> Result<Vec<Self::Item>>
     where
         Self: Sized,
-        ensures { Collects shown (left self) (result_map_both (λ v. v.items) (λ e. e) result) }
+        ensures collects { Collects shown (left self) (result_map_both (λ v. v.items) (λ e. e) result) }
+        ensures refused { IfErr result (λ e. e ≢ IoError) }
     {
         let mut items = Vec::new(alloc);
         while let Some(x) = self.next()? {

@@ -102,7 +102,8 @@ impl<'c> DBISectionContributionIter<'c> {
 }
 
 impl<'c> FallibleIterator for DBISectionContributionIter<'c> {
-    ghost use Rattle.std.specs.Prelude.{IfOk, IfErr, IfSome};
+    ghost use Rattle.std.specs.Prelude.{◌≢◌, IfOk, IfErr, IfSome};
+    ghost use Rattle.pdb_base.specs.declared.error.Error.TheVariants.{IoError, OutOfMemory};
     ghost use Rattle.std.specs.Option.{IfNone};
     ghost use Rattle.pdb_base.specs.Left.{Yields};
     ghost use Rattle.pdb_dbi.specs.declared.contributions.DBISectionContribution.{DBISectionContribution};
@@ -126,6 +127,7 @@ impl<'c> FallibleIterator for DBISectionContributionIter<'c> {
         ensures stepped { IfOk result (λ o. IfSome o (λ _. contributions_steps self.new ≡ contributions_steps self.old + 1)) }
         ensures rests { IfOk result (λ o. IfNone o (contributions_steps self.new ≡ contributions_steps self.old)) }
         ensures stepped_to_fault { IfErr result (λ _. contributions_steps self.new ≡ contributions_steps self.old + 1) }
+        ensures refused { IfErr result (λ e. (e ≢ OutOfMemory) × (e ≢ IoError)) }
     {
         if self.buffer.is_empty() {
             return Ok(None);

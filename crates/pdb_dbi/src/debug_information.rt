@@ -1,6 +1,6 @@
 //! The DBI stream: what a file tells of the image and its modules.
 
-ghost use Rattle.std.specs.Prelude.{◌≡◌, Ok, IfOk};
+ghost use Rattle.std.specs.Prelude.{◌≡◌, Ok, IfOk, IsOk};
 ghost use Rattle.pdb_base.specs.Refusal.{Answers};
 ghost use Rattle.pdb_dbi.specs.Header.{header_of, debug_information_of, age_in};
 ghost use Rattle.pdb_dbi.specs.Contributions.{contribution_records_of, contributions_in};
@@ -61,7 +61,8 @@ impl<'s> DebugInformation<'s> {
 
     /// The machine that the image was made for, by the header's number. It is never refused.
     pub fn machine_type(&self) -> Result<MachineType>
-        ensures { Answers (λ m. m) result (machine_in self.now) }
+        ensures answer { Answers (λ m. m) result (machine_in self.now) }
+        ensures ok { IsOk result }
     {
         Ok(MachineType::from(self.header().machine_type))
     }

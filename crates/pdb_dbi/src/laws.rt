@@ -24,6 +24,11 @@ pub fn enum_numbers_round_trip()
     ensures { (machine : MachineType) → machine_of (machine_number machine) ≡ machine }
 {}
 
+/// A number that is a machine's is the number of that machine.
+pub fn number_of_machine()
+    ensures { (n : ℕ) → (machine_of n ≡ MachineType.Unknown → ⊥) → machine_number (machine_of n) ≡ n }
+{}
+
 /// There are as many names of streams as pairs, and the k-th name is what the k-th pair says.
 pub fn names_are_those_of_the_pairs()
     ensures { (b part pairs : List ℕ) (offset size : ℕ) (names : List Name) → bytes_at b offset size ≡ Ok part → pairs_at b (offset + size) ≡ Ok pairs

@@ -314,7 +314,7 @@ pub fn run<'s, S: Source<'s>, W: Write>(
 #[cfg(test)]
 mod tests {
     use super::*;
-    use crate::fakes::{Slow, is};
+    use crate::fakes::{FailsOnce, Slow, is};
 
     #[test]
     fn writes_all_or_a_beginning(rt: HostRuntime) {
@@ -377,5 +377,26 @@ mod tests {
                 &(b"error\n".split_at(calls.min(6) as usize).0),
             );
         }
+    }
+
+    #[test]
+    fn no_failed_write_is_tried_again(rt: HostRuntime) {
+        for call in 0..3u32 {
+            let mut out = FailsOnce::at(rt.alloc(), call);
+            let written = write_out(&mut out, b"error\n");
+            is(&rt, "written", &written, &Err(WriteFailed));
+            let taken = b"error\n".split_at(2 * call as usize).0;
+            is(&rt, "out.taken()", &out.taken(), &taken);
+        }
+    }
+
+    #[test]
+    fn writes_long_texts(rt: HostRuntime) -> std::result::Result<(), AllocError> {
+        let mut text = Vec::new(rt.alloc());
+        text.resize(300_000, b'x')?;
+        let mut out = Slow::new(rt.alloc(), 65_536, 64);
+        is(&rt, "written", &write_out(&mut out, &text), &Ok(()));
+        is(&rt, "out.taken().len()", &out.taken().len(), &300_000);
+        Ok(())
     }
 }

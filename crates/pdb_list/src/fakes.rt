@@ -48,6 +48,46 @@ impl Write for Slow {
     }
 }
 
+/// A writer of which the call of this number fails, counted from 0, and no other.
+#[derive(Drop)]
+pub struct FailsOnce {
+    taken: Vec<u8>,
+    left: Option<u32>,
+}
+
+impl FailsOnce {
+    pub fn at(alloc: Global, call: u32) -> Self {
+        FailsOnce {
+            taken: Vec::new(alloc),
+            left: Some(call),
+        }
+    }
+
+    pub fn taken(&self) -> &[u8] {
+        self.taken.as_slice()
+    }
+}
+
+impl Write for FailsOnce {
+    fn write(&mut self, buf: &[u8]) -> io::Result<usize> {
+        let fails = self.left == Some(0);
+        self.left = match self.left {
+            Some(left) => left.checked_sub(1),
+            None => None,
+        };
+        if fails {
+            return Err(io::Error::from(ErrorKind::Other));
+        }
+        let count = buf.len().min(2);
+        self.taken.extend_from_slice(&buf[..count])?;
+        Ok(count)
+    }
+
+    fn flush(&mut self) -> io::Result<()> {
+        Ok(())
+    }
+}
+
 /// A reader that gives as much as it is asked for, until it has given so many bytes.
 #[derive(Drop)]
 pub struct Plenty {

@@ -1,7 +1,8 @@
 -- Which subsection is chosen for a place.
 use Rattle.std.proofs.Common.{◌≡◌, ℕ, zero, suc, ◌-◌, ◌<◌, ◌≤◌, Bool, true, false, cond, List, [], ◌∷◌, length, get_or, Option, Some, None, refl, sym, ap, ◌∙◌, arith}
+use Rattle.std.specs.Prelude.{not}
 use Rattle.std.proofs.lemmas.Bool.{eq-eqb, ne_eqb}
-use Rattle.std.proofs.lemmas.List.{get_or_default, get_or-map, length-map}
+use Rattle.std.proofs.lemmas.List.{get_or_default, length-map}
 use Rattle.pdb_modules.specs.declared.line_program.Listed.{Listed}
 use Rattle.pdb_modules.specs.KeptRows.{subsection_of}
 use Rattle.pdb_modules.specs.LineProgram.{listed_subsections}
@@ -67,7 +68,65 @@ is_last q ss k s l =
     upto_some q ss k s l.there (ap (λ (s : Subsection). is_upto s.place q) l.is ∙ l.upto) (λ j e m n. ap (λ (s : Subsection). is_upto s.place q) (get_or_default ss j e s n) ∙ l.last j m n)
     ∙ ap Some l.is
 
+-- none is chosen where all stand behind the place
+none_before : (b : Bool) (s : Subsection) → cond b (Some s) None ≡ None → b ≡ false
+none_before true s e = absurd cc
+none_before false s e = refl
+
+pub all_behind : (q : PdbInternalSectionOffset) (ss : List Subsection) → last_upto q ss ≡ None → (k : ℕ) (d : Subsection) → k < length ss → is_upto (get_or ss k d).place q ≡ false
+all_behind q [] e k d h = absurd (omega arith)
+all_behind q (x ∷ ss) e k d h = by_rest (last_upto q ss) refl e k h (λ f k h. all_behind q ss f k d h)
+  where
+    Behind : Type 0
+    Behind = last_upto q ss ≡ None → (k : ℕ) → k < length ss → is_upto (get_or ss k d).place q ≡ false
+
+    by_rest : (o : Option Subsection) → last_upto q ss ≡ o → later o (cond (is_upto x.place q) (Some x) None) ≡ None → (k : ℕ) → k < length (x ∷ ss) → Behind → is_upto (get_or (x ∷ ss) k d).place q ≡ false
+    by_rest (Some t) f e k h rest = absurd cc
+    by_rest None f e zero h rest = none_before (is_upto x.place q) x e
+    by_rest None f e (suc k) h rest = rest f k (omega arith)
+
+-- and the one that is chosen is the last one at or before it
+abbrev Chosen : PdbInternalSectionOffset → List Subsection → Subsection → Type 0
+Chosen q ss s = (k : ℕ) × IsLastUpto q ss k s
+
+one_further : (q : PdbInternalSectionOffset) (x : Subsection) (ss : List Subsection) (k : ℕ) (s : Subsection) → IsLastUpto q ss k s → IsLastUpto q (x ∷ ss) (suc k) s
+one_further q x ss k s l = record { there = let t = l.there in omega arith; is = l.is; upto = l.upto; last = last }
+  where
+    last : (j : ℕ) → suc k < j → j < length (x ∷ ss) → is_upto (get_or (x ∷ ss) j s).place q ≡ false
+    last zero h i = absurd (omega arith)
+    last (suc j) h i = l.last j (omega arith) (omega arith)
+
+first_alone : (q : PdbInternalSectionOffset) (s : Subsection) (ss : List Subsection) → is_upto s.place q ≡ true → last_upto q ss ≡ None → IsLastUpto q (s ∷ ss) 0 s
+first_alone q s ss upto none = record { there = omega arith; is = refl; upto = upto; last = last }
+  where
+    last : (j : ℕ) → 0 < j → j < length (s ∷ ss) → is_upto (get_or (s ∷ ss) j s).place q ≡ false
+    last zero h i = absurd (omega arith)
+    last (suc j) h i = all_behind q ss none j s (omega arith)
+
+pub last_found : (q : PdbInternalSectionOffset) (ss : List Subsection) (s : Subsection) → last_upto q ss ≡ Some s → Chosen q ss s
+last_found q [] s e = absurd cc
+last_found q (x ∷ ss) s e = by_rest (last_upto q ss) refl e (λ f. last_found q ss s f)
+  where
+    here : (b : Bool) → is_upto x.place q ≡ b → last_upto q ss ≡ None → cond b (Some x) None ≡ Some s → Chosen q (x ∷ ss) s
+    here true u none e = let same : x ≡ s = cc in (0, rw (← same) (first_alone q x ss u none))
+    here false u none e = absurd cc
+
+    by_rest : (o : Option Subsection) → last_upto q ss ≡ o → later o (cond (is_upto x.place q) (Some x) None) ≡ Some s → (last_upto q ss ≡ Some s → Chosen q ss s) → Chosen q (x ∷ ss) s
+    by_rest (Some t) f e rest = let same : t ≡ s = cc in let found = rest (f ∙ ap Some same) in (suc found.0, one_further q x ss found.0 s found.1)
+    by_rest None f e rest = here (is_upto x.place q) refl f e
+
 -- ---- the search's answer, over the list that it searched
+
+pub not_so : (b : Bool) → not b ≡ true → b ≡ false
+not_so true e = absurd cc
+not_so false e = refl
+
+pub so : (b : Bool) → not b ≡ false → b ≡ true
+so true e = refl
+so false e = absurd cc
+
+abbrev nowhere : Subsection
+nowhere = record { place = record { offset = 0; section = 0 }; code_size = 0; bytes = []; entries = []; fault = None }
 
 module _ (q : PdbInternalSectionOffset) (ls : List Listed) (ss : List Subsection) (n : ℕ) (left : Left LineInfo)
     (seen : listed_subsections ls ≡ ss)
@@ -86,32 +145,27 @@ module _ (q : PdbInternalSectionOffset) (ls : List Listed) (ss : List Subsection
   pub no_part : (b : List ℕ) → n ≡ 0 → b ≡ [] → b ≡ part_for q ss
   no_part b e is = is ∙ (sym (part_of_none q (listed_subsections ls) n below above_all e) ∙ ap (part_for q) seen)
 
-  module _ (k : ℕ) (is_last : k ≡ n - 1) (some : 0 < n) (items : List Listed) (same : ls ≡ items) (l : Listed) (l_is : l ≡ get_or items k l) (p : PdbInternalSectionOffset) (p_is : p ≡ l.part.place) where
+  module _ (k : ℕ) (is_last : k ≡ n - 1) (some : 0 < n) where
     room : n ≤ length (listed_subsections ls)
     room = let c = counted in omega arith
 
     abbrev s : Subsection
-    s = subsection_of l.part
+    s = nowhere
 
-    place_is : p ≡ (get_or (listed_subsections ls) k s).place
-    place_is =
-        p_is ∙ (ap (λ (l : Listed). l.part.place) (l_is ∙ ap (λ (ls : List Listed). get_or ls k l) (sym same))
-        ∙ ap (λ (s : Subsection). s.place) (sym (get_or-map (λ (l : Listed). subsection_of l.part) ls k l s (omega arith))))
-
-    pub another_section : (p.section ≡ q.section → ⊥) → left ≡ ended → left ≡ lines_for q ss
+    pub another_section : ((d : Subsection) → (get_or (listed_subsections ls) k d).place.section ≡ q.section → ⊥) → left ≡ ended → left ≡ lines_for q ss
     another_section other is =
-        is ∙ (sym (for_other q (listed_subsections ls) n below above_all k s is_last some room (λ e. other (ap (λ (p : PdbInternalSectionOffset). p.section) place_is ∙ e))) ∙ ap (lines_for q) seen)
+        is ∙ (sym (for_other q (listed_subsections ls) n below above_all k s is_last some room (other s)) ∙ ap (lines_for q) seen)
 
-    pub same_section : p.section ≡ q.section → ((d : Subsection) → left ≡ lines_of (get_or ss k d ∷ [])) → left ≡ lines_for q ss
+    pub same_section : ((d : Subsection) → (get_or (listed_subsections ls) k d).place.section ≡ q.section) → ((d : Subsection) → left ≡ lines_of (get_or ss k d ∷ [])) → left ≡ lines_for q ss
     same_section e is =
         is s ∙ (ap (λ (ss : List Subsection). lines_of (get_or ss k s ∷ [])) (sym seen)
-        ∙ (sym (for_one q (listed_subsections ls) n below above_all k s is_last some room (ap (λ (p : PdbInternalSectionOffset). p.section) (sym place_is) ∙ e)) ∙ ap (lines_for q) seen))
+        ∙ (sym (for_one q (listed_subsections ls) n below above_all k s is_last some room (e s)) ∙ ap (lines_for q) seen))
 
-    pub part_elsewhere : (b : List ℕ) → (p.section ≡ q.section → ⊥) → b ≡ [] → b ≡ part_for q ss
+    pub part_elsewhere : (b : List ℕ) → ((d : Subsection) → (get_or (listed_subsections ls) k d).place.section ≡ q.section → ⊥) → b ≡ [] → b ≡ part_for q ss
     part_elsewhere b other is =
-        is ∙ (sym (part_of_other q (listed_subsections ls) n below above_all k s is_last some room (λ e. other (ap (λ (p : PdbInternalSectionOffset). p.section) place_is ∙ e))) ∙ ap (part_for q) seen)
+        is ∙ (sym (part_of_other q (listed_subsections ls) n below above_all k s is_last some room (other s)) ∙ ap (part_for q) seen)
 
-    pub part_here : (b : List ℕ) → p.section ≡ q.section → ((d : Subsection) → b ≡ (get_or ss k d).bytes) → b ≡ part_for q ss
+    pub part_here : (b : List ℕ) → ((d : Subsection) → (get_or (listed_subsections ls) k d).place.section ≡ q.section) → ((d : Subsection) → b ≡ (get_or ss k d).bytes) → b ≡ part_for q ss
     part_here b e is =
         is s ∙ (ap (λ (ss : List Subsection). (get_or ss k s).bytes) (sym seen)
-        ∙ (sym (part_of_one q (listed_subsections ls) n below above_all k s is_last some room (ap (λ (p : PdbInternalSectionOffset). p.section) (sym place_is) ∙ e)) ∙ ap (part_for q) seen))
+        ∙ (sym (part_of_one q (listed_subsections ls) n below above_all k s is_last some room (e s)) ∙ ap (part_for q) seen))

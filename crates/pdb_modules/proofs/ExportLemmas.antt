@@ -1,8 +1,10 @@
 -- Exports: what is the first of a local number, whether local numbers increase, and the search by halving.
-use Rattle.std.proofs.Common.{◌≡◌, ℕ, zero, suc, ◌+◌, ◌-◌, ◌/◌, ◌^◌, ◌<◌, ◌≤◌, List, [], ◌∷◌, length, get_or, Bool, cond, Some, None, inl, inr, refl, ap, ◌∙◌, arith}
+use Rattle.std.proofs.Common.{◌≡◌, ℕ, zero, suc, ◌+◌, ◌-◌, ◌/◌, ◌^◌, ◌<◌, ◌≤◌, List, [], ◌∷◌, length, get_or, Bool, cond, Some, None, inl, inr, Ordering, refl, sym, subst, ap, ◌∙◌, arith}
 use Rattle.std.proofs.lemmas.Bool.{eq-eqb, ne_eqb, cases_lt}
 use Rattle.std.proofs.lemmas.List.{get_or_default}
 use Rattle.pdb_modules.specs.CrossModule.{global_of, Increases}
+use Rattle.std.specs.Ordering.{nat_cmp, MatchOrdering}
+use Rattle.std.specs.Cmp.{ranks}
 use Rattle.pdb_modules.proofs.Halving.{half_fewer}
 
 -- ---- the first of a local number
@@ -34,6 +36,10 @@ increases_on xs i start so next j k d h l = elim (cases_lt k i) [
   ])
 ]
 
+-- what a comparison answers
+pub ranked : (x y : ℕ) (r : Ordering) → r ≡ nat_cmp x y → MatchOrdering r (x < y) (x ≡ y) (y < x)
+ranked x y r e = subst (λ (k : Ordering). MatchOrdering k (x < y) (x ≡ y) (y < x)) (sym e) (ranks x y)
+
 -- ---- halving
 
 -- those before low are below the number, and those from high on above it; each comparison took a binary digit
@@ -43,6 +49,8 @@ pub record IsHalvedAt (local : ℕ) (xs : List (ℕ × ℕ)) (low high before no
   pub below : (k : ℕ) (d : ℕ × ℕ) → k < low → (get_or xs k d).0 < local
   pub above : (k : ℕ) (d : ℕ × ℕ) → high ≤ k → k < length xs → local < (get_or xs k d).0
   pub probes : (digits : ℕ) → length xs < 2 ^ digits → (rest : ℕ) × (now + rest ≤ before + digits) × (high - low < 2 ^ rest)
+  pub grows : before ≤ now
+  pub asks : now ≡ before → high - low ≡ length xs
 
 pub whole_halved : (local : ℕ) (xs : List (ℕ × ℕ)) (before : ℕ) → IsHalvedAt local xs 0 (length xs) before before
 whole_halved local xs before = record {
@@ -51,6 +59,8 @@ whole_halved local xs before = record {
   below = λ k d h. absurd (omega (arith, h));
   above = λ k d h l. absurd (omega (arith, h, l));
   probes = λ digits h. (digits, omega arith, omega (arith, h));
+  grows = omega arith;
+  asks = λ e. omega arith;
 }
 
 module _ (local : ℕ) (xs : List (ℕ × ℕ)) (low high middle before now : ℕ) (d : ℕ × ℕ) (halved : IsHalvedAt local xs low high before now) (order : Increases xs) (goes : low < high) (is : middle ≡ low + (high - low) / 2) where
@@ -76,6 +86,8 @@ module _ (local : ℕ) (xs : List (ℕ × ℕ)) (low high middle before now : �
     ];
     above = halved.above;
     probes = λ digits h. let p = halves digits h in (p.0, p.1, omega (arith, p.2, is));
+    grows = omega (arith, halved.grows);
+    asks = λ e. absurd (omega (arith, halved.grows, e));
   }
     where
       here : (e : ℕ × ℕ) → (get_or xs middle e).0 < local
@@ -91,6 +103,8 @@ module _ (local : ℕ) (xs : List (ℕ × ℕ)) (low high middle before now : �
       | inr not ↦ (let at : k ≡ middle = omega (arith, h, not) in rw at (here e))
     ];
     probes = λ digits h. let p = halves digits h in (p.0, p.1, omega (arith, p.2, is));
+    grows = omega (arith, halved.grows);
+    asks = λ e. absurd (omega (arith, halved.grows, e));
   }
     where
       here : (e : ℕ × ℕ) → local < (get_or xs middle e).0
@@ -109,3 +123,10 @@ found_none local xs low high before now halved over = none_is local xs (0, 0) (�
   | inl less ↦ (let a = halved.below j (0, 0) less in omega (arith, a, e))
   | inr not ↦ (let a = halved.above j (0, 0) (omega (arith, over, not)) h in omega (arith, a, e))
 ])
+
+-- where there is an export, one was looked at
+pub asked : (local : ℕ) (xs : List (ℕ × ℕ)) (low high before now : ℕ) → IsHalvedAt local xs low high before now → high ≤ low → 0 < length xs → before < now
+asked local xs low high before now halved over some = elim (cases_lt before now) [
+  | inl more ↦ more
+  | inr not ↦ (let all = halved.asks (omega (arith, not, halved.grows)) in absurd (omega (arith, all, over, some)))
+]

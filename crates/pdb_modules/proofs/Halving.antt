@@ -1,6 +1,6 @@
 -- Halving finds how many subsections stand at or before a place.
-use Rattle.std.proofs.Common.{◌≡◌, ℕ, zero, suc, ◌+◌, ◌-◌, ◌/◌, ◌^◌, ◌<◌, ◌≤◌, Bool, true, false, List, length, get_or, refl, sym, ap, ◌∙◌, arith}
-use Rattle.std.proofs.lemmas.Bool.{leb-true, le-leb}
+use Rattle.std.proofs.Common.{◌≡◌, ℕ, zero, suc, ◌+◌, ◌-◌, ◌/◌, ◌^◌, ◌<◌, ◌≤◌, Bool, true, false, List, length, get_or, inl, inr, refl, sym, ap, ◌∙◌, arith}
+use Rattle.std.proofs.lemmas.Bool.{leb-true, le-leb, cases_lt}
 use Rattle.std.proofs.lemmas.List.{get_or-map, length-map}
 use Rattle.std.proofs.Math.Nat.{pow-succ'}
 use Rattle.pdb_base.specs.declared.index.PdbInternalSectionOffset.{PdbInternalSectionOffset}
@@ -38,6 +38,8 @@ pub record IsHalved (q : PdbInternalSectionOffset) (ls : List Listed) (low high 
   pub below : (k : ℕ) (d : Subsection) → k < low → is_upto (get_or (listed_subsections ls) k d).place q ≡ true
   pub above : (k : ℕ) (d : Subsection) → high ≤ k → k < length ls → is_upto (get_or (listed_subsections ls) k d).place q ≡ false
   pub probes : (digits : ℕ) → length ls < 2 ^ digits → (rest : ℕ) × (now + rest ≤ before + digits) × (high - low < 2 ^ rest)
+  pub grows : before ≤ now
+  pub asks : now ≡ before → high - low ≡ length ls
 
 pub not_halved : (q : PdbInternalSectionOffset) (ls : List Listed) (before : ℕ) → IsHalved q ls 0 (length ls) before before
 not_halved q ls before = record {
@@ -46,6 +48,8 @@ not_halved q ls before = record {
   below = λ k d h. absurd (omega arith);
   above = λ k d h l. absurd (omega arith);
   probes = λ digits h. (digits, omega arith, omega arith);
+  grows = omega arith;
+  asks = λ e. omega arith;
 }
 
 module _ (q : PdbInternalSectionOffset) (ls : List Listed) (low high middle before now : ℕ) (r : Listed) (halved : IsHalved q ls low high before now) (order : InOrder (listed_subsections ls)) (goes : low < high) (is : middle ≡ low + (high - low) / 2) where
@@ -78,6 +82,8 @@ module _ (q : PdbInternalSectionOffset) (ls : List Listed) (low high middle befo
           (ap (λ (p : PdbInternalSectionOffset). is_upto p q) (sym (at_middle d)) ∙ test);
       above = halved.above;
       probes = λ digits h. let p = halves digits h in let b = p.2 in (p.0, p.1, omega arith);
+      grows = let g = halved.grows in omega arith;
+      asks = λ e. let g = halved.grows in absurd (omega (arith, e, g));
     }
 
     pub goes_down : is_upto t q ≡ false → IsHalved q ls low middle before (now + 1)
@@ -90,4 +96,33 @@ module _ (q : PdbInternalSectionOffset) (ls : List Listed) (low high middle befo
           let no = ap (λ (p : PdbInternalSectionOffset). is_upto p q) (sym (at_middle d)) ∙ test in
           cc);
       probes = λ digits h. let p = halves digits h in let b = p.2 in (p.0, p.1, omega arith);
+      grows = let g = halved.grows in omega arith;
+      asks = λ e. let g = halved.grows in absurd (omega (arith, e, g));
     }
+
+-- where some stand at or before q, the last of them lies in q's section or not
+pub record IsInSection (q : PdbInternalSectionOffset) (ls : List Listed) (low : ℕ) (in_section : Bool) : Type 0 where
+  pub here : in_section ≡ true → (d : Subsection) → 0 < low → (get_or (listed_subsections ls) (low - 1) d).place.section ≡ q.section
+  pub elsewhere : in_section ≡ false → (d : Subsection) → 0 < low → (get_or (listed_subsections ls) (low - 1) d).place.section ≡ q.section → ⊥
+
+pub none_in_section : (q : PdbInternalSectionOffset) (ls : List Listed) (in_section : Bool) → IsInSection q ls 0 in_section
+none_in_section q ls in_section = record { here = λ e d h. absurd (omega arith); elsewhere = λ e d h. absurd (omega arith) }
+
+module _ (q : PdbInternalSectionOffset) (ls : List Listed) (middle : ℕ) (r : Listed) (there : middle < length ls) (t : PdbInternalSectionOffset) (t_is : t ≡ (get_or ls middle r).part.place) where
+  last_is : (d : Subsection) → t ≡ (get_or (listed_subsections ls) (middle + 1 - 1) d).place
+  last_is d =
+      let same : middle + 1 - 1 ≡ middle = omega arith in
+      t_is ∙ (ap (λ (s : Subsection). s.place) (sym (get_or-map (λ (l : Listed). subsection_of l.part) ls middle r d there)) ∙ ap (λ (k : ℕ). (get_or (listed_subsections ls) k d).place) (sym same))
+
+  pub ends_here : t.section ≡ q.section → IsInSection q ls (middle + 1) true
+  ends_here same = record { here = λ e d h. ap (λ (p : PdbInternalSectionOffset). p.section) (sym (last_is d)) ∙ same; elsewhere = λ e. absurd cc }
+
+  pub ends_elsewhere : (t.section ≡ q.section → ⊥) → IsInSection q ls (middle + 1) false
+  ends_elsewhere other = record { here = λ e. absurd cc; elsewhere = λ e d h same. other (ap (λ (p : PdbInternalSectionOffset). p.section) (last_is d) ∙ same) }
+
+-- where there is a subsection, one was looked at
+pub asked : (q : PdbInternalSectionOffset) (ls : List Listed) (low high before now : ℕ) → IsHalved q ls low high before now → high ≤ low → 0 < length ls → before < now
+asked q ls low high before now halved over some = elim (cases_lt before now) [
+  | inl more ↦ more
+  | inr not ↦ (let all = halved.asks (omega (arith, not, halved.grows)) in absurd (omega (arith, all, over, some)))
+]

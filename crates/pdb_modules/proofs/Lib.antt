@@ -3,6 +3,7 @@ pub mod RowLemmas
 pub mod PartLemmas
 pub mod Nearest
 pub mod Faults
+pub mod OwnFaults
 pub mod RowRanges
 pub mod ProgramLemmas
 pub mod Halving

@@ -1,6 +1,7 @@
 -- The rows of one subsection.
 use Rattle.std.proofs.Common.{◌≡◌, ℕ, ◌+◌, ◌-◌, ◌<◌, ◌≤◌, true, List, [], ◌∷◌, map, length, get_or, take, drop, Option, refl, sym, ap, subst, ◌∙◌, arith}
 use Rattle.std.proofs.lemmas.List.{length-map, take-map, drop-map, get_or-map}
+use Rattle.std.specs.Option.{ForSome}
 use Rattle.pdb_base.specs.declared.error.Error.{Error}
 use Rattle.pdb_base.specs.Left.{Left}
 use Rattle.pdb_modules.specs.declared.line_info.LineInfo.{LineInfo}
@@ -11,6 +12,7 @@ use Rattle.pdb_modules.specs.KeptRows.{own, view_of, subsection_of, all_own}
 use Rattle.pdb_modules.specs.LineProgram.{part_bytes, listed_subsections, IsResolved}
 use Rattle.pdb_modules.proofs.RowRanges.{in_range, range_inside, range_fault, range_small}
 use Rattle.pdb_modules.proofs.Faults.{alone_fault}
+use Rattle.pdb_modules.proofs.OwnFaults.{IsOwn, part_own}
 
 module _ (rows : List Row) (ls : List Listed) (count : ℕ) (stop : Option Error) (b : List ℕ) (resolved : IsResolved rows ls count stop b) (ss : List Subsection) (k : ℕ) (l : Listed) (seen : listed_subsections ls ≡ ss) (h : k < length ss) (l_is : l ≡ get_or ls k l) where
   there : k < length ls
@@ -50,6 +52,9 @@ module _ (rows : List Row) (ls : List Listed) (count : ℕ) (stop : Option Error
 
   abbrev Told : Listed → Type 0
   Told l = l.fault ≡ (subsection_of l.part).fault
+
+  pub own_at : ForSome l.fault IsOwn
+  own_at = part_own l l.fault (subst Told (sym l_is) (range_fault 0 ls k l resolved.ranges there))
 
   its_fault : l.fault ≡ (lines_of (subsection_of l.part ∷ [])).fault
   its_fault = (let told : Told l = subst Told (sym l_is) (range_fault 0 ls k l resolved.ranges there) in told) ∙ alone_fault (subsection_of l.part)

@@ -2,7 +2,7 @@
 use Rattle.std.proofs.Common.{◌≡◌, ℕ, ◌<◌, ◌≤◌, Bool, true, false, cond, List, [], ◌∷◌, ◌++◌, map, length, Option, Some, None, Ok, Err, Result, refl, sym, ap, subst, ◌∙◌, arith, append_assoc}
 use Rattle.std.specs.List.{filter_map, cons_option}
 use Rattle.std.proofs.lemmas.Bool.{eq-eqb, ne_eqb}
-use Rattle.std.proofs.lemmas.List.{append-nil}
+use Rattle.std.proofs.lemmas.List.{append-nil, length-append, length-map}
 use Rattle.pdb_base.specs.declared.error.Error.{Error}
 use Rattle.pdb_base.specs.declared.error.Error.TheVariants.{UnexpectedEof}
 use Rattle.pdb_base.specs.Cursor.{Cursor, Reads}
@@ -17,7 +17,7 @@ use Rattle.pdb_modules.specs.KeptRows.{subsection_of}
 use Rattle.pdb_modules.specs.LineOrder.{ordered}
 use Rattle.pdb_modules.specs.Subsections.{PieceBytes, piece_at, piece_length, all_or_fault}
 use Rattle.pdb_modules.specs.SubsectionViews.{bytes_of_piece}
-use Rattle.pdb_modules.specs.ProgramParts.{is_short, whole_piece, whole_piece_at, whole_pieces_from, lines_subsection, as_lines, later_checksums, last_checksums, parts_among, parts_of}
+use Rattle.pdb_modules.specs.ProgramParts.{is_short, whole_piece, whole_piece_at, whole_pieces_from, lines_subsection, as_lines, later_checksums, last_checksums, lines_listed, parts_among, PartsOf, parts_of}
 use Rattle.pdb_modules.proofs.Refusals.{NotIo, not_io_then, fails_with}
 use Rattle.pdb_modules.proofs.SubsectionLemmas.{pieces_within, piece_not_io}
 use Rattle.pdb_modules.proofs.Turns.{turn_follows, turn_fault, turn_end}
@@ -134,3 +134,36 @@ module _ (b : List ℕ) where
         ap (λ (f : Option Error). all_or_fault (whole_pieces_from b 0).items f >>= (λ ps. Ok (parts_among ps))) (sym collecting.told ∙ ends.1)
         ∙ (ap (λ (ss : List Subsection). Ok (record { subsections = ordered ss; checksums = checksums_from [] 0 })) (sym all)
         ∙ ap (λ (c : List ℕ). Ok (record { subsections = ordered (map subsection_of lines); checksums = c })) (sym last))
+
+    -- a subsection of lines is listed
+    pub some_listed : (x : Piece) → Reads bytes_of_piece old new (Ok x) (whole_piece_at old.bytes old.place) (piece_length old.place) → x.kind ≡ 0xf2 → lines_listed b ≡ [] → ⊥
+    some_listed x reads is none =
+        let first : lines_from old.place ≡ lines_subsection x.body.now ∷ lines_from new.place =
+        ap (filter_map as_lines) (followed x reads).0 ∙ ap (λ (t : Bool). cons_option (cond t (Some (lines_subsection x.body.now)) None) (lines_from new.place)) (eq-eqb x.kind 0xf2 is) in
+        let all = ap length (ap (λ (ss : List Subsection). map subsection_of lines ++ ss) (sym first) ∙ (collecting.joined ∙ none)) in
+        let sum = length-append (map subsection_of lines) (lines_subsection x.body.now ∷ lines_from new.place) in
+        absurd (omega (arith, all, sum))
+
+    -- and where none is, none was collected at the end
+    pub none_collected : length b ≤ old.place → lines_listed b ≡ [] → length lines ≡ 0
+    none_collected h none =
+        let ends = end_ends h in
+        let all = ap length (collecting.joined ∙ none) in
+        let sum = length-append (map subsection_of lines) (lines_from old.place) in
+        omega (arith, all, sum, length-map lines subsection_of)
+
+taken_whole : (ps : List PieceBytes) (f : Option Error) (qs : List PieceBytes) → all_or_fault ps f ≡ Ok qs → qs ≡ ps
+taken_whole ps None qs e = cc
+taken_whole ps (Some d) qs e = absurd cc
+
+-- without a subsection of lines there is none in order
+pub none_listed : (b : List ℕ) (ls : List LineSubsection) (checksums : List ℕ) → parts_of b ≡ Ok (record { subsections = map subsection_of ls; checksums = checksums }) → lines_listed b ≡ [] → length ls ≡ 0
+unfolding parts_of ordered
+none_listed b ls checksums is none =
+    let (ps, e1, rest) = bind_ok (all_or_fault (whole_pieces_from b 0).items (whole_pieces_from b 0).fault) (λ ps. Ok (parts_among ps)) (record { subsections = map subsection_of ls; checksums = checksums }) is in
+    let same = taken_whole (whole_pieces_from b 0).items (whole_pieces_from b 0).fault ps e1 in
+    let empty : filter_map as_lines ps ≡ [] = rw same none in
+    let kept : parts_among ps ≡ record { subsections = map subsection_of ls; checksums = checksums } = cc in
+    let listed : ordered (filter_map as_lines ps) ≡ map subsection_of ls = ap (λ (ps : PartsOf). ps.subsections) kept in
+    let ended : map subsection_of ls ≡ [] = sym listed ∙ (rw empty refl) in
+    omega (arith, ap length ended, length-map ls subsection_of)

@@ -1,5 +1,5 @@
 -- What contracts see of an iterator over line records.
-use Rattle.std.specs.Prelude.{◌≡◌, ℕ, List}
+use Rattle.std.specs.Prelude.{◌≡◌, ℕ, List, length, None}
 use Rattle.pdb_base.specs.Left.{Left, ended}
 use Rattle.pdb_modules.specs.declared.inlined_lines.InlineeLineIterator.{InlineeLineIterator}
 use Rattle.pdb_modules.specs.declared.line_info.LineInfo.{LineInfo}
@@ -16,6 +16,10 @@ inlined_part it = annotations_bytes it.annotations
 abbrev pub inlined_steps : InlineeLineIterator → ℕ
 inlined_steps it = it.steps.count
 
--- an iterator has ended: no annotation is left
+-- how many annotations it hasn't read
+abbrev pub inlined_ahead : InlineeLineIterator → ℕ
+inlined_ahead it = length (annotations_left it.annotations).items
+
+-- an iterator has ended: no annotation is left, and no record waits
 abbrev pub InlinedEnded : InlineeLineIterator → Type 0
-InlinedEnded it = annotations_left it.annotations ≡ ended
+InlinedEnded it = (annotations_left it.annotations ≡ ended) × (it.lines.pending ≡ None)

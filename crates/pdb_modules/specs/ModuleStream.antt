@@ -8,6 +8,8 @@ use Rattle.pdb_base.specs.Fields.{number_at, bytes_at}
 use Rattle.pdb_base.specs.Left.{Left, ended}
 use Rattle.pdb_symbols.specs.SymbolList.{Entry, symbols_from}
 use Rattle.pdb_modules.specs.LineProgram.{ProgramOf, program_of}
+use Rattle.pdb_modules.specs.Lines.{Subsection}
+use Rattle.pdb_modules.specs.ProgramParts.{lines_listed}
 use Rattle.pdb_modules.specs.Subsections.{first_part}
 use Rattle.pdb_modules.specs.Inlinees.{InlineeEntry, inlinees_in}
 use Rattle.pdb_modules.specs.CrossModule.{ImportedModule, imports_in, exports_in}
@@ -46,6 +48,14 @@ lines_data_of m = bytes_at m.bytes m.symbols_size m.c13_lines_size
 
 unfoldable pub line_program_of : ModuleBytes → Result ProgramOf Error
 line_program_of m = if nat_lt 0 m.lines_size then Err (UnimplementedFeature C11LinePrograms) else lines_data_of m >>= program_of
+
+-- the subsections of lines before the end or the fault; none where the lines are of the older form, or aren't there
+abbrev pub listed_in : Result (List ℕ) Error → List Subsection
+listed_in (Ok b) = lines_listed b
+listed_in (Err e) = []
+
+unfoldable pub line_subsections_of : ModuleBytes → List Subsection
+line_subsections_of m = if nat_lt 0 m.lines_size then [] else listed_in (lines_data_of m)
 
 -- the first part of a kind, if there is one; none where the lines are of the older form
 unfoldable pub part_of_kind : ℕ → ModuleBytes → Result (Option (List ℕ)) Error

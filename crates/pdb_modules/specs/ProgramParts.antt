@@ -49,6 +49,10 @@ lines_subsection body = record {
 abbrev pub as_lines : PieceBytes → Option Subsection
 as_lines piece = if piece.kind == 0xf2 then Some (lines_subsection piece.body) else None
 
+-- the subsections of lines before the end or the fault, in the file's order
+abbrev pub lines_listed : List ℕ → List Subsection
+lines_listed b = filter_map as_lines (whole_pieces_from b 0).items
+
 -- the bytes of the last one of files' checksums, or those before, where there is none
 abbrev pub later_checksums : List ℕ → PieceBytes → List ℕ
 later_checksums before piece = if piece.kind == 0xf4 then piece.body else before

@@ -6,11 +6,13 @@ ghost use Rattle.pdb_base.specs.Refusal.{Gives};
 ghost use Rattle.pdb_modules.specs.CrossModule.{export_in, exports_in, global_of, Increases};
 ghost use Rattle.pdb_modules.specs.ExportViews.{export_of, local_of, global_number_of, is_id};
 
+use crate::room::room;
 use pdb_base::little_endian::u32_at;
 use pdb_base::{
     Error, FallibleIterator, IdIndex, ItemIndex, Local, Part, Result, Steps, TypeIndex,
 };
 use std::alloc::{AllocError, Global};
+use std::cmp::Ordering;
 use std::marker::Model;
 
 /// An export of a module: an index that is local to it, and the one by which the whole file knows the same record.
@@ -81,6 +83,8 @@ fn halve(exports: &[(u32, u32)], local: u32, steps: &mut Steps) -> Option<u32>
     requires { Increases exports.now }
     ensures found { result ≡ global_of local exports.now }
     ensures probes { (digits : ℕ) → length exports.now < 2 ^ digits → steps.new.count ≤ steps.old.count + digits }
+    ensures grows { steps.old.count ≤ steps.new.count }
+    ensures asks { 0 < length exports.now → steps.old.count < steps.new.count }
 {
     let mut low = 0;
     let mut high = exports.len();
@@ -88,13 +92,10 @@ fn halve(exports: &[(u32, u32)], local: u32, steps: &mut Steps) -> Option<u32>
         let middle = low + (high - low) / 2;
         steps.tick();
         let (other, global) = exports[middle];
-        if other == local {
-            return Some(global);
-        }
-        if other < local {
-            low = middle + 1;
-        } else {
-            high = middle;
+        match other.cmp(&local) {
+            Ordering::Equal => return Some(global),
+            Ordering::Less => low = middle + 1,
+            Ordering::Greater => high = middle,
         }
     }
     None
@@ -105,6 +106,9 @@ fn halve(exports: &[(u32, u32)], local: u32, steps: &mut Steps) -> Option<u32>
 fn look_through(exports: &[(u32, u32)], local: u32, steps: &mut Steps) -> Option<u32>
     ensures found { result ≡ global_of local exports.now }
     ensures probes { steps.new.count ≤ steps.old.count + length exports.now }
+    ensures grows { steps.old.count ≤ steps.new.count }
+    ensures asks { 0 < length exports.now → steps.old.count < steps.new.count }
+    ensures all { result ≡ None → steps.new.count ≡ steps.old.count + length exports.now }
 {
     for (other, global) in exports {
         steps.tick();
@@ -120,7 +124,8 @@ fn push_pair(pairs: &mut Vec<(u32, u32)>, local: u32, global: u32) -> Result<()>
     ensures pushed { IfOk result (λ _. pairs.new.items ≡ pairs.old.items ++ (local, global) ∷ []) }
     ensures refused { IfErr result (λ e. e ≡ Error.OutOfMemory) }
 {
-    pairs.push((local, global)).map_err(|_| Error::OutOfMemory)
+    pairs.push((local, global))?;
+    Ok(())
 }
 
 /// The pairs of a part whose size is a multiple of eight.
@@ -129,9 +134,7 @@ fn read_pairs(alloc: Global, part: &[u8]) -> Result<Vec<(u32, u32)>>
     ensures refused { IfErr result (λ e. e ≡ Error.OutOfMemory) }
 {
     let count = part.len() / 8;
-    let Ok(mut pairs) = Vec::with_capacity(alloc, count) else {
-        return Err(Error::OutOfMemory);
-    };
+    let mut pairs = room(alloc, count, part)?;
     for i in 0..count {
         push_pair(&mut pairs, u32_at(part, 8 * i), u32_at(part, 8 * i + 4))?;
     }
@@ -170,10 +173,7 @@ impl CrossModuleExports {
         if part.len() % 8 != 0 {
             return Err(Error::InvalidStreamLength(Part::CrossScopeExports));
         }
-        match read_pairs(alloc, part) {
-            Ok(pairs) => Ok(CrossModuleExports::of(pairs)),
-            Err(_) => Err(Error::OutOfMemory),
-        }
+        Ok(CrossModuleExports::of(read_pairs(alloc, part)?))
     }
 
     // The exports of these pairs.
@@ -234,6 +234,8 @@ impl CrossModuleExports {
         ensures ok { IsOk result }
         ensures halved { Increases self.now → (digits : ℕ) → length self.now < 2 ^ digits → steps.new.count ≤ steps.old.count + digits }
         ensures one_by_one { (Increases self.now → ⊥) → steps.new.count ≤ steps.old.count + length self.now }
+        ensures grows { steps.old.count ≤ steps.new.count }
+        ensures asks { 0 < length self.now → steps.old.count < steps.new.count }
     {
         let number = local.0.number();
         let exports = self.exports.as_slice();
@@ -295,8 +297,9 @@ impl<'a> CrossModuleExportIter<'a> {
 }
 
 impl<'a> FallibleIterator for CrossModuleExportIter<'a> {
-    ghost use Rattle.std.specs.Prelude.{IfSome, IfNone};
+    ghost use Rattle.std.specs.Prelude.{◌≢◌, IfSome, IfNone};
     ghost use Rattle.pdb_base.specs.Left.{Yields};
+    ghost use Rattle.pdb_base.specs.declared.error.Error.TheVariants.{IoError, OutOfMemory};
     ghost use Rattle.pdb_modules.specs.declared.exports.CrossModuleExport.{CrossModuleExport};
     ghost use Rattle.pdb_modules.specs.ModuleViews.{exports_left, exports_listed, exports_steps};
 
@@ -314,9 +317,9 @@ impl<'a> FallibleIterator for CrossModuleExportIter<'a> {
         ensures listed { exports_listed self.new ≡ exports_listed self.old }
         // Each export takes eight bytes of its part.
         ensures bound { exports_steps self.new ≤ length (exports_listed self.new) }
-        ensures stepped { exports_steps self.new ≤ exports_steps self.old + 1 }
-        ensures grows { exports_steps self.old ≤ exports_steps self.new }
+        ensures stepped { IfOk result (λ o. IfSome o (λ _. exports_steps self.new ≡ exports_steps self.old + 1)) }
         ensures rests { IfOk result (λ o. IfNone o (exports_steps self.new ≡ exports_steps self.old)) }
+        ensures refused { IfErr result (λ e. (e ≢ OutOfMemory) × (e ≢ IoError)) }
     {
         if self.exports.is_empty() {
             return Ok(None);

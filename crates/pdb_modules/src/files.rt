@@ -150,8 +150,9 @@ impl<'a> FileIterator<'a> {
 }
 
 impl<'a> FallibleIterator for FileIterator<'a> {
-    ghost use Rattle.std.specs.Prelude.{IfOk, IfErr, IfSome, IfNone};
+    ghost use Rattle.std.specs.Prelude.{◌≢◌, IfOk, IfErr, IfSome, IfNone};
     ghost use Rattle.pdb_base.specs.Left.{Yields};
+    ghost use Rattle.pdb_base.specs.declared.error.Error.TheVariants.{IoError, OutOfMemory};
     ghost use Rattle.pdb_modules.specs.Files.{FileOf};
     ghost use Rattle.pdb_modules.specs.FileViews.{shown_file};
     ghost use Rattle.pdb_modules.specs.ModuleViews.{files_left, files_part, files_steps};
@@ -170,9 +171,10 @@ impl<'a> FallibleIterator for FileIterator<'a> {
         ensures few { length (files_left self.old).items < 2 ^ 64 }
         ensures part { files_part self.new ≡ files_part self.old }
         ensures bound { files_steps self.new ≤ length (files_part self.new) + 1 }
-        ensures stepped { files_steps self.new ≤ files_steps self.old + 1 }
+        ensures stepped { IfOk result (λ o. IfSome o (λ _. files_steps self.new ≡ files_steps self.old + 1)) }
+        ensures stepped_to_fault { IfErr result (λ _. files_steps self.new ≡ files_steps self.old + 1) }
         ensures rests { IfOk result (λ o. IfNone o (files_steps self.new ≡ files_steps self.old)) }
-        ensures grows { files_steps self.old ≤ files_steps self.new }
+        ensures refused { IfErr result (λ e. (e ≢ OutOfMemory) × (e ≢ IoError)) }
     {
         if self.buffer.is_empty() {
             return Ok(None);

@@ -1,11 +1,12 @@
 //! What a module imports from other modules.
 
-ghost use Rattle.std.specs.Prelude.{◌≡◌, ◌++◌, [], ◌∷◌, map, length, IfOk, IfErr};
+ghost use Rattle.std.specs.Prelude.{◌≡◌, ◌≤◌, ◌*◌, ◌++◌, [], ◌∷◌, map, length, IfOk, IfErr};
 ghost use Rattle.pdb_base.specs.Cursor.{Reads};
 ghost use Rattle.pdb_base.specs.Refusal.{Answers, Gives};
 ghost use Rattle.pdb_modules.specs.CrossModule.{imported_at, imported_length, imports_in, reference_of};
 ghost use Rattle.pdb_modules.specs.ImportViews.{module_of};
 
+use crate::room::room;
 use pdb_base::little_endian::u32_at;
 use pdb_base::{Error, ItemIndex, Local, ParseBuffer, Result, StringRef};
 use std::alloc::Global;
@@ -57,14 +58,30 @@ fn push_imported<'a>(modules: &mut Vec<Imported<'a>>, imported: Imported<'a>) ->
     ensures pushed { IfOk result (λ _. map module_of modules.new.items ≡ map module_of modules.old.items ++ module_of imported.entry ∷ []) }
     ensures refused { IfErr result (λ e. e ≡ Error.OutOfMemory) }
 {
-    modules.push(imported).map_err(|_| Error::OutOfMemory)
+    modules.push(imported)?;
+    Ok(())
+}
+
+/// How many modules a part has, up to its end or its fault. Each has eight bytes at least.
+fn count_modules(part: &[u8]) -> usize
+    ensures { 8 * result ≤ length part.now }
+{
+    let mut count = 0;
+    let mut buffer = ParseBuffer::from(part);
+    while !buffer.is_empty() {
+        match read_imported(&mut buffer) {
+            Ok(_imported) => count += 1,
+            Err(_error) => return count,
+        }
+    }
+    count
 }
 
 /// The modules of a part.
 fn read_modules<'a>(alloc: Global, part: &'a [u8]) -> Result<Vec<Imported<'a>>>
     ensures { Gives (λ modules. map module_of modules.items) ⊥ result (imports_in part.entry.now) }
 {
-    let mut modules = Vec::new(alloc);
+    let mut modules = room(alloc, count_modules(part), part)?;
     let mut buffer = ParseBuffer::from(part);
     while !buffer.is_empty() {
         match read_imported(&mut buffer) {

@@ -1,7 +1,8 @@
 //! The line records of an inline site.
 
-ghost use Rattle.std.specs.Prelude.{ℕ, ◌+◌, ◌^◌, ◌<◌, ◌≤◌, ◌≡◌, length, ⊤};
+ghost use Rattle.std.specs.Prelude.{ℕ, ◌+◌, ◌^◌, ◌<◌, ◌≤◌, ◌≡◌, ◌⊎◌, length, IsSome, ⊤};
 ghost use Rattle.std.specs.Option.{option_len};
+ghost use Rattle.pdb_base.specs.Left.{ended};
 ghost use Rattle.pdb_modules.specs.Inlined.{inlined_lines};
 ghost use Rattle.pdb_symbols.specs.AnnotationViews.{annotation_bytes, annotations_left, annotations_bytes, annotations_steps};
 
@@ -19,7 +20,8 @@ pub struct InlineeLineIterator<'a> {
     annotations: BinaryAnnotationsIter<'a>,
     lines: Lines,
     steps: Steps,
-    ghost counted: { steps.count + length (annotations_left annotations).items + option_len (annotations_left annotations).fault ≤ length (annotations_bytes annotations) + 1 },
+    ghost counted: { steps.count + length (annotations_left annotations).items ≤ length (annotations_bytes annotations) + 1 },
+    ghost going: { (annotations_left annotations ≡ ended → ⊥) ⊎ IsSome lines.pending → steps.count + length (annotations_left annotations).items ≤ length (annotations_bytes annotations) },
     ghost room: { length (annotations_left annotations).items + option_len lines.pending ≤ length (annotations_bytes annotations) },
 }
 
@@ -51,10 +53,11 @@ impl<'a> InlineeLineIterator<'a> {
 }
 
 impl<'a> FallibleIterator for InlineeLineIterator<'a> {
-    ghost use Rattle.std.specs.Prelude.{IfOk, IfErr, IfNone};
+    ghost use Rattle.std.specs.Prelude.{◌≢◌, IfOk, IfErr, IfSome, IfNone};
     ghost use Rattle.pdb_base.specs.Left.{Yields};
+    ghost use Rattle.pdb_base.specs.declared.error.Error.TheVariants.{IoError, OutOfMemory};
     ghost use Rattle.pdb_modules.specs.declared.line_info.LineInfo.{LineInfo};
-    ghost use Rattle.pdb_modules.specs.InlinedViews.{inlined_left, inlined_part, inlined_steps, InlinedEnded};
+    ghost use Rattle.pdb_modules.specs.InlinedViews.{inlined_left, inlined_part, inlined_steps, inlined_ahead, InlinedEnded};
 
     type Item = LineInfo;
 
@@ -69,14 +72,18 @@ impl<'a> FallibleIterator for InlineeLineIterator<'a> {
         ensures yields { Yields (λ l. l) (inlined_left self.old) result (inlined_left self.new) }
         ensures few { length (inlined_left self.old).items < 2 ^ 64 }
         ensures part { inlined_part self.new ≡ inlined_part self.old }
-        // A step is a turn that reads an annotation or meets the fault.
+        // A step is a turn that reads an annotation, gives the last record at their end, or meets the fault.
         ensures bound { inlined_steps self.new ≤ length (inlined_part self.new) + 1 }
         ensures grows { inlined_steps self.old ≤ inlined_steps self.new }
         // A list that has ended makes no step.
         ensures rests { InlinedEnded self.old → inlined_steps self.new ≡ inlined_steps self.old }
         ensures ends { IfOk result (λ o. IfNone o (InlinedEnded self.new)) }
         ensures ends_at_fault { IfErr result (λ _. InlinedEnded self.new) }
-        ensures stepped_to_fault { IfErr result (λ _. inlined_steps self.old < inlined_steps self.new) }
+        ensures stepped { IfOk result (λ o. (InlinedEnded self.new → ⊥) → inlined_steps self.new + inlined_ahead self.new ≡ inlined_steps self.old + inlined_ahead self.old) }
+        ensures stepped_to_last { IfOk result (λ o. IfSome o (λ _. InlinedEnded self.new → inlined_steps self.new ≡ inlined_steps self.old + inlined_ahead self.old + 1)) }
+        ensures stepped_to_end { IfOk result (λ o. IfNone o (inlined_steps self.new ≡ inlined_steps self.old + inlined_ahead self.old)) }
+        ensures stepped_to_fault { IfErr result (λ _. inlined_steps self.new ≡ inlined_steps self.old + inlined_ahead self.old + 1) }
+        ensures refused { IfErr result (λ e. (e ≢ OutOfMemory) × (e ≢ IoError)) }
     {
         loop {
             match self.annotations.next() {
@@ -88,7 +95,13 @@ impl<'a> FallibleIterator for InlineeLineIterator<'a> {
                         }
                     }
                 }
-                Ok(None) => return Ok(self.lines.pending.take()),
+                Ok(None) => {
+                    let last = self.lines.pending.take();
+                    if last.is_some() {
+                        self.steps.tick();
+                    }
+                    return Ok(last);
+                }
                 Err(error) => {
                     self.steps.tick();
                     self.lines.pending = None;
@@ -102,7 +115,6 @@ impl<'a> FallibleIterator for InlineeLineIterator<'a> {
 impl Default for InlineeLineIterator<'_> {
     ghost use Rattle.pdb_modules.specs.InlinedViews.{inlined_left, inlined_part, inlined_steps};
     ghost use Rattle.std.specs.Prelude.{[]};
-    ghost use Rattle.pdb_base.specs.Left.{ended};
 
     ghost is_default = { λ it. (inlined_left it ≡ ended) × (inlined_part it ≡ []) × (inlined_steps it ≡ 0) };
 

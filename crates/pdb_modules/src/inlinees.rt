@@ -159,8 +159,9 @@ impl<'a> InlineeIterator<'a> {
 }
 
 impl<'a> FallibleIterator for InlineeIterator<'a> {
-    ghost use Rattle.std.specs.Prelude.{IfNone};
+    ghost use Rattle.std.specs.Prelude.{◌≢◌, IfErr, IfSome, IfNone};
     ghost use Rattle.pdb_base.specs.Left.{Yields};
+    ghost use Rattle.pdb_base.specs.declared.error.Error.TheVariants.{IoError, OutOfMemory};
     ghost use Rattle.pdb_modules.specs.Inlinees.{InlineeEntry};
     ghost use Rattle.pdb_modules.specs.ModuleViews.{inlinees_left, inlinees_part, inlinees_steps};
 
@@ -178,9 +179,10 @@ impl<'a> FallibleIterator for InlineeIterator<'a> {
         ensures few { length (inlinees_left self.old).items < 2 ^ 64 }
         ensures part { inlinees_part self.new ≡ inlinees_part self.old }
         ensures bound { inlinees_steps self.new ≤ length (inlinees_part self.new) + 1 }
-        ensures stepped { inlinees_steps self.new ≤ inlinees_steps self.old + 1 }
-        ensures grows { inlinees_steps self.old ≤ inlinees_steps self.new }
+        ensures stepped { IfOk result (λ o. IfSome o (λ _. inlinees_steps self.new ≡ inlinees_steps self.old + 1)) }
+        ensures stepped_to_fault { IfErr result (λ _. inlinees_steps self.new ≡ inlinees_steps self.old + 1) }
         ensures rests { IfOk result (λ o. IfNone o (inlinees_steps self.new ≡ inlinees_steps self.old)) }
+        ensures refused { IfErr result (λ e. (e ≢ OutOfMemory) × (e ≢ IoError)) }
     {
         if self.buffer.is_empty() {
             return Ok(None);

@@ -1,6 +1,6 @@
 //! Laws of the definitions.
 
-ghost use Rattle.std.specs.Prelude.{◌≡◌, ℕ, suc, ◌+◌, ◌*◌, ◌%◌, ◌^◌, ◌<◌, ◌++◌, List, length, take, get_or, Ok, Some, None, Decides};
+ghost use Rattle.std.specs.Prelude.{◌≡◌, ℕ, suc, ◌+◌, ◌*◌, ◌%◌, ◌^◌, ◌<◌, ◌++◌, List, length, take, get_or, false, Ok, Some, None, Decides};
 ghost use Rattle.pdb_base.specs.Fields.{number};
 ghost use Rattle.pdb_modules.specs.CrossModule.{exports_in, global_of};
 ghost use Rattle.pdb_modules.specs.Files.{Checksum, same_sums, HaveOneDigest};
@@ -13,7 +13,7 @@ ghost use Rattle.pdb_base.specs.declared.index.PdbInternalSectionOffset.{PdbInte
 ghost use Rattle.pdb_modules.specs.declared.line_info.LineInfo.{LineInfo};
 ghost use Rattle.pdb_modules.specs.Lines.{Mark, Subsection, AreRecords, records, lines_of};
 ghost use Rattle.pdb_modules.specs.KeptRows.{StandAmong};
-ghost use Rattle.pdb_modules.specs.LineOrder.{IsOrdering, ordered, IsLastUpto, last_upto, lines_for};
+ghost use Rattle.pdb_modules.specs.LineOrder.{IsOrdering, is_upto, ordered, IsLastUpto, last_upto, lines_for};
 
 /// The records of marks are those whose lengths are the least forward distances, and no others are.
 pub fn records_reach_the_nearest_mark()
@@ -27,9 +27,12 @@ pub fn subsections_have_one_order()
     ensures only { (xs ys : List Subsection) → IsOrdering xs ys → ys ≡ ordered xs }
 {}
 
-/// The last subsection at or before a place is the one that is chosen.
+/// The subsection that is chosen for a place is the last one at or before it, and none is chosen where all stand behind
+/// it.
 pub fn the_last_is_chosen()
-    ensures { (q : PdbInternalSectionOffset) (ss : List Subsection) (k : ℕ) (s : Subsection) → IsLastUpto q ss k s → last_upto q ss ≡ Some s }
+    ensures is { (q : PdbInternalSectionOffset) (ss : List Subsection) (k : ℕ) (s : Subsection) → IsLastUpto q ss k s → last_upto q ss ≡ Some s }
+    ensures only { (q : PdbInternalSectionOffset) (ss : List Subsection) (s : Subsection) → last_upto q ss ≡ Some s → (k : ℕ) × IsLastUpto q ss k s }
+    ensures none { (q : PdbInternalSectionOffset) (ss : List Subsection) → last_upto q ss ≡ None → (k : ℕ) (d : Subsection) → k < length ss → is_upto (get_or ss k d).place q ≡ false }
 {}
 
 /// Where neither list has a fault, the records for a symbol stand one after the other among all records, the same but

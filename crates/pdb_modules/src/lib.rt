@@ -17,6 +17,7 @@ mod lines;
 mod module_info;
 mod parts;
 mod pending;
+mod room;
 mod rows;
 mod search;
 mod seen;

@@ -1,6 +1,6 @@
 //! The line program of a module: all its line records, resolved once.
 
-ghost use Rattle.std.specs.Prelude.{◌≡◌, ◌+◌, ◌-◌, ◌≤◌, [], ◌∷◌, ◌++◌, map, length, IfOk, IfErr};
+ghost use Rattle.std.specs.Prelude.{◌≡◌, ◌≢◌, ◌+◌, ◌-◌, ◌≤◌, [], ◌∷◌, ◌++◌, map, length, IfOk, IfErr, IsOk};
 ghost use Rattle.pdb_modules.specs.KeptRows.{given_count, subsection_of};
 ghost use Rattle.pdb_modules.specs.LineOrder.{InOrder};
 
@@ -8,6 +8,7 @@ use crate::files::{FileInfo, FileIterator, file_info};
 use crate::line_subsection::LineSubsection;
 use crate::lines::LineIterator;
 use crate::parts::ordered_parts;
+use crate::room::room;
 use crate::rows::{Row, add_part, most_rows};
 use crate::search::count_upto;
 use pdb_base::{Error, FileIndex, PdbInternalSectionOffset, Result, Steps};
@@ -80,14 +81,13 @@ fn list_part<'a>(
     ensures listed { IfOk result (λ _. listed.new.items ≡ listed.old.items ++ record { part = part.entry; from = from; to = to; fault = fault } ∷ []) }
     ensures refused { IfErr result (λ e. e ≡ Error.OutOfMemory) }
 {
-    listed
-        .push(Listed {
-            part,
-            from,
-            to,
-            fault,
-        })
-        .map_err(|_| Error::OutOfMemory)
+    listed.push(Listed {
+        part,
+        from,
+        to,
+        fault,
+    })?;
+    Ok(())
 }
 
 impl<'a> LineProgram<'a> {
@@ -98,12 +98,14 @@ impl<'a> LineProgram<'a> {
     ghost use Rattle.pdb_modules.specs.FileViews.{shown_file};
     ghost use Rattle.pdb_modules.specs.ModuleViews.{files_left, files_part, files_steps};
     ghost use Rattle.pdb_modules.specs.LineProgram.{part_bytes, program_of};
+    ghost use Rattle.pdb_modules.specs.ProgramParts.{lines_listed};
     ghost use Rattle.pdb_modules.specs.Lines.{Subsection, lines_of};
     ghost use Rattle.pdb_modules.specs.LineViews.{lines_left, lines_part, lines_steps};
 
     // The line program of a module's lines data.
     pub(crate) fn parse(alloc: Global, lines_data: &'a [u8]) -> Result<LineProgram<'a>>
-        ensures { Gives (λ p. p) ⊥ result (program_of lines_data.entry.now) }
+        ensures program { Gives (λ p. p) ⊥ result (program_of lines_data.entry.now) }
+        ensures lean { lines_listed lines_data.entry.now ≡ [] → IfErr result (λ e. e ≢ Error.OutOfMemory) }
     {
         match ordered_parts(alloc, lines_data) {
             Ok(parts) => {
@@ -122,15 +124,13 @@ impl<'a> LineProgram<'a> {
     ) -> Result<LineProgram<'a>>
         requires order { InOrder (map subsection_of parts.now) }
         requires room { sum_by part_bytes parts.now ≤ length lines_data.now }
+        requires few { length parts.now ≤ length lines_data.now }
         ensures program { IfOk result (λ p. p ≡ record { subsections = map subsection_of parts.now; checksums = checksums.entry.now; bytes = lines_data.entry.now }) }
+        ensures lean { length parts.now ≡ 0 → IfErr result (λ e. e ≢ Error.OutOfMemory) }
         ensures refused { IfErr result (λ e. e ≡ Error.OutOfMemory) }
     {
-        let Ok(mut rows) = Vec::with_capacity(alloc, most_rows(parts)) else {
-            return Err(Error::OutOfMemory);
-        };
-        let Ok(mut listed) = Vec::with_capacity(alloc, parts.len()) else {
-            return Err(Error::OutOfMemory);
-        };
+        let mut rows = room(alloc, most_rows(parts), lines_data)?;
+        let mut listed = room(alloc, parts.len(), lines_data)?;
         let mut count = 0;
         let mut fault: Option<Error> = None;
         for part in parts {
@@ -187,16 +187,17 @@ impl<'a> LineProgram<'a> {
         ensures part { lines_part result ≡ part_for offset self.now.subsections }
         ensures begins { lines_steps result ≡ 0 }
         ensures probes { (digits : ℕ) → length self.now.subsections < 2 ^ digits → steps.new.count ≤ steps.old.count + digits }
+        ensures grows { steps.old.count ≤ steps.new.count }
+        ensures asks { 0 < length self.now.subsections → steps.old.count < steps.new.count }
     {
-        let count = count_upto(self.listed.as_slice(), offset, steps);
-        if count == 0 {
+        let upto = count_upto(self.listed.as_slice(), offset, steps);
+        if upto.count == 0 {
             return LineIterator::new(&[], true, None, &[]);
         }
-        let index = count - 1;
-        if self.listed[index].place().section != offset.section {
+        if !upto.in_section {
             return LineIterator::new(&[], true, None, &[]);
         }
-        self.lines_at(index)
+        self.lines_at(upto.count - 1)
     }
 
     /// The records of the last subsection at or before `offset`, if it lies in the same section, as if it were the

@@ -1,6 +1,8 @@
 //! Lists of line records.
 
-ghost use Rattle.std.specs.Prelude.{◌≡◌, ◌+◌, ◌≤◌, ◌<◌, length, IsSome, ⊤};
+ghost use Rattle.std.specs.Prelude.{◌≡◌, ◌≢◌, ◌+◌, ◌≤◌, ◌<◌, length, IsSome, ⊤};
+ghost use Rattle.std.specs.Option.{ForSome};
+ghost use Rattle.pdb_base.specs.declared.error.Error.TheVariants.{IoError, OutOfMemory};
 
 use crate::line_info::LineInfo;
 use crate::rows::Row;
@@ -22,6 +24,7 @@ pub struct LineIterator<'a> {
     ghost counted: { steps.count + length rows.now ≤ length part.now + 1 },
     ghost waiting: { IsSome fault → steps.count + length rows.now ≤ length part.now },
     ghost going: { 0 < length rows.now → steps.count + length rows.now ≤ length part.now },
+    ghost own: { ForSome fault (λ e. (e ≢ OutOfMemory) × (e ≢ IoError)) },
 }
 
 impl<'a> LineIterator<'a> {
@@ -36,7 +39,8 @@ impl<'a> LineIterator<'a> {
         fault: Option<Error>,
         part: &'a [u8],
     ) -> LineIterator<'a>
-        requires { length rows.now ≤ length part.now }
+        requires room { length rows.now ≤ length part.now }
+        requires own { ForSome fault (λ e. (e ≢ OutOfMemory) × (e ≢ IoError)) }
         ensures part { lines_part result ≡ part.entry.now }
         ensures left { lines_left result ≡ record { items = map (view_of is_own) rows.entry.now; fault = fault } }
         ensures steps { lines_steps result ≡ 0 }
@@ -52,7 +56,7 @@ impl<'a> LineIterator<'a> {
 }
 
 impl<'a> FallibleIterator for LineIterator<'a> {
-    ghost use Rattle.std.specs.Prelude.{◌≡◌, ◌+◌, ◌≤◌, ◌<◌, ◌^◌, length, IfOk, IfErr, IfSome, IfNone};
+    ghost use Rattle.std.specs.Prelude.{◌≡◌, ◌≢◌, ◌+◌, ◌≤◌, ◌<◌, ◌^◌, length, IfOk, IfErr, IfSome, IfNone};
     ghost use Rattle.pdb_base.specs.Left.{Yields};
     ghost use Rattle.pdb_modules.specs.declared.line_info.LineInfo.{LineInfo};
     ghost use Rattle.pdb_modules.specs.LineViews.{lines_left, lines_part, lines_steps};
@@ -70,9 +74,10 @@ impl<'a> FallibleIterator for LineIterator<'a> {
         ensures few { length (lines_left self.old).items < 2 ^ 64 }
         ensures part { lines_part self.new ≡ lines_part self.old }
         ensures bound { lines_steps self.new ≤ length (lines_part self.new) + 1 }
-        ensures stepped { lines_steps self.new ≤ lines_steps self.old + 1 }
-        ensures grows { lines_steps self.old ≤ lines_steps self.new }
+        ensures stepped { IfOk result (λ o. IfSome o (λ _. lines_steps self.new ≡ lines_steps self.old + 1)) }
+        ensures stepped_to_fault { IfErr result (λ _. lines_steps self.new ≡ lines_steps self.old + 1) }
         ensures rests { IfOk result (λ o. IfNone o (lines_steps self.new ≡ lines_steps self.old)) }
+        ensures refused { IfErr result (λ e. (e ≢ OutOfMemory) × (e ≢ IoError)) }
     {
         if self.rows.is_empty() {
             return match self.fault {

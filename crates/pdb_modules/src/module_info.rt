@@ -1,10 +1,10 @@
 //! The stream of a module.
 
-ghost use Rattle.std.specs.Prelude.{◌≡◌, ◌≢◌, ◌≤◌, length, Ok, IfOk, IfErr};
+ghost use Rattle.std.specs.Prelude.{◌≡◌, ◌≢◌, ◌≤◌, ℕ, List, [], length, Some, Ok, IfOk, IfErr};
 ghost use Rattle.pdb_base.specs.Refusal.{Answers, Gives};
 ghost use Rattle.pdb_base.specs.Fields.{bytes_at};
 ghost use Rattle.pdb_symbols.specs.Views.{symbols_left, symbols_bytes, symbols_steps};
-ghost use Rattle.pdb_modules.specs.ModuleStream.{checked_part, symbols_part_of, symbols_of, symbols_at_of, lines_data_of, line_program_of, part_of_kind, inlinees_of, inlinees_part_of, imports_of, exports_of};
+ghost use Rattle.pdb_modules.specs.ModuleStream.{checked_part, symbols_part_of, symbols_of, symbols_at_of, lines_data_of, line_program_of, line_subsections_of, part_of_kind, inlinees_of, inlinees_part_of, imports_of, exports_of};
 ghost use Rattle.pdb_modules.specs.ModuleViews.{inlinees_left, inlinees_part, inlinees_steps};
 ghost use Rattle.pdb_modules.specs.SubsectionViews.{seen_part};
 
@@ -148,9 +148,11 @@ impl<'s> ModuleInfo<'s> {
     /// where a subsection isn't, or one of lines is shorter than its header; with `UnimplementedDebugSubsection` for a
     /// kind that isn't known; and for want of memory. A damaged block of lines doesn't refuse it: the list of records
     /// tells it where it is reached.
-    #[tactic(auto, unfolding(crate::specs::ModuleStream::line_program_of))]
+    #[tactic(auto, unfolding(crate::specs::ModuleStream::line_program_of, crate::specs::ModuleStream::line_subsections_of))]
     pub fn line_program(&self, alloc: Global) -> Result<LineProgram<'_>>
-        ensures { Gives (λ p. p) ⊥ result (line_program_of self.now) }
+        ensures program { Gives (λ p. p) ⊥ result (line_program_of self.now) }
+        // It takes no memory where it has no subsection of lines.
+        ensures lean { line_subsections_of self.now ≡ [] → IfErr result (λ e. e ≢ Error.OutOfMemory) }
     {
         if self.lines_size > 0 {
             return Err(Error::UnimplementedFeature(Feature::C11LinePrograms));
@@ -178,7 +180,9 @@ impl<'s> ModuleInfo<'s> {
     /// part isn't whole (`UnexpectedEof`), and for want of memory.
     #[tactic(auto, unfolding(crate::specs::ModuleStream::imports_of))]
     pub fn imports(&self, alloc: Global) -> Result<CrossModuleImports<'_>>
-        ensures { Gives (λ x. x) ⊥ result (imports_of self.now) }
+        ensures imports { Gives (λ x. x) ⊥ result (imports_of self.now) }
+        // It takes no memory where there is no such part.
+        ensures lean { ((part : List ℕ) → part_of_kind 0xf7 self.now ≡ Ok (Some part) → ⊥) → IfErr result (λ e. e ≢ Error.OutOfMemory) }
     {
         match self.part_of_kind(IMPORTS)? {
             Some(part) => CrossModuleImports::parse(alloc, part),
@@ -191,7 +195,9 @@ impl<'s> ModuleInfo<'s> {
     /// memory.
     #[tactic(auto, unfolding(crate::specs::ModuleStream::exports_of))]
     pub fn exports(&self, alloc: Global) -> Result<CrossModuleExports>
-        ensures { Gives (λ x. x) ⊥ result (exports_of self.now) }
+        ensures exports { Gives (λ x. x) ⊥ result (exports_of self.now) }
+        // It takes no memory where there is no such part, or its size is wrong.
+        ensures lean { ((part : List ℕ) → part_of_kind 0xf8 self.now ≡ Ok (Some part) → ⊥) → IfErr result (λ e. e ≢ Error.OutOfMemory) }
     {
         match self.part_of_kind(EXPORTS)? {
             Some(part) => CrossModuleExports::parse(alloc, part),

@@ -1,13 +1,13 @@
 //! The subsections that a line program is made of.
 
-ghost use Rattle.std.specs.Prelude.{◌≡◌, ◌+◌, ◌≤◌, [], ◌∷◌, ◌++◌, map, sum_by, length, IfOk, IfErr};
+ghost use Rattle.std.specs.Prelude.{◌≡◌, ◌≢◌, ◌+◌, ◌≤◌, [], ◌∷◌, ◌++◌, map, sum_by, length, vec_len, IfOk, IfErr};
 ghost use Rattle.pdb_base.specs.Cursor.{Reads};
 ghost use Rattle.pdb_base.specs.Refusal.{Gives};
 ghost use Rattle.pdb_modules.specs.KeptRows.{subsection_of};
 ghost use Rattle.pdb_modules.specs.LineProgram.{part_bytes};
 ghost use Rattle.pdb_modules.specs.LineOrder.{InOrder};
 ghost use Rattle.pdb_modules.specs.Subsections.{piece_length};
-ghost use Rattle.pdb_modules.specs.ProgramParts.{whole_piece_at, lines_subsection, parts_of};
+ghost use Rattle.pdb_modules.specs.ProgramParts.{whole_piece_at, lines_listed, lines_subsection, parts_of};
 ghost use Rattle.pdb_modules.specs.SubsectionViews.{bytes_of_piece};
 ghost use Rattle.pdb_modules.specs.PartViews.{program_of_parts};
 
@@ -59,9 +59,11 @@ fn push_part<'a>(parts: &mut Vec<LineSubsection<'a>>, body: &'a [u8]) -> Result<
     requires { 12 ≤ length body.now }
     ensures pushed { IfOk result (λ _. map subsection_of parts.new.items ≡ map subsection_of parts.old.items ++ lines_subsection body.entry.now ∷ []) }
     ensures size { IfOk result (λ _. sum_by part_bytes parts.new.items ≤ sum_by part_bytes parts.old.items + length body.entry.now) }
+    ensures count { IfOk result (λ _. vec_len parts.new ≡ vec_len parts.old + 1) }
     ensures refused { IfErr result (λ e. e ≡ Error.OutOfMemory) }
 {
-    parts.push(lines_part(body)).map_err(|_| Error::OutOfMemory)
+    parts.push(lines_part(body))?;
+    Ok(())
 }
 
 /// The parts of a module's lines data.
@@ -69,6 +71,9 @@ pub(crate) fn ordered_parts<'a>(alloc: Global, lines_data: &'a [u8]) -> Result<P
     ensures parts { Gives program_of_parts ⊥ result (parts_of lines_data.entry.now) }
     ensures room { IfOk result (λ parts. sum_by part_bytes parts.lines.items ≤ length lines_data.entry.now) }
     ensures order { IfOk result (λ parts. InOrder (map subsection_of parts.lines.items)) }
+    ensures count { IfOk result (λ parts. vec_len parts.lines ≤ length lines_data.entry.now) }
+    // Without a subsection of lines it takes no memory.
+    ensures lean { lines_listed lines_data.entry.now ≡ [] → IfErr result (λ e. e ≢ Error.OutOfMemory) }
 {
     let mut lines = Vec::new(alloc);
     let mut checksums: &'a [u8] = &[];

@@ -118,8 +118,8 @@ fn add_mark(
     if is_marker(line.flags) {
         return Ok(());
     }
-    rows.push(Row::new(place, line))
-        .map_err(|_| Error::OutOfMemory)
+    rows.push(Row::new(place, line))?;
+    Ok(())
 }
 
 /// The rows of a block's entries are added; `has_columns` is a constant wherever it is called.

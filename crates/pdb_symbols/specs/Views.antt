@@ -24,6 +24,10 @@ symbols_left it = listing symbols it.buffer.bytes it.buffer.place
 abbrev pub symbols_bytes : SymbolIter → List ℕ
 symbols_bytes it = it.buffer.bytes
 
+-- the place among them at which an iterator stands
+abbrev pub symbols_place : SymbolIter → ℕ
+symbols_place it = it.buffer.place
+
 -- an iterator has ended: no byte is left
 abbrev pub SymbolsEnded : SymbolIter → Type 0
 SymbolsEnded it = length it.buffer.bytes ≤ it.buffer.place

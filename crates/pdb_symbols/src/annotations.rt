@@ -99,8 +99,9 @@ pub struct BinaryAnnotationsIter<'t> {
 }
 
 impl<'t> FallibleIterator for BinaryAnnotationsIter<'t> {
-    ghost use Rattle.std.specs.Prelude.{IfOk, IfErr, IfSome, IfNone};
+    ghost use Rattle.std.specs.Prelude.{◌≢◌, IfOk, IfErr, IfSome, IfNone};
     ghost use Rattle.pdb_base.specs.Left.{Yields};
+    ghost use Rattle.pdb_base.specs.declared.error.Error.TheVariants.{IoError, OutOfMemory};
     ghost use Rattle.pdb_symbols.specs.declared.annotations.BinaryAnnotation.{BinaryAnnotation};
     ghost use Rattle.pdb_symbols.specs.AnnotationViews.{annotations_left, annotations_bytes, annotations_steps, AnnotationsEnded};
 
@@ -121,11 +122,14 @@ impl<'t> FallibleIterator for BinaryAnnotationsIter<'t> {
         ensures bound { annotations_steps self.new ≤ length (annotations_bytes self.new) + 1 }
         ensures stepped { IfOk result (λ o. IfSome o (λ _. annotations_steps self.new ≡ annotations_steps self.old + 1)) }
         ensures stepped_to_fault { IfErr result (λ _. annotations_steps self.new ≡ annotations_steps self.old + 1) }
+        // A 0 that is spelled takes a step.
+        ensures stepped_to_end { IfOk result (λ o. IfNone o ((AnnotationsEnded self.old → ⊥) → annotations_steps self.new ≡ annotations_steps self.old + 1)) }
         // An iterator that has ended makes no step, and steps are never forgotten.
         ensures rests { AnnotationsEnded self.old → annotations_steps self.new ≡ annotations_steps self.old }
         ensures grows { annotations_steps self.old ≤ annotations_steps self.new }
         ensures ends { IfOk result (λ o. IfNone o (AnnotationsEnded self.new)) }
         ensures ends_at_fault { IfErr result (λ _. AnnotationsEnded self.new) }
+        ensures refused { IfErr result (λ e. (e ≢ OutOfMemory) × (e ≢ IoError)) }
     {
         if self.at == self.bytes.len() {
             return Ok(None);

@@ -99,7 +99,8 @@ impl CompileFlags {
     }
 }
 
-/// Flags of a local variable: `CV_LVARFLAGS` of `cvinfo.h`, 16 bits.
+/// Flags of a local variable: `CV_LVARFLAGS` of `cvinfo.h`, 16 bits. The names are those of the Rust crate `pdb`; from
+/// bit 4 on `cvinfo.h` has another meaning for each, which stands beside it.
 #[derive(Clone, Copy, Debug, Eq, PartialEq)]
 pub struct LocalVariableFlags {
     /// It is a parameter: bit 0.
@@ -110,17 +111,17 @@ pub struct LocalVariableFlags {
     pub compgenx: bool,
     /// It was split into several variables and is one for all of them: bit 3.
     pub isaggregate: bool,
-    /// It is a part of an aggregate: bit 4.
+    /// Bit 4: by `cvinfo.h` it is a part of an aggregate (`fIsAggregated`).
     pub isaliased: bool,
-    /// It is another name of a variable: bit 5.
+    /// Bit 5: by `cvinfo.h` it has other names (`fIsAliased`).
     pub isalias: bool,
-    /// It is the value that is returned: bit 6.
+    /// Bit 6: by `cvinfo.h` it is another name of a variable (`fIsAlias`).
     pub isretvalue: bool,
-    /// It was optimized away: bit 7.
+    /// Bit 7: by `cvinfo.h` it is the value that is returned (`fIsRetValue`).
     pub isoptimizedout: bool,
-    /// It is an enregistered global: bit 8.
+    /// Bit 8: by `cvinfo.h` it was optimized away (`fIsOptimizedOut`).
     pub isenreg_glob: bool,
-    /// It is an enregistered static: bit 9.
+    /// Bit 9: by `cvinfo.h` it is an enregistered global (`fIsEnregGlob`).
     pub isenreg_stat: bool,
 }
 

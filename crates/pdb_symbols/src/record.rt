@@ -1,6 +1,6 @@
 //! One record of a list.
 
-ghost use Rattle.std.specs.Prelude.{◌≡◌, ◌^◌, ◌<◌, length};
+ghost use Rattle.std.specs.Prelude.{◌≡◌, ◌^◌, ◌<◌, ◌≤◌, ◌+◌, length, IfOk, IfErr, IfSome, ◌≢◌};
 ghost use Rattle.pdb_base.specs.Tiling.{ReadsPiece};
 ghost use Rattle.pdb_symbols.specs.SymbolList.{symbols};
 ghost use Rattle.pdb_symbols.specs.Views.{symbol_of};
@@ -18,6 +18,10 @@ pub(crate) fn read_record<'t>(buffer: &mut ParseBuffer<'t>) -> Result<Option<Sym
     requires { length buffer.old.bytes < 2 ^ 32 }
     ensures reads { ReadsPiece symbols symbol_of buffer.old.bytes buffer.old.place result buffer.new.place }
     ensures bytes { buffer.new.bytes ≡ buffer.old.bytes }
+    ensures passed { IfOk result (λ _. buffer.old.place + 4 ≤ buffer.new.place) }
+    ensures no_more { IfOk result (λ _. buffer.new.place ≤ buffer.old.place + 65537) }
+    ensures behind { IfOk result (λ o. IfSome o (λ s. buffer.new.place ≡ (symbol_of s).index + 2 + length (symbol_of s).bytes)) }
+    ensures refused { IfErr result (λ e. (e ≢ Error.OutOfMemory) × (e ≢ Error.IoError)) }
 {
     let place = buffer.pos();
     let length = buffer.parse_u16()?;

@@ -68,9 +68,10 @@ pub struct SymbolIter<'t> {
 }
 
 impl<'t> SymbolIter<'t> {
-    ghost use Rattle.std.specs.Prelude.{IfOk, IfErr, IfSome};
+    ghost use Rattle.std.specs.Prelude.{◌*◌, ◌≢◌, min, IfOk, IfErr, IfSome};
     ghost use Rattle.pdb_base.specs.Left.{Yields};
-    ghost use Rattle.pdb_symbols.specs.Views.{symbol_of, symbols_left, symbols_bytes, symbols_steps};
+    ghost use Rattle.pdb_base.specs.declared.error.Error.TheVariants.{IoError, OutOfMemory};
+    ghost use Rattle.pdb_symbols.specs.Views.{symbol_of, symbols_left, symbols_bytes, symbols_place, symbols_steps};
 
     /// The symbols from the buffer's place on. The whole buffer has at most 4294967295 bytes, so that each place is an
     /// index.
@@ -78,6 +79,7 @@ impl<'t> SymbolIter<'t> {
         requires { length buffer.bytes ≤ 4294967295 }
         ensures left { symbols_left result ≡ symbols_from buffer.entry.bytes buffer.entry.place }
         ensures bytes { symbols_bytes result ≡ buffer.entry.bytes }
+        ensures place { symbols_place result ≡ buffer.entry.place }
         ensures steps { symbols_steps result ≡ 0 }
     {
         SymbolIter {
@@ -90,6 +92,7 @@ impl<'t> SymbolIter<'t> {
     pub fn seek(&mut self, index: SymbolIndex)
         ensures left { symbols_left self.new ≡ symbols_from (symbols_bytes self.old) index.0 }
         ensures bytes { symbols_bytes self.new ≡ symbols_bytes self.old }
+        ensures place { symbols_place self.new ≡ min index.0 (length (symbols_bytes self.old)) }
         ensures steps { symbols_steps self.new ≡ 0 }
     {
         self.buffer.seek(index.0 as usize);
@@ -101,6 +104,11 @@ impl<'t> SymbolIter<'t> {
         ensures yields { Yields symbol_of (symbols_from (symbols_bytes self.old) index.0) result (symbols_left self.new) }
         ensures bytes { symbols_bytes self.new ≡ symbols_bytes self.old }
         ensures bound { symbols_steps self.new ≤ length (symbols_bytes self.new) + 1 }
+        // Steps are counted from the index on, one for each record that was passed, as `next` counts them.
+        ensures few { IfOk result (λ _. 4 * symbols_steps self.new + min index.0 (length (symbols_bytes self.old)) ≤ symbols_place self.new) }
+        ensures each { IfOk result (λ _. symbols_place self.new ≤ min index.0 (length (symbols_bytes self.old)) + 65537 * symbols_steps self.new) }
+        ensures few_to_fault { IfErr result (λ _. 4 * symbols_steps self.new + min index.0 (length (symbols_bytes self.old)) ≤ symbols_place self.new + 4) }
+        ensures refused { IfErr result (λ e. (e ≢ OutOfMemory) × (e ≢ IoError)) }
     {
         self.seek(index);
         self.next()
@@ -108,10 +116,11 @@ impl<'t> SymbolIter<'t> {
 }
 
 impl<'t> FallibleIterator for SymbolIter<'t> {
-    ghost use Rattle.std.specs.Prelude.{IfOk, IfErr, IfSome, IfNone};
+    ghost use Rattle.std.specs.Prelude.{◌*◌, ◌≢◌, IfOk, IfErr, IfSome, IfNone};
     ghost use Rattle.pdb_base.specs.Left.{Yields};
+    ghost use Rattle.pdb_base.specs.declared.error.Error.TheVariants.{IoError, OutOfMemory};
     ghost use Rattle.pdb_symbols.specs.SymbolList.{Entry};
-    ghost use Rattle.pdb_symbols.specs.Views.{symbol_of, symbols_left, symbols_bytes, symbols_steps, SymbolsEnded};
+    ghost use Rattle.pdb_symbols.specs.Views.{symbol_of, symbols_left, symbols_bytes, symbols_place, symbols_steps, SymbolsEnded};
 
     type Item = Symbol<'t>;
 
@@ -133,8 +142,16 @@ impl<'t> FallibleIterator for SymbolIter<'t> {
         // An iterator that has ended makes no step, and steps are never forgotten.
         ensures rests { SymbolsEnded self.old → symbols_steps self.new ≡ symbols_steps self.old }
         ensures grows { symbols_steps self.old ≤ symbols_steps self.new }
+        // Each record that is passed takes one step, and has 4 to 65,537 bytes; so has the one that is given, which is
+        // passed last; a fault takes one more.
+        ensures few_steps { IfOk result (λ _. 4 * symbols_steps self.new + symbols_place self.old ≤ 4 * symbols_steps self.old + symbols_place self.new) }
+        ensures each_steps { IfOk result (λ _. symbols_place self.new + 65537 * symbols_steps self.old ≤ symbols_place self.old + 65537 * symbols_steps self.new) }
+        ensures few_to_fault { IfErr result (λ _. 4 * symbols_steps self.new + symbols_place self.old ≤ 4 * symbols_steps self.old + symbols_place self.new + 4) }
+        ensures behind { IfOk result (λ o. IfSome o (λ s. symbols_place self.new ≡ (symbol_of s).index + 2 + length (symbol_of s).bytes)) }
+        ensures small { length (symbols_bytes self.new) < 2 ^ 32 }
         ensures ends { IfOk result (λ o. IfNone o (SymbolsEnded self.new)) }
         ensures ends_at_fault { IfErr result (λ _. SymbolsEnded self.new) }
+        ensures refused { IfErr result (λ e. (e ≢ OutOfMemory) × (e ≢ IoError)) }
     {
         while !self.buffer.is_empty() {
             self.steps.tick();

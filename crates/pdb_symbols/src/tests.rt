@@ -8,5 +8,6 @@ mod lists;
 mod procedures;
 mod references;
 mod support;
+mod tables;
 mod thunks;
 mod variables;

@@ -94,3 +94,33 @@ fn a_module_is_read_only_when_asked(rt: HostRuntime) -> Result<()> {
     is(&rt, "inlined", &info.inlinees().err(), &end);
     Ok(())
 }
+
+#[test]
+fn modules_are_had_by_their_places(rt: HostRuntime) -> Result<()> {
+    let bytes = file_of(rt.alloc(), &SAMPLE)?;
+    let mut pdb = PDB::open(rt.alloc(), MemorySource::new(&bytes))?;
+    for _ in 0..2 {
+        let Some(info) = pdb.module_at(0)? else {
+            return Err(Error::UnexpectedEof);
+        };
+        is_that_of_the_sample(&rt, rt.alloc(), &info)?;
+        assert!(rt; pdb.module_at(1)?.is_none());
+        assert!(rt; pdb.module_at(usize::MAX)?.is_none());
+    }
+    Ok(())
+}
+
+/// The sample with so many bytes of its list of modules, of which the second module isn't all there.
+#[test]
+fn a_fault_behind_a_module_is_not_met(rt: HostRuntime) -> Result<()> {
+    let mut dbi = DBI;
+    dbi[24] = 0x50;
+    let bytes = changed(rt.alloc(), 3, Some(&dbi))?;
+    let mut pdb = PDB::open(rt.alloc(), MemorySource::new(&bytes))?;
+    assert!(rt; pdb.module_at(0)?.is_some());
+    for place in 1..3usize {
+        let refused = pdb.module_at(place).err();
+        is(&rt, "behind", &refused, &Some(Error::UnexpectedEof));
+    }
+    Ok(())
+}

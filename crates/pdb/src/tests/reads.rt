@@ -1,7 +1,7 @@
 //! Which bytes of the file each accessor asks for.
 
 use super::{file, is};
-use crate::tests::sample::{SAMPLE, file_of};
+use crate::tests::sample::{SAMPLE, dbi_with, file_of};
 use crate::*;
 use std::alloc::Global;
 use std::cell::Cell;
@@ -177,5 +177,54 @@ fn symbols_need_the_front_alone(rt: HostRuntime) -> Result<()> {
     let _open = asked.take();
     is(&rt, "refused", &pdb.global_symbols().err(), &None);
     is(&rt, "the front and 12 bytes", &asked.bytes.get(), &1036);
+    Ok(())
+}
+
+/// The pages of the streams of types, of ids and of a module.
+const TYPES: u32 = 32;
+
+const IDS: u32 = 128;
+
+const MODULE: u32 = 512;
+
+#[test]
+fn the_other_accessors_read_their_streams_alone(rt: HostRuntime) -> Result<()> {
+    let mut streams = SAMPLE;
+    let dbi = dbi_with(
+        rt.alloc(),
+        b"\x02\0\xff\xff\xff\xff\xff\xff\xff\xff\x08\0\xff\xff\xff\xff\xff\xff\x04\0",
+    )?;
+    streams[2] = Some(b"types");
+    streams[3] = Some(&dbi);
+    streams[4] = Some(b"ids");
+    let bytes = file_of(rt.alloc(), &streams)?;
+    let asked = Asked::new();
+    let mut pdb = opened(rt.alloc(), &bytes, &asked)?;
+    reads(&rt, &asked, None, (4, 7));
+    reads(&rt, &asked, pdb.type_information().err(), (1, TYPES));
+    reads(&rt, &asked, pdb.id_information().err(), (1, IDS));
+    reads(
+        &rt,
+        &asked,
+        StreamIndex(5).get(&mut pdb).err(),
+        (1, SYMBOLS),
+    );
+    reads(&rt, &asked, pdb.module_at(0).err(), (2, DBI | MODULE));
+    let frames = pdb.frame_table()?;
+    is(&rt, "older", &frames.old_stream().is_some(), &true);
+    is(&rt, "newer", &frames.new_stream().is_some(), &true);
+    reads(&rt, &asked, None, (3, DBI | TYPES | IDS));
+    reads(&rt, &asked, pdb.address_map().err(), (1, SECTIONS));
+    Ok(())
+}
+
+#[test]
+fn the_header_is_kept_behind_sections(rt: HostRuntime) -> Result<()> {
+    let bytes = file_of(rt.alloc(), &SAMPLE)?;
+    let asked = Asked::new();
+    let mut pdb = opened(rt.alloc(), &bytes, &asked)?;
+    reads(&rt, &asked, None, (4, 7));
+    reads(&rt, &asked, pdb.sections().err(), (2, DBI | SECTIONS));
+    reads(&rt, &asked, pdb.global_symbols().err(), (1, SYMBOLS));
     Ok(())
 }

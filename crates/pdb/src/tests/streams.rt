@@ -1,6 +1,6 @@
 //! The streams that are handed on: of types, of ids, of frame data, and by their numbers.
 
-use super::is;
+use super::{is, put, put_numbers};
 use crate::tests::sample::{DBI, SAMPLE, SECTIONS, STRINGS, changed, file_of, file_with};
 use crate::*;
 use std::alloc::Global;
@@ -302,5 +302,42 @@ fn types_and_ids_without_a_header_are_refused(rt: HostRuntime) -> Result<()> {
         &refused,
     );
     is(&rt, "known ids", &ids.finder(rt.alloc()).err(), &refused);
+    Ok(())
+}
+
+/// A file of pages of 4096 bytes with so many streams, of which the last has eight bytes and the others none.
+fn file_of_many(alloc: Global, count: u32) -> Result<Vec<u8>> {
+    let mut bytes = vec![in alloc; 0u8; 49152]?;
+    put(&mut bytes, 0, b"Microsoft C/C++ MSF 7.00\r\n\x1aDS\0\0\0");
+    let size = count.saturating_add(2).saturating_mul(4);
+    put_numbers(&mut bytes, 32, &[4096, 1, 12, size, 0, 2]);
+    put_numbers(&mut bytes, 8192, &[4, 5, 6, 7, 8, 9, 10, 11]);
+    let last = count.saturating_mul(4) as usize;
+    put_numbers(&mut bytes, 16384, &[count]);
+    put_numbers(&mut bytes, 16384 + last, &[8, 3]);
+    put(&mut bytes, 12288, b"the last");
+    Ok(bytes)
+}
+
+#[test]
+fn streams_with_large_numbers_are_had(rt: HostRuntime) -> Result<()> {
+    for number in [9u32, 300, 4660, 6000] {
+        let bytes = file_of_many(rt.alloc(), number + 1)?;
+        let mut pdb = PDB::open(rt.alloc(), MemorySource::new(&bytes))?;
+        let last = pdb.raw_stream(StreamIndex(number as u16))?;
+        is(
+            &rt,
+            "last",
+            &bytes_of(last.as_ref()),
+            &Some(b"the last".as_slice()),
+        );
+        let other = pdb.raw_stream(StreamIndex(number as u16 - 1))?;
+        is(
+            &rt,
+            "other",
+            &bytes_of(other.as_ref()),
+            &Some(b"".as_slice()),
+        );
+    }
     Ok(())
 }

@@ -4,8 +4,9 @@ use super::texts::put;
 use crate::fakes::is;
 use crate::streams;
 use pdb::{
-    CrossModuleImports, DebugInformation, Error, FallibleIterator, Module, ModuleInfo,
-    PDBInformation, ParseBuffer, Stream, Symbol, SymbolData, SymbolIndex, SymbolIter, TypeIndex,
+    CrossModuleExports, CrossModuleImports, DebugInformation, Error, FallibleIterator, FileIndex,
+    LineProgram, Local, Module, ModuleInfo, PDBInformation, ParseBuffer, PdbInternalSectionOffset,
+    Stream, Symbol, SymbolData, SymbolIndex, SymbolIter, TypeIndex,
 };
 use std::alloc::Global;
 use std::process::Abort;
@@ -191,5 +192,54 @@ fn refused_copies_of_tables_are_made_when_asked_again(rt: HostRuntime) -> Result
     let info = ModuleInfo::parse(stream, &module);
     imports_are_copied(&rt, rt.alloc(), &info)?;
     exports_are_copied(&rt, rt.alloc(), &info)?;
+    Ok(())
+}
+
+/// So much memory is never there. `tests/memory/check` takes it for a mark: until it is asked for again, no memory is to
+/// be asked for.
+fn mark(alloc: Global) -> bool {
+    let room: std::result::Result<Vec<u8>, _> = Vec::with_capacity(alloc, 0x4000_0000_0000);
+    room.is_ok()
+}
+
+/// What calls that take no memory answer.
+fn without_memory(
+    program: &LineProgram<'_>,
+    imports: &CrossModuleImports<'_>,
+    exports: &CrossModuleExports,
+) -> [Answer; 6] {
+    let place = PdbInternalSectionOffset::new(1, 0x108);
+    [
+        program.lines().count(),
+        program.lines_for_symbol(place).count(),
+        program.files().count(),
+        Ok(usize::from(program.get_file_info(FileIndex(0)).is_ok())),
+        size_of_imports(imports),
+        Ok(match exports.resolve_import(Local(TypeIndex(0x1020))) {
+            Ok(Some(global)) => global.0 as usize,
+            _ => 0,
+        }),
+    ]
+}
+
+#[test]
+fn calls_without_memory_take_none(rt: HostRuntime) -> Result<(), Fail> {
+    let stream = Stream::new(&streams::DBI).ok_or(Error::UnexpectedEof)?;
+    let information = DebugInformation::parse(stream)?;
+    let module = information.modules()?.next()?.ok_or(Error::UnexpectedEof)?;
+    let stream = Stream::new(&streams::MODULE).ok_or(Error::UnexpectedEof)?;
+    let info = ModuleInfo::parse(stream, &module);
+    let program = info.line_program(rt.alloc())?;
+    let imports = info.imports(rt.alloc())?;
+    let exports = info.exports(rt.alloc())?;
+    mark(rt.alloc());
+    let given = without_memory(&program, &imports, &exports);
+    mark(rt.alloc());
+    is(
+        &rt,
+        "answers",
+        &given,
+        &[Ok(2), Ok(2), Ok(1), Ok(1), Ok(1), Ok(1)],
+    );
     Ok(())
 }

@@ -241,3 +241,54 @@ fn empty_tables_and_default_lists(rt: HostRuntime) {
         Err(Error::CrossModuleRefNotFound(0x8000_0000)),
     );
 }
+
+/// A subsection of this kind with so many pairs of numbers: k and k times 3.
+fn pairs(alloc: Global, kind: u32, count: u32) -> Result<Vec<u8>> {
+    let mut bytes = Vec::new(alloc);
+    bytes.extend_from_slice(&kind.to_le_bytes())?;
+    bytes.extend_from_slice(&count.saturating_mul(8).to_le_bytes())?;
+    for k in 0..count {
+        bytes.extend_from_slice(&k.to_le_bytes())?;
+        bytes.extend_from_slice(&k.saturating_mul(3).to_le_bytes())?;
+    }
+    Ok(bytes)
+}
+
+#[test]
+fn hundreds_of_exports_are_read(rt: HostRuntime) -> Result<()> {
+    for count in [1u32, 5, 300] {
+        let bytes = pairs(rt.alloc(), 0xf8, count)?;
+        let exports = lines_info(&rt, &bytes)?.exports(rt.alloc())?;
+        is(&rt, "as many", &exports.len(), &(count as usize));
+        let last = exports.resolve_import(Local(TypeIndex(count - 1)))?;
+        is(&rt, "the last", &last, &Some(TypeIndex(3 * count - 3)));
+    }
+    Ok(())
+}
+
+/// A subsection of imports from so many modules, each with one number: the module's place and 7.
+fn many_imports(alloc: Global, count: u32) -> Result<Vec<u8>> {
+    let mut bytes = Vec::new(alloc);
+    bytes.extend_from_slice(&0xf7u32.to_le_bytes())?;
+    bytes.extend_from_slice(&count.saturating_mul(12).to_le_bytes())?;
+    for k in 0..count {
+        for number in [k, 1, k.saturating_add(7)] {
+            bytes.extend_from_slice(&number.to_le_bytes())?;
+        }
+    }
+    Ok(bytes)
+}
+
+#[test]
+fn hundreds_of_imports_are_read(rt: HostRuntime) -> Result<()> {
+    for count in [1u32, 3, 200] {
+        let bytes = many_imports(rt.alloc(), count)?;
+        let info = lines_info(&rt, &bytes)?;
+        let imports = info.imports(rt.alloc())?;
+        let last = TypeIndex(0x8000_0000 + (count - 1) * 0x10_0000);
+        let found = imports.resolve_import(last)?;
+        is(&rt, "name", &found.0, &ModuleRef(StringRef(count - 1)));
+        is(&rt, "number", &found.1, &Local(TypeIndex(count + 6)));
+    }
+    Ok(())
+}

@@ -93,21 +93,26 @@ fn lines_data_is_all_there_or_refused(rt: HostRuntime) -> Result<()> {
     Ok(())
 }
 
+/// The end of the data, or no refusal of what is whole.
+fn unless(whole: bool) -> Option<Error> {
+    if whole { None } else { END }
+}
+
 #[test]
 fn lines_data_of_each_size(rt: HostRuntime) -> Result<()> {
     for k in 0..177 {
         let info = info(&rt, sample(), (84, 0, k))?;
         let whole = k == 0 || k == 32 || k == 88 || k == 108 || k == 132 || k == 152 || k == 176;
         let given = refusals(rt.alloc(), &info);
-        is(&rt, "lines", &given[0].is_none(), &whole);
+        is(&rt, "lines", &given[0], &unless(whole));
         is(
             &rt,
             "inlined functions",
-            &given[1].is_none(),
-            &(whole || k >= 132),
+            &given[1],
+            &unless(whole || k >= 132),
         );
-        is(&rt, "imports", &given[2].is_none(), &(whole || k >= 152));
-        is(&rt, "exports", &given[3].is_none(), &whole);
+        is(&rt, "imports", &given[2], &unless(whole || k >= 152));
+        is(&rt, "exports", &given[3], &unless(whole));
     }
     Ok(())
 }
@@ -228,6 +233,34 @@ fn inlined_functions_are_refused(rt: HostRuntime) -> Result<()> {
         "a function that is cut",
         &info.inlinees()?.count().err(),
         &END,
+    );
+    Ok(())
+}
+
+#[test]
+fn sizes_past_the_stream_refuse_lines(rt: HostRuntime) -> Result<()> {
+    let info = info(&rt, b"", (1, 0, 0))?;
+    is(&rt, "all", &refusals(rt.alloc(), &info), &[END; 4]);
+    Ok(())
+}
+
+#[test]
+fn one_subsection_alone(rt: HostRuntime) -> Result<()> {
+    let ignored = lines_info(&rt, b"\x01\0\0\x80\0\0\0\0")?;
+    is(&rt, "ignored", &refusals(rt.alloc(), &ignored), &[None; 4]);
+    is(
+        &rt,
+        "no lines",
+        &ignored.line_program(rt.alloc())?.lines().count()?,
+        &0,
+    );
+    let unknown = lines_info(&rt, b"\xfe\0\0\0\0\0\0\0")?;
+    let refused = Some(Error::UnimplementedDebugSubsection(0xfe));
+    is(
+        &rt,
+        "unknown",
+        &refusals(rt.alloc(), &unknown),
+        &[refused; 4],
     );
     Ok(())
 }

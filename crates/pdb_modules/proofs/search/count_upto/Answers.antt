@@ -1,11 +1,26 @@
-use Rattle.std.proofs.Common.{refl, sym}
-use Rattle.pdb_modules.proofs.Halving.{goes_up, goes_down}
+use Rattle.std.proofs.Common.{refl, arith}
+use Rattle.pdb_modules.proofs.Halving.{goes_up, goes_down, ends_here, ends_elsewhere}
 use Rattle.pdb_modules.proofs.search.count_upto.Goals as goal
 
-pub loop-low-preserved-then-is_upto : goal.loop-low-preserved-then-is_upto
-loop-low-preserved-then-is_upto c =
-    rw c.tick.ensures (goes_up _ _ _ _ _ _ _ _ c.loop-low.invariant c.requires c.loop-low-test.true refl _ c.place.ensures (sym c.if-is_upto.ensures))
+pub loop-low-preserved-in-Behind : goal.loop-low-preserved-in-Behind
+loop-low-preserved-in-Behind c =
+    rw c.tick.ensures (record {
+      halved = goes_down _ _ _ _ _ _ _ _ c.loop-low.invariant.halved c.requires c.loop-low-test.true refl _ c.place.ensures (c.stands_to.ensures.behind c.in-Behind.is);
+      section = c.loop-low.invariant.section;
+    })
+
+pub loop-low-preserved-in-Upto : goal.loop-low-preserved-in-Upto
+loop-low-preserved-in-Upto c =
+    let stands = c.stands_to.ensures.upto c.in-Upto.is in
+    rw c.tick.ensures (record {
+      halved = goes_up _ _ _ _ _ _ _ _ c.loop-low.invariant.halved c.requires c.loop-low-test.true refl _ c.place.ensures stands.0;
+      section = ends_here _ _ _ _ (omega (arith, c.loop-low.invariant.halved.inside, c.loop-low-test.true)) _ c.place.ensures stands.1;
+    })
 
 pub loop-low-preserved : goal.loop-low-preserved
 loop-low-preserved c =
-    rw c.tick.ensures (goes_down _ _ _ _ _ _ _ _ c.loop-low.invariant c.requires c.loop-low-test.true refl _ c.place.ensures (sym c.if-is_upto.ensures))
+    let stands = c.stands_to.ensures.earlier c.in-Earlier.is in
+    rw c.tick.ensures (record {
+      halved = goes_up _ _ _ _ _ _ _ _ c.loop-low.invariant.halved c.requires c.loop-low-test.true refl _ c.place.ensures stands.0;
+      section = ends_elsewhere _ _ _ _ (omega (arith, c.loop-low.invariant.halved.inside, c.loop-low-test.true)) _ c.place.ensures stands.1;
+    })

@@ -1,6 +1,6 @@
-use Rattle.std.proofs.Common.{Some, Ok, Err, length, arith, rules, ap, ◌∙◌}
+use Rattle.std.proofs.Common.{Some, Ok, Err, length, arith, rules, refl, ap, ◌∙◌}
 use Rattle.pdb_symbols.specs.AnnotationViews.{annotations_left}
-use Rattle.pdb_modules.proofs.InlinedSteps.{turn_gives, turn_opens, turn_passes, taken_turn, fault_turn, yields_from, lines_few, none_more, no_fault, if_none, items_ended, fault_ended}
+use Rattle.pdb_modules.proofs.InlinedSteps.{turn_gives, turn_opens, turn_passes, taken_turn, fault_turn, yields_from, lines_few, none_more, no_fault, items_ended, fault_ended}
 use Rattle.pdb_modules.proofs.inlined_lines.InlineeLineIteratorFallibleIterator.next.Goals as goal
 
 pub returns-in-Some-emit-clause-yields : goal.returns-in-Some-emit-clause-yields
@@ -14,7 +14,7 @@ returns-in-Some-emit-clause-yields c =
 pub returns-in-Some-emit-clause-rests : goal.returns-in-Some-emit-clause-rests
 returns-in-Some-emit-clause-rests c =
     let read = rw c.in-Ok-Some.field-0-is at c.in-Ok-Some.ensures.yields in
-    λ e. absurd (none_more _ _ c.in-Ok-Some.annotation (items_ended (annotations_left c.loop-annotation.self.annotations) (c.loop-annotation.invariant.resting e).0) read.0)
+    λ e. absurd (none_more _ _ c.in-Ok-Some.annotation (items_ended (annotations_left c.loop-annotation.self.annotations) (c.loop-annotation.invariant.resting e).0.0) read.0)
 
 pub returns-in-Some-emit-clause-few : goal.returns-in-Some-emit-clause-few
 returns-in-Some-emit-clause-few c =
@@ -32,7 +32,8 @@ loop-annotation-preserved-in_default-emit c =
           c.emit.new.self c.in-Some.length c.emit.result c.in-Some.is c.emit.ensures.gives c.emit.ensures.pending (search rules);
       bytes = search rules;
       steps = omega (arith, c.loop-annotation.invariant.steps, c.tick.ensures);
-      resting = λ e. absurd (none_more _ _ c.in-Ok-Some.annotation (items_ended (annotations_left c.loop-annotation.self.annotations) (c.loop-annotation.invariant.resting e).0) read.0);
+      counts = omega (arith, c.loop-annotation.invariant.counts, c.tick.ensures, ap length read.0);
+      resting = λ e. absurd (none_more _ _ c.in-Ok-Some.annotation (items_ended (annotations_left c.loop-annotation.self.annotations) (c.loop-annotation.invariant.resting e).0.0) read.0);
     }
 
 pub loop-annotation-preserved : goal.loop-annotation-preserved
@@ -43,22 +44,9 @@ loop-annotation-preserved c =
       left = c.loop-annotation.invariant.left ∙ turn_passes c.loop-annotation.self.lines c.take_in.new.self c.in-Ok-Some.annotation _ _ c.take_in.result read taken.section taken.seen taken.quiet taken.emits (search rules);
       bytes = search rules;
       steps = omega (arith, c.loop-annotation.invariant.steps, c.tick.ensures);
-      resting = λ e. absurd (none_more _ _ c.in-Ok-Some.annotation (items_ended (annotations_left c.loop-annotation.self.annotations) (c.loop-annotation.invariant.resting e).0) read.0);
+      counts = omega (arith, c.loop-annotation.invariant.counts, c.tick.ensures, ap length read.0);
+      resting = λ e. absurd (none_more _ _ c.in-Ok-Some.annotation (items_ended (annotations_left c.loop-annotation.self.annotations) (c.loop-annotation.invariant.resting e).0.0) read.0);
     }
-
-pub returns-in-Ok-None-clause-rests : goal.returns-in-Ok-None-clause-rests
-returns-in-Ok-None-clause-rests c = λ e. (c.loop-annotation.invariant.resting e).1
-
-pub returns-in-Ok-None-clause-ends : goal.returns-in-Ok-None-clause-ends
-returns-in-Ok-None-clause-ends c =
-    let read = rw c.in-Ok-None.field-0-is at c.in-Ok-None.ensures.yields in
-    if_none c.take.result _ read.2
-
-pub returns-in-Ok-None-clause-yields : goal.returns-in-Ok-None-clause-yields
-returns-in-Ok-None-clause-yields c =
-    let read = rw c.in-Ok-None.field-0-is at c.in-Ok-None.ensures.yields in
-    yields_from _ _ _ (Ok c.take.result) c.loop-annotation.invariant.left
-    (taken_turn c.loop-annotation.self.lines.section c.loop-annotation.self.lines.seen _ _ c.loop-annotation.self.lines.pending c.take.result c.take.new.self c.take.ensures.value c.take.ensures.after read)
 
 pub returns-in-Err-clause-yields : goal.returns-in-Err-clause-yields
 returns-in-Err-clause-yields c =
@@ -66,7 +54,29 @@ returns-in-Err-clause-yields c =
     (fault_turn c.loop-annotation.self.lines.section c.loop-annotation.self.lines.seen _ _ c.loop-annotation.self.lines.pending c.in-Err.error c.in-Err.ensures.yields)
 
 pub returns-in-Err-clause-rests : goal.returns-in-Err-clause-rests
-returns-in-Err-clause-rests c = λ e. absurd (no_fault _ c.in-Err.error (fault_ended (annotations_left c.loop-annotation.self.annotations) (c.loop-annotation.invariant.resting e).0) c.in-Err.ensures.yields.1)
+returns-in-Err-clause-rests c = λ e. absurd (no_fault _ c.in-Err.error (fault_ended (annotations_left c.loop-annotation.self.annotations) (c.loop-annotation.invariant.resting e).0.0) c.in-Err.ensures.yields.1)
 
 pub returns-in-Err-clause-ends_at_fault : goal.returns-in-Err-clause-ends_at_fault
-returns-in-Err-clause-ends_at_fault c = c.in-Err.ensures.yields.2
+returns-in-Err-clause-ends_at_fault c = (c.in-Err.ensures.yields.2, refl)
+
+pub returns-in-Err-clause-stepped_to_fault : goal.returns-in-Err-clause-stepped_to_fault
+returns-in-Err-clause-stepped_to_fault c =
+    let none = ap length c.in-Err.ensures.yields.0 in
+    omega (arith, c.loop-annotation.invariant.counts, c.tick-in-Err.ensures, none)
+
+pub returns-in-Some-emit-clause-stepped : goal.returns-in-Some-emit-clause-stepped
+returns-in-Some-emit-clause-stepped c =
+    let read = rw c.in-Ok-Some.field-0-is at c.in-Ok-Some.ensures.yields in
+    λ going. omega (arith, c.loop-annotation.invariant.counts, c.tick.ensures, ap length read.0)
+
+pub returns-then-is_some-clause-yields : goal.returns-then-is_some-clause-yields
+returns-then-is_some-clause-yields c =
+    let read = rw c.in-Ok-None.field-0-is at c.in-Ok-None.ensures.yields in
+    yields_from _ _ _ (Ok c.take-last.result) c.loop-annotation.invariant.left
+    (taken_turn c.loop-annotation.self.lines.section c.loop-annotation.self.lines.seen _ _ c.loop-annotation.self.lines.pending c.take-last.result _ c.take-last.ensures.value c.take-last.ensures.after read)
+
+pub returns-else-is_some-clause-yields : goal.returns-else-is_some-clause-yields
+returns-else-is_some-clause-yields c =
+    let read = rw c.in-Ok-None.field-0-is at c.in-Ok-None.ensures.yields in
+    yields_from _ _ _ (Ok c.take-last.result) c.loop-annotation.invariant.left
+    (taken_turn c.loop-annotation.self.lines.section c.loop-annotation.self.lines.seen _ _ c.loop-annotation.self.lines.pending c.take-last.result _ c.take-last.ensures.value c.take-last.ensures.after read)
