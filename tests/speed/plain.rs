@@ -302,6 +302,70 @@ fn exports(out: &mut Vec<u8>, b: &[u8]) {
     }
 }
 
+/// The items of a stream of types or ids by their indices.
+struct Items<'a> {
+    first: u32,
+    records: &'a [u8],
+    places: Vec<u32>,
+}
+
+impl<'a> Items<'a> {
+    fn new(b: &'a [u8]) -> Self {
+        let start = u32_at(b, 4) as usize;
+        let records = &b[start..start + u32_at(b, 16) as usize];
+        let (mut places, mut at) = (Vec::new(), 0);
+        while at < records.len() {
+            places.push(at as u32);
+            at += 2 + u16_at(records, at) as usize;
+        }
+        Items { first: u32_at(b, 8), records, places }
+    }
+
+    fn find(&self, index: u32) -> Option<&'a [u8]> {
+        let at = *self.places.get(index.checked_sub(self.first)? as usize)? as usize;
+        Some(&self.records[at + 2..at + 2 + u16_at(self.records, at) as usize])
+    }
+}
+
+/// How many ids there are, and how many bytes they have.
+fn finder(out: &mut Vec<u8>, ids: &Items) {
+    let (mut count, mut size) = (0u32, 0);
+    while let Some(item) = ids.find(0x1000 + count) {
+        count += 1;
+        size += item.len();
+    }
+    writeln!(out, "{count} {size}").unwrap();
+}
+
+/// The name of a function with its scope; of files whose types are all structures.
+fn qualified_name<'a>(ids: &Items<'a>, types: &Items<'a>, id: u32) -> Option<(&'a [u8], &'a [u8])> {
+    let item = ids.find(id)?;
+    let before = u32_at(item, 2);
+    match u16_at(item, 0) {
+        0x1601 => {
+            let scope = ids.find(before).filter(|it| u16_at(it, 0) == 0x1605);
+            Some((scope.map_or(b"", |it| cstring(it, 6)), cstring(item, 10)))
+        }
+        0x1602 => Some((types.find(before).map_or(b"", |it| cstring(it, 20)), cstring(item, 10))),
+        _ => None,
+    }
+}
+
+/// How many ids have names, and how many bytes these have.
+fn qualified(out: &mut Vec<u8>, ids: &Items, types: &Items) {
+    let (mut count, mut size) = (0u32, 0);
+    for index in 0x1000.. {
+        if ids.find(index).is_none() {
+            break;
+        }
+        if let Some((scope, name)) = qualified_name(ids, types, index) {
+            count += 1;
+            size += scope.len() + name.len();
+        }
+    }
+    writeln!(out, "{count} {size}").unwrap();
+}
+
 /// The DBI stream, and where each module's record begins in it.
 fn modules_of(file: &File) -> (Vec<u8>, Vec<usize>) {
     let dbi = file.stream(3);
@@ -325,6 +389,14 @@ fn main() {
     while let Some(word) = rest.next() {
         if word == "names" {
             names(&mut out, &file.stream(1));
+            continue;
+        }
+        if word == "finder" {
+            finder(&mut out, &Items::new(&file.stream(4)));
+            continue;
+        }
+        if word == "qualified" {
+            qualified(&mut out, &Items::new(&file.stream(4)), &Items::new(&file.stream(2)));
             continue;
         }
         let (dbi, starts) = kept.get_or_insert_with(|| modules_of(&file));

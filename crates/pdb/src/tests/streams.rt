@@ -204,49 +204,91 @@ const IDS: [u8; 92] = [
     0x76, 0x00, 0x00, 0x00, 0x66, 0x00, 0x07, 0x00, 0x01, 0x16, 0x00, 0x00,
 ];
 
+/// The sample with these types and ids.
+fn file_of_items<'b>(alloc: Global, types: &'b [u8], ids: &'b [u8]) -> Result<Vec<u8>> {
+    let mut streams: [Option<&'b [u8]>; 9] = SAMPLE;
+    streams[2] = Some(types);
+    streams[4] = Some(ids);
+    file_of(alloc, &streams)
+}
+
+/// The index and the kind of the next item; none where there is none, or a fault.
+fn next_item(items: &mut ItemIter<'_>) -> Option<(u32, u16)> {
+    match items.next() {
+        Ok(Some(item)) => Some((item.index(), item.raw_kind())),
+        _ => None,
+    }
+}
+
 #[test]
-fn items_of_types_and_ids(rt: HostRuntime) -> Result<()> {
-    let mut streams = SAMPLE;
-    streams[2] = Some(&TYPES);
-    streams[4] = Some(&IDS);
-    let bytes = file_of(rt.alloc(), &streams)?;
+fn types_are_listed(rt: HostRuntime) -> Result<()> {
+    let bytes = file_of_items(rt.alloc(), &TYPES, &IDS)?;
     let mut pdb = PDB::open(rt.alloc(), MemorySource::new(&bytes))?;
     let types = pdb.type_information()?;
+    let mut items = types.iter()?;
+    is(
+        &rt,
+        "first",
+        &next_item(&mut items),
+        &Some((0x1000, 0x1505)),
+    );
+    is(&rt, "end", &items.count(), &Ok(0));
+    Ok(())
+}
+
+#[test]
+fn ids_are_listed(rt: HostRuntime) -> Result<()> {
+    let bytes = file_of_items(rt.alloc(), &TYPES, &IDS)?;
+    let mut pdb = PDB::open(rt.alloc(), MemorySource::new(&bytes))?;
     let ids = pdb.id_information()?;
-    let mut types_left = types.iter()?;
-    let first = types_left
-        .next()?
-        .map(|item| (item.index(), item.raw_kind()));
-    is(&rt, "first type", &first, &Some((0x1000, 0x1505)));
-    is(&rt, "no type", &types_left.next()?.is_none(), &true);
-    let mut ids_left = ids.iter()?;
-    let first = ids_left.next()?.map(|item| (item.index(), item.raw_kind()));
-    is(&rt, "first id", &first, &Some((0x2000, 0x1602)));
-    is(&rt, "fault", &ids_left.count(), &Err(Error::UnexpectedEof));
-    let known_types = types.finder(rt.alloc())?;
-    let known_ids = ids.finder(rt.alloc())?;
-    let member = qualified_name(&known_ids, &known_types, IdIndex(0x2000));
-    let wanted = QualifiedName {
+    let mut items = ids.iter()?;
+    is(
+        &rt,
+        "first",
+        &next_item(&mut items),
+        &Some((0x2000, 0x1602)),
+    );
+    is(
+        &rt,
+        "second",
+        &next_item(&mut items),
+        &Some((0x2001, 0x1601)),
+    );
+    is(&rt, "fault", &items.count(), &Err(Error::UnexpectedEof));
+    Ok(())
+}
+
+/// Asserts the names of both functions, and that the record behind them isn't found.
+fn names_are_found<'t>(rt: &impl Abort, ids: &ItemFinder<'t>, types: &ItemFinder<'t>) {
+    let member = QualifiedName {
         scope: Some(RawString::from("S")),
         name: RawString::from("m"),
     };
-    is(&rt, "member", &member, &Some(wanted));
-    let function = qualified_name(&known_ids, &known_types, IdIndex(0x2001));
-    let wanted = QualifiedName {
+    let function = QualifiedName {
         scope: None,
         name: RawString::from("f"),
     };
-    is(&rt, "function", &function, &Some(wanted));
-    is(&rt, "cut", &known_ids.find(0x2002), &None);
+    let found = qualified_name(ids, types, IdIndex(0x2000));
+    is(rt, "member", &found, &Some(member));
+    let found = qualified_name(ids, types, IdIndex(0x2001));
+    is(rt, "function", &found, &Some(function));
+    is(rt, "cut", &ids.find(0x2002), &None);
+}
+
+#[test]
+fn names_are_found_by_ids(rt: HostRuntime) -> Result<()> {
+    let bytes = file_of_items(rt.alloc(), &TYPES, &IDS)?;
+    let mut pdb = PDB::open(rt.alloc(), MemorySource::new(&bytes))?;
+    let types = pdb.type_information()?;
+    let ids = pdb.id_information()?;
+    let known = ids.finder(rt.alloc())?;
+    names_are_found(&rt, &known, &types.finder(rt.alloc())?);
     Ok(())
 }
 
 #[test]
 fn types_and_ids_without_a_header_are_refused(rt: HostRuntime) -> Result<()> {
-    let mut streams = SAMPLE;
-    streams[2] = Some(&TYPES[..55]);
-    streams[4] = Some(&IDS[..91]);
-    let bytes = file_of(rt.alloc(), &streams)?;
+    let bytes = file_of_items(rt.alloc(), &TYPES[..55], &IDS[..91])?;
     let mut pdb = PDB::open(rt.alloc(), MemorySource::new(&bytes))?;
     let types = pdb.type_information()?;
     let ids = pdb.id_information()?;
