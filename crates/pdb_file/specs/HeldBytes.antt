@@ -1,5 +1,5 @@
 -- What is held of a file.
-use Rattle.std.specs.Prelude.{◌≡◌, ℕ, ◌+◌, ◌<◌, ◌≤◌, ◌&&◌, Bool, List, [], ◌∷◌, ◌++◌, length, take, drop, replicate, nat_le, nat_eq, if◌then◌else◌}
+use Rattle.std.specs.Prelude.{◌≡◌, ℕ, ◌+◌, ◌<◌, ◌≤◌, ◌&&◌, Bool, Option, Some, None, List, [], ◌∷◌, ◌++◌, length, take, drop, replicate, nat_le, nat_eq, if◌then◌else◌}
 use Rattle.std.specs.List.{All, AllPairs, list_all, insert}
 use Rattle.std.specs.Str.{bytes_eq}
 use Rattle.pdb_base.specs.declared.source.SourceSlice.{SourceSlice}
@@ -77,6 +77,11 @@ has_all file k = nat_eq (length file) k.size && list_all (has_run file) k.runs
 -- a file, where it has all that is held, and else one that has it
 unfoldable pub supposed : List ℕ → Kept → List ℕ
 supposed file k = if has_all file k then file else file_of k
+
+-- the bytes of a file, where they are known
+abbrev pub known_or_empty : Option (List ℕ) → List ℕ
+known_or_empty (Some file) = file
+known_or_empty None = []
 
 -- ---- what a source over it is
 

@@ -14,4 +14,7 @@ pub use held::Held;
 pub use missed::Missed;
 pub use reading::{FetchError, Fetched, ReadAt, fetch};
 pub use run::Run;
-pub use source::{AnyFile, HeldSource, Meant};
+pub use source::{AnyFile, HeldSource, KnownFile, Meant};
+
+#[cfg(test)]
+mod tests;

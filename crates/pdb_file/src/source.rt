@@ -4,11 +4,12 @@ ghost use Rattle.std.specs.Prelude.{◌≡◌, ◌≢◌, ℕ, ◌+◌, ◌<◌,
 ghost use Rattle.std.specs.List.{list_all, flat_map};
 ghost use Rattle.pdb_base.specs.Refusal.{Gives};
 ghost use Rattle.pdb_base.specs.Source.{State, Continues, MayFail, IsLent, in_memory, is_inside, slice_bytes, view_bytes, viewed};
-ghost use Rattle.pdb_file.specs.HeldBytes.{Agrees, IsOf, Seen, StandsIn, is_inside_of, supposed};
+ghost use Rattle.pdb_file.specs.HeldBytes.{Agrees, IsOf, Seen, StandsIn, is_inside_of, known_or_empty, supposed};
 ghost use Rattle.pdb_file.specs.declared.run.Run.{Run};
 
 use crate::held::Held;
 use crate::missed::Missed;
+use crate::reading::ReadAt;
 use pdb_base::{Error, Meaning, Result, Source, SourceSlice, View};
 use std::alloc::{AllocError, Global};
 use std::marker::Model;
@@ -26,6 +27,27 @@ impl Meant for AnyFile {
     ghost use Rattle.std.specs.Prelude.{[]};
 
     ghost file = { λ _. [] };
+}
+
+/// The file of a reader whose bytes are known.
+#[derive(Drop)]
+pub struct KnownFile<'r, R: ReadAt> {
+    input: &'r R,
+}
+
+impl<'r, R: ReadAt> KnownFile<'r, R> {
+    /// The file that this reader reads.
+    pub fn new(input: &'r R) -> Self
+        ensures { known_or_empty (R.known result.input.now) ≡ known_or_empty (R.known input.now) }
+    {
+        KnownFile { input }
+    }
+}
+
+impl<'r, R: ReadAt> Meant for KnownFile<'r, R> {
+    ghost use Rattle.pdb_file.specs.HeldBytes.{known_or_empty};
+
+    ghost file = { λ k. known_or_empty (R.known k.input.now) };
 }
 
 /// A steady source of a file of which some runs of bytes are held. It lends a slice that stands in one run, and copies
