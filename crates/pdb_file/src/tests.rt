@@ -5,24 +5,19 @@ use pdb_base::{Error, Source, SourceSlice, View};
 use std::alloc::Global;
 use std::test::Fail;
 
-const DIGITS: &[u8; 10] = b"0123456789";
-
-/// A run of the file of ten digits.
-fn digits(alloc: Global, at: usize, end: usize) -> Result<Run, Fail> {
+/// A run of these bytes at a place.
+fn run(alloc: Global, at: u64, part: &[u8]) -> Result<Run, Fail> {
     let mut bytes = Vec::new(alloc);
-    bytes.extend_from_slice(&DIGITS[at..end])?;
-    Ok(Run {
-        at: at as u64,
-        bytes,
-    })
+    bytes.extend_from_slice(part)?;
+    Ok(Run { at, bytes })
 }
 
-/// The runs 2 to 4, 4 to 6 and 8 to 10 of that file.
+/// The runs 2 to 4, 4 to 6 and 8 to 10 of a file of ten digits.
 fn three_runs(alloc: Global) -> Result<Held, Fail> {
     let mut held = Held::new(alloc, 10);
-    for (at, end) in [(8usize, 10usize), (2, 4), (4, 6)] {
-        held.insert(digits(alloc, at, end)?)?;
-    }
+    held.insert(run(alloc, 8, b"89")?)?;
+    held.insert(run(alloc, 2, b"23")?)?;
+    held.insert(run(alloc, 4, b"45")?)?;
     Ok(held)
 }
 
@@ -36,12 +31,10 @@ fn runs_are_held_once_and_in_order(rt: HostRuntime) -> Result<(), Fail> {
     let mut held = three_runs(alloc)?;
     assert!(rt; held.count() == 3);
     assert!(rt; held.size() == 10);
-    for (at, end) in [(3usize, 5usize), (9, 10), (1, 3)] {
-        assert!(rt; !held.insert(digits(alloc, at, end)?)?);
-    }
-    let mut bytes = Vec::new(alloc);
-    bytes.extend_from_slice(b"9a")?;
-    assert!(rt; !held.insert(Run { at: 10, bytes })?);
+    assert!(rt; !held.insert(run(alloc, 3, b"34")?)?);
+    assert!(rt; !held.insert(run(alloc, 9, b"9")?)?);
+    assert!(rt; !held.insert(run(alloc, 1, b"12")?)?);
+    assert!(rt; !held.insert(run(alloc, 10, b"a")?)?);
     assert!(rt; held.from_place(3) == Some(b"3".as_slice()));
     assert!(rt; held.from_place(8) == Some(b"89".as_slice()));
     assert!(rt; held.from_place(6).is_none());
