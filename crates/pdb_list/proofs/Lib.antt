@@ -2,6 +2,7 @@ pub mod Reading
 pub mod Refused
 pub mod Written
 pub mod Spelling
+pub mod Stopped
 pub mod SampleFacts
 pub mod Pairs
 pub mod LinePieces

@@ -3,11 +3,11 @@ use Rattle.std.proofs.Common.{◌≡◌, ℕ, min, suc, ◌+◌, ◌-◌, ◌<�
 use Rattle.std.specs.Io.KnownBytes.{Appends}
 use Rattle.std.proofs.lemmas.List.{take-append-le, take-append-drop, drop-take, take-take}
 use Rattle.std.proofs.lemmas.Grind.{common_steps, flat_map-append}
-use Rattle.std.proofs.Math.Seq.{take-append-add, drop-cons}
+use Rattle.std.proofs.Math.Seq.{take-add, take-append-add, drop-cons}
 use Rattle.std.specs.Prelude.{IsErrOf, IsErrAnd}
 use Rattle.pdb_list.specs.declared.engine.RunError.{RunError}
 use Rattle.pdb_list.specs.declared.engine.RunError.TheVariants.{OutOfMemory, Open, Write}
-use Rattle.pdb_list.specs.Written.{Wrote, WroteFirst, WroteFront}
+use Rattle.pdb_list.specs.Written.{Wrote, WroteCounted, WroteFront}
 
 pub on_ok : {A E : Type 0} {P Q : Type 0} (r : Result A E) → (P → Q) → OnOk r P → OnOk r Q
 on_ok (Ok x) f h = f h
@@ -96,49 +96,72 @@ texts_front f a b c xs i d lt h w =
     let whole = flat_map f xs in
     shorter a c whole (length first + w.0) (rw e at all)
 
+-- ---- a run over the things behind the first i, whose texts were written
+
+pub first_more : {X : Type 0} (f : X → List ℕ) (a b c : Option (List ℕ)) (xs : List X) (i n : ℕ)
+    → Appends a b (flat_map f (take i xs)) → Appends b c (flat_map f (take n (drop i xs))) → Appends a c (flat_map f (take (i + n) xs))
+first_more f a b c xs i n h k =
+    let e : flat_map f (take (i + n) xs) ≡ flat_map f (take i xs) ++ flat_map f (take n (drop i xs)) =
+    ap (flat_map f) (take-add i n xs) ∙ flat_map-append f (take i xs) (take n (drop i xs)) in
+    rw e (appends_then a b c _ _ h k)
+
+both : {X : Type 0} (f : X → List ℕ) (xs : List X) (i : ℕ) → flat_map f xs ≡ flat_map f (take i xs) ++ flat_map f (drop i xs)
+both f xs i = ap (flat_map f) (sym (take-append-drop i xs)) ∙ flat_map-append f (take i xs) (drop i xs)
+
+pub first_all : {X : Type 0} (f : X → List ℕ) (a b c : Option (List ℕ)) (xs : List X) (i : ℕ)
+    → Appends a b (flat_map f (take i xs)) → Appends b c (flat_map f (drop i xs)) → Appends a c (flat_map f xs)
+first_all f a b c xs i h k = rw (both f xs i) (appends_then a b c _ _ h k)
+
+pub first_front : {X : Type 0} (f : X → List ℕ) (a b c : Option (List ℕ)) (xs : List X) (i : ℕ)
+    → Appends a b (flat_map f (take i xs)) → WroteFront b c (flat_map f (drop i xs)) → WroteFront a c (flat_map f xs)
+first_front f a b c xs i h k = rw (both f xs i) (front_then a b c _ _ h k)
+
 -- ---- what a run wrote, by how it ended
 
 -- all texts of some things, and then a run over further ones
-pub wrote_then : {X : Type 0} (f : X → List ℕ) (a b c : Option (List ℕ)) (xs ys : List X) (r : Result (Unit {0}) RunError)
-    → Appends a b (flat_map f xs) → Wrote f b c ys r → Wrote f a c (xs ++ ys) r
-wrote_then f a b c xs ys (Ok tt) h w = rw (flat_map-append f xs ys) (appends_then a b c (flat_map f xs) (flat_map f ys) h w)
-wrote_then f a b c xs ys (Err OutOfMemory) h w =
+pub wrote_then : {X : Type 0} (f : X → List ℕ) (a b c : Option (List ℕ)) (xs ys : List X) (m n o : ℕ) (r : Result (Unit {0}) RunError)
+    → n ≡ m + length xs → Appends a b (flat_map f xs) → Wrote f b c ys n o r → Wrote f a c (xs ++ ys) m o r
+wrote_then f a b c xs ys m n o (Ok tt) s h w = rw (flat_map-append f xs ys) (appends_then a b c (flat_map f xs) (flat_map f ys) h w)
+wrote_then f a b c xs ys m n o (Err OutOfMemory) s h w =
     let e : flat_map f (take (length xs + w.0) (xs ++ ys)) ≡ flat_map f xs ++ flat_map f (take w.0 ys) =
     ap (flat_map f) (take-append-add xs ys w.0) ∙ flat_map-append f xs (take w.0 ys) in
-    (length xs + w.0, omega (arith, w.1, length-append xs ys), rw e (appends_then a b c (flat_map f xs) (flat_map f (take w.0 ys)) h w.2))
-wrote_then f a b c xs ys (Err Write) h w = rw (flat_map-append f xs ys) (front_then a b c (flat_map f xs) (flat_map f ys) h w)
-wrote_then f a b c xs ys (Err (Open e)) h w = absurd w
+    (length xs + w.0, omega (arith, w.1, length-append xs ys), omega (arith, s, w.2), rw e (appends_then a b c (flat_map f xs) (flat_map f (take w.0 ys)) h w.3))
+wrote_then f a b c xs ys m n o (Err Write) s h w = rw (flat_map-append f xs ys) (front_then a b c (flat_map f xs) (flat_map f ys) h w)
+wrote_then f a b c xs ys m n o (Err (Open e)) s h w = absurd w
 
 -- a run that stopped, whatever was still to come
-pub wrote_less : {X : Type 0} (f : X → List ℕ) (a b : Option (List ℕ)) (xs ys : List X) (e : RunError)
-    → Wrote f a b xs (Err e) → Wrote f a b (xs ++ ys) (Err e)
-wrote_less f a b xs ys OutOfMemory w =
+pub wrote_less : {X : Type 0} (f : X → List ℕ) (a b : Option (List ℕ)) (xs ys : List X) (m n : ℕ) (e : RunError)
+    → Wrote f a b xs m n (Err e) → Wrote f a b (xs ++ ys) m n (Err e)
+wrote_less f a b xs ys m n OutOfMemory w =
     let e : take w.0 (xs ++ ys) ≡ take w.0 xs = take-append-le w.0 xs ys w.1 in
-    (w.0, omega (arith, w.1, length-append xs ys), rw e w.2)
-wrote_less f a b xs ys Write w = rw (flat_map-append f xs ys) (front_of a b (flat_map f xs) (flat_map f ys) w)
-wrote_less f a b xs ys (Open e) w = absurd w
+    (w.0, omega (arith, w.1, length-append xs ys), w.2, rw e w.3)
+wrote_less f a b xs ys m n Write w = rw (flat_map-append f xs ys) (front_of a b (flat_map f xs) (flat_map f ys) w)
+wrote_less f a b xs ys m n (Open e) w = absurd w
 
-pub wrote_all : {X : Type 0} (f : X → List ℕ) (a b : Option (List ℕ)) (xs : List X) (r : Result (Unit {0}) RunError)
-    → Wrote f a b xs r → OnOk r (Appends a b (flat_map f xs))
-wrote_all f a b xs (Ok tt) w = w
-wrote_all f a b xs (Err e) w = tt
+pub wrote_all : {X : Type 0} (f : X → List ℕ) (a b : Option (List ℕ)) (xs : List X) (m n : ℕ) (r : Result (Unit {0}) RunError)
+    → Wrote f a b xs m n r → OnOk r (Appends a b (flat_map f xs))
+wrote_all f a b xs m n (Ok tt) w = w
+wrote_all f a b xs m n (Err e) w = tt
 
-pub wrote_first : {X : Type 0} (f : X → List ℕ) (a b : Option (List ℕ)) (xs : List X) (r : Result (Unit {0}) RunError)
-    → Wrote f a b xs r → IsErrOf r OutOfMemory → WroteFirst f a b xs
-wrote_first f a b xs r w h = subst (Wrote f a b xs) h w
+pub wrote_first : {X : Type 0} (f : X → List ℕ) (a b : Option (List ℕ)) (xs : List X) (n : ℕ) (r : Result (Unit {0}) RunError)
+    → Wrote f a b xs 0 n r → IsErrOf r OutOfMemory → Appends a b (flat_map f (take n xs))
+wrote_first f a b xs n r w h =
+    let c : WroteCounted f a b xs 0 n = subst (Wrote f a b xs 0 n) h w in
+    let same : n ≡ c.0 = omega (arith, c.2) in
+    rw same c.3
 
-pub wrote_front : {X : Type 0} (f : X → List ℕ) (a b : Option (List ℕ)) (xs : List X) (r : Result (Unit {0}) RunError)
-    → Wrote f a b xs r → IsErrOf r Write → WroteFront a b (flat_map f xs)
-wrote_front f a b xs r w h = subst (Wrote f a b xs) h w
+pub wrote_front : {X : Type 0} (f : X → List ℕ) (a b : Option (List ℕ)) (xs : List X) (m n : ℕ) (r : Result (Unit {0}) RunError)
+    → Wrote f a b xs m n r → IsErrOf r Write → WroteFront a b (flat_map f xs)
+wrote_front f a b xs m n r w h = subst (Wrote f a b xs m n) h w
 
 -- a write that failed leaves a beginning
-pub wrote_failed : {X : Type 0} (f : X → List ℕ) (a b : Option (List ℕ)) (xs : List X) (r : Result (Unit {0}) RunError)
-    → IsErrAnd r (λ e. e ≡ Write) → WroteFront a b (flat_map f xs) → Wrote f a b xs r
-wrote_failed f a b xs (Ok tt) h w = absurd h
-wrote_failed f a b xs (Err e) h w = subst (λ e. Wrote f a b xs (Err e)) (sym h) w
+pub wrote_failed : {X : Type 0} (f : X → List ℕ) (a b : Option (List ℕ)) (xs : List X) (m n : ℕ) (r : Result (Unit {0}) RunError)
+    → IsErrAnd r (λ e. e ≡ Write) → WroteFront a b (flat_map f xs) → Wrote f a b xs m n r
+wrote_failed f a b xs m n (Ok tt) h w = absurd h
+wrote_failed f a b xs m n (Err e) h w = subst (λ e. Wrote f a b xs m n (Err e)) (sym h) w
 
 -- a run that stopped over some things has stopped over all
-pub wrote_stopped : {X : Type 0} (f : X → List ℕ) (a b : Option (List ℕ)) (xs ys : List X) (e : RunError) (r : Result (Unit {0}) RunError)
-    → IsErrAnd r (λ x. x ≡ e) → Wrote f a b xs (Err e) → Wrote f a b (xs ++ ys) r
-wrote_stopped f a b xs ys e (Ok tt) h w = absurd h
-wrote_stopped f a b xs ys e (Err x) h w = subst (λ x. Wrote f a b (xs ++ ys) (Err x)) (sym h) (wrote_less f a b xs ys e w)
+pub wrote_stopped : {X : Type 0} (f : X → List ℕ) (a b : Option (List ℕ)) (xs ys : List X) (m n : ℕ) (e : RunError) (r : Result (Unit {0}) RunError)
+    → IsErrAnd r (λ x. x ≡ e) → Wrote f a b xs m n (Err e) → Wrote f a b (xs ++ ys) m n r
+wrote_stopped f a b xs ys m n e (Ok tt) h w = absurd h
+wrote_stopped f a b xs ys m n e (Err x) h w = subst (λ x. Wrote f a b (xs ++ ys) m n (Err x)) (sym h) (wrote_less f a b xs ys m n e w)

@@ -7,6 +7,8 @@ use Rattle.pdb_list.specs.declared.engine.RunError.{RunError}
 use Rattle.pdb_list.specs.declared.engine.RunError.TheVariants as run
 use Rattle.pdb_list.specs.declared.command.WordsError.{WordsError}
 use Rattle.pdb_list.specs.declared.command.WordsError.TheVariants as words
+use Rattle.pdb_file.specs.declared.reading.FetchError.{FetchError}
+use Rattle.pdb_file.specs.declared.reading.FetchError.TheVariants as fetch
 use Rattle.pdb.specs.Refusal.{number_of}
 
 -- what a stopped run is to the program
@@ -14,6 +16,11 @@ abbrev pub fault_of_run : RunError → Fault
 fault_of_run run.OutOfMemory = Memory
 fault_of_run (run.Open e) = Open (number_of e)
 fault_of_run run.Write = Write
+
+-- what a read that failed is to the program
+abbrev pub fault_of_fetch : FetchError → Fault
+fault_of_fetch fetch.Read = Read
+fault_of_fetch fetch.Memory = Memory
 
 -- what words are that spell no commands
 abbrev pub fault_of_words : WordsError → Fault

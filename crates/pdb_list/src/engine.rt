@@ -1,6 +1,6 @@
 //! Texts written to a writer.
 
-ghost use Rattle.std.specs.Prelude.{◌≡◌, ◌≢◌, ◌≤◌, ◌++◌, ◌∷◌, true, length, OnOk, OnErr, IfOk, IfErr, IsErrOf, Ok, Err};
+ghost use Rattle.std.specs.Prelude.{◌≡◌, ◌≢◌, ◌+◌, ◌^◌, ◌<◌, ◌≤◌, ◌++◌, ◌∷◌, true, length, take, OnOk, OnErr, IfOk, IfErr, IsErrOf, Ok, Err};
 ghost use Rattle.std.specs.Io.KnownBytes.{Appends, Keeps};
 ghost use Rattle.pdb.specs.Error.{Error};
 ghost use Rattle.pdb.specs.Error.TheVariants.{OutOfMemory};
@@ -203,23 +203,28 @@ fn put_next<'s, S: Source<'s>>(
     }
 }
 
-/// Writes the commands' texts, one after the other. Each text is composed and then written.
+/// Writes the commands' texts, one after the other, and counts them. Each text is composed and then written.
 fn write_texts<'s, S: Source<'s>, W: Write>(
     alloc: Global,
     pdb: &mut PDB<'s, S>,
     kept: &mut Option<ModuleList<'_>>,
     commands: &[Command],
     out: &mut W,
+    written: &mut usize,
 ) -> Result<(), RunError>
+    requires room { written.old + length commands.now < 2 ^ 64 }
     ensures continues { Continues pdb.old pdb.new }
     ensures opened { (e : Error) → IsErrOf result (RunError.Open e) → ⊥ }
-    ensures wrote { pdb.old.steady ≡ true → KeptOf pdb.old.file kept.old → Wrote (command_text pdb.old.file) (W.contents out.old) (W.contents out.new) commands.now result }
+    ensures all { OnOk result (written.new ≡ written.old + length commands.now) }
+    ensures most { written.new ≤ written.old + length commands.now }
+    ensures wrote { pdb.old.steady ≡ true → KeptOf pdb.old.file kept.old → Wrote (command_text pdb.old.file) (W.contents out.old) (W.contents out.new) commands.now written.old written.new result }
 {
     let mut text = Vec::new(alloc);
     for command in commands {
         text.clear();
         put_next(alloc, &mut text, pdb, kept, *command)?;
         write_out(out, &text)?;
+        *written += 1;
     }
     Ok(())
 }
@@ -231,14 +236,18 @@ fn write_refused<'s, S: Source<'s>, W: Write>(
     refusal: Error,
     commands: &[Command],
     out: &mut W,
+    written: &mut usize,
 ) -> Result<(), RunError>
+    requires room { written.old + 1 + length commands.now < 2 ^ 64 }
     ensures opened { (e : Error) → IsErrOf result (RunError.Open e) → ⊥ }
-    ensures wrote { pdb.old.steady ≡ true → (first : Command) → (refusal ≢ OutOfMemory → command_text pdb.old.file first ≡ error_text refusal) → Wrote (command_text pdb.old.file) (W.contents out.old) (W.contents out.new) (first ∷ commands.now) result }
+    ensures most { written.new ≤ written.old + 1 + length commands.now }
+    ensures wrote { pdb.old.steady ≡ true → (first : Command) → (refusal ≢ OutOfMemory → command_text pdb.old.file first ≡ error_text refusal) → Wrote (command_text pdb.old.file) (W.contents out.old) (W.contents out.new) (first ∷ commands.now) written.old written.new result }
 {
     let mut line = Vec::new(alloc);
     put_refusal(&mut line, refusal)?;
     write_out(out, &line)?;
-    write_texts(alloc, pdb, &mut None, commands, out)
+    *written += 1;
+    write_texts(alloc, pdb, &mut None, commands, out, written)
 }
 
 /// Writes the commands' texts. Where the first names a module, the list of modules is kept for all of them.
@@ -247,26 +256,29 @@ fn write_rest<'s, S: Source<'s>, W: Write>(
     pdb: &mut PDB<'s, S>,
     commands: &[Command],
     out: &mut W,
+    written: &mut usize,
 ) -> Result<(), RunError>
+    requires room { written.old + length commands.now < 2 ^ 64 }
     ensures opened { (e : Error) → IsErrOf result (RunError.Open e) → ⊥ }
-    ensures wrote { pdb.old.steady ≡ true → Wrote (command_text pdb.old.file) (W.contents out.old) (W.contents out.new) commands.now result }
+    ensures most { written.new ≤ written.old + length commands.now }
+    ensures wrote { pdb.old.steady ≡ true → Wrote (command_text pdb.old.file) (W.contents out.old) (W.contents out.new) commands.now written.old written.new result }
 {
     let Some((first, others)) = commands.split_first() else {
         return Ok(());
     };
     let Some(_) = first.module_place() else {
-        return write_texts(alloc, pdb, &mut None, commands, out);
+        return write_texts(alloc, pdb, &mut None, commands, out, written);
     };
     let information = match pdb.debug_information() {
         Ok(information) => information,
-        Err(e) => return write_refused(alloc, pdb, e, others, out),
+        Err(e) => return write_refused(alloc, pdb, e, others, out, written),
     };
     match information.modules() {
         Ok(modules) => {
             let mut kept = Some(ModuleList::new(alloc, modules));
-            write_texts(alloc, pdb, &mut kept, commands, out)
+            write_texts(alloc, pdb, &mut kept, commands, out, written)
         }
-        Err(e) => write_refused(alloc, pdb, e, others, out),
+        Err(e) => write_refused(alloc, pdb, e, others, out, written),
     }
 }
 
@@ -282,7 +294,40 @@ fn plain_count(commands: &[Command]) -> usize
 
 /// Opens the file of a source, and writes the commands' texts over it, one after the other. Each text is composed and
 /// then written. A command that is refused has its items before the fault and then the line `error N`, and the next
-/// command follows. The promises on the texts are made for a source that is steady.
+/// command follows. It counts the texts that were written, whole. The promises on the texts are made for a source that
+/// is steady.
+pub fn run_counted<'s, S: Source<'s>, W: Write>(
+    alloc: Global,
+    source: S,
+    commands: &[Command],
+    out: &mut W,
+    written: &mut usize,
+) -> Result<(), RunError>
+    // All texts were written.
+    ensures ok { (S.state source).steady ≡ true → OnOk result ((opens (S.state source).file ≡ Ok tt)
+        × Appends (W.contents out.old) (W.contents out.new) (texts (S.state source).file commands.now)) }
+    // The texts of so many first commands were written, whole.
+    ensures memory { (S.state source).steady ≡ true → IsErrOf result RunError.OutOfMemory
+        → Appends (W.contents out.old) (W.contents out.new) (texts (S.state source).file (take written.new commands.now)) }
+    ensures most { written.new ≤ length commands.now }
+    // The file can't be opened, and nothing was written.
+    ensures open { (e : Error) → IsErrOf result (RunError.Open e) → (e ≢ OutOfMemory) × Keeps (W.contents out.old) (W.contents out.new) }
+    ensures refused { (S.state source).steady ≡ true → (e : Error) → IsErrOf result (RunError.Open e) → opens (S.state source).file ≡ Err e }
+    // A beginning of the texts was written.
+    ensures write { (S.state source).steady ≡ true → IsErrOf result RunError.Write
+        → WroteFront (W.contents out.old) (W.contents out.new) (texts (S.state source).file commands.now) }
+{
+    *written = 0;
+    let mut pdb = match PDB::open(alloc, source) {
+        Ok(pdb) => pdb,
+        Err(e) => return Err(open_error(e)),
+    };
+    let (plain, rest) = commands.split_at(plain_count(commands));
+    write_texts(alloc, &mut pdb, &mut None, plain, out, written)?;
+    write_rest(alloc, &mut pdb, rest, out, written)
+}
+
+/// The same, and nothing is counted.
 pub fn run<'s, S: Source<'s>, W: Write>(
     alloc: Global,
     source: S,
@@ -302,13 +347,8 @@ pub fn run<'s, S: Source<'s>, W: Write>(
     ensures write { (S.state source).steady ≡ true → IsErrOf result RunError.Write
         → WroteFront (W.contents out.old) (W.contents out.new) (texts (S.state source).file commands.now) }
 {
-    let mut pdb = match PDB::open(alloc, source) {
-        Ok(pdb) => pdb,
-        Err(e) => return Err(open_error(e)),
-    };
-    let (plain, rest) = commands.split_at(plain_count(commands));
-    write_texts(alloc, &mut pdb, &mut None, plain, out)?;
-    write_rest(alloc, &mut pdb, rest, out)
+    let mut written = 0;
+    run_counted(alloc, source, commands, out, &mut written)
 }
 
 #[cfg(test)]

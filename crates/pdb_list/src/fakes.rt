@@ -1,6 +1,8 @@
 //! Readers and writers that fail, for tests.
 
+use pdb_file::ReadAt;
 use std::alloc::Global;
+use std::cell::Cell;
 use std::fmt::Debug;
 use std::io::{self, ErrorKind, Read, Write};
 use std::process::Abort;
@@ -140,5 +142,50 @@ impl Read for ThreeBytes {
             return Err(io::Error::from(ErrorKind::Other));
         }
         Ok(0)
+    }
+}
+
+/// A file in memory that gives at most `step` bytes a read; after so many reads it fails or ends.
+#[derive(Drop)]
+pub struct Places<'b> {
+    bytes: &'b [u8],
+    step: usize,
+    left: Cell<u32>,
+    fails: bool,
+}
+
+impl<'b> Places<'b> {
+    pub fn of(bytes: &'b [u8], step: usize) -> Self {
+        Places::ending(bytes, step, u32::MAX, false)
+    }
+
+    pub fn ending(bytes: &'b [u8], step: usize, reads: u32, fails: bool) -> Self {
+        Places {
+            bytes,
+            step,
+            left: Cell::new(reads),
+            fails,
+        }
+    }
+}
+
+impl<'b> ReadAt for Places<'b> {
+    ghost use Rattle.std.specs.Prelude.{None};
+
+    ghost known = { λ _. None };
+
+    fn read_bytes_at(&self, buf: &mut [u8], at: u64) -> io::Result<usize> {
+        let left = self.left.get();
+        if left == 0 && self.fails {
+            return Err(io::Error::from(ErrorKind::Other));
+        }
+        if left == 0 || at >= self.bytes.len() as u64 {
+            return Ok(0);
+        }
+        self.left.set(left - 1);
+        let rest = self.bytes.split_at(at as usize).1;
+        let count = rest.len().min(buf.len()).min(self.step);
+        buf[..count].copy_from_slice(&rest[..count]);
+        Ok(count)
     }
 }

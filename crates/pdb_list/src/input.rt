@@ -55,18 +55,13 @@ fn read_more<R: Read>(bytes: &mut Vec<u8>, input: &mut R) -> Result<usize, Fault
     Ok(count)
 }
 
-/// All bytes that a reader has left, if these are at most `most`. There is room for `size` of them at once.
-fn read_up_to<R: Read>(
-    alloc: Global,
-    most: usize,
-    size: usize,
-    input: &mut R,
-) -> Result<Vec<u8>, Fault>
+/// All bytes that a reader has left, if these are at most `most`.
+fn read_up_to<R: Read>(alloc: Global, most: usize, input: &mut R) -> Result<Vec<u8>, Fault>
     ensures all { IfOk result (λ v. Consumes (R.remaining input.old) (R.remaining input.new) v.items × IsAtEnd (R.remaining input.new)) }
     ensures most { IfOk result (λ v. vec_len v ≤ most) }
     ensures refused { IfErr result (λ e. (e ≡ Fault.Read) ⊎ (e ≡ Fault.Memory)) }
 {
-    let mut bytes = Vec::with_capacity(alloc, size.min(most).saturating_add(CHUNK))?;
+    let mut bytes = Vec::new(alloc);
     loop {
         let count = read_more(&mut bytes, input)?;
         if count == 0 {
@@ -78,14 +73,14 @@ fn read_up_to<R: Read>(
     }
 }
 
-/// All bytes that a reader has left, probably `size`. `Fault::Read` where it fails or gives more than `MOST_BYTES`,
+/// All bytes that a reader has left. `Fault::Read` where it fails or gives more than `MOST_BYTES`,
 /// `Fault::Memory` where a growth was refused.
-pub fn read_all<R: Read>(alloc: Global, size: usize, input: &mut R) -> Result<Vec<u8>, Fault>
+pub fn read_all<R: Read>(alloc: Global, input: &mut R) -> Result<Vec<u8>, Fault>
     ensures all { IfOk result (λ v. Consumes (R.remaining input.old) (R.remaining input.new) v.items × IsAtEnd (R.remaining input.new)) }
     ensures most { IfOk result (λ v. vec_len v ≤ 1099511627776) }
     ensures refused { IfErr result (λ e. (e ≡ Fault.Read) ⊎ (e ≡ Fault.Memory)) }
 {
-    read_up_to(alloc, MOST_BYTES, size, input)
+    read_up_to(alloc, MOST_BYTES, input)
 }
 
 #[cfg(test)]
@@ -96,20 +91,20 @@ mod tests {
     #[test]
     fn reads_to_the_end(rt: HostRuntime) {
         let alloc = rt.alloc();
-        let read = read_all(alloc, 3, &mut ThreeBytes::ending(1)).expect(&rt, "one read");
+        let read = read_all(alloc, &mut ThreeBytes::ending(1)).expect(&rt, "one read");
         is(&rt, "read.as_slice()", &read.as_slice(), &b"abc".as_slice());
-        let read = read_all(alloc, 5, &mut ThreeBytes::ending(20)).expect(&rt, "many reads");
+        let read = read_all(alloc, &mut ThreeBytes::ending(20)).expect(&rt, "many reads");
         is(&rt, "read.len()", &read.len(), &60);
         is(&rt, "read.last()", &read.last(), &Some(&b'c'));
-        let read = read_all(alloc, 0, &mut Plenty::of(210000)).expect(&rt, "full reads");
+        let read = read_all(alloc, &mut Plenty::of(210000)).expect(&rt, "full reads");
         is(&rt, "read.len()", &read.len(), &210000);
         is(&rt, "read.last()", &read.last(), &Some(&b'p'));
-        let read = read_all(alloc, 0, &mut ThreeBytes::ending(0)).expect(&rt, "no byte");
+        let read = read_all(alloc, &mut ThreeBytes::ending(0)).expect(&rt, "no byte");
         assert!(rt; read.is_empty());
         is(
             &rt,
-            "read_all(alloc, 3, &mut ThreeBytes::failing(1))",
-            &read_all(alloc, 3, &mut ThreeBytes::failing(1)).err(),
+            "read_all(alloc, &mut ThreeBytes::failing(1))",
+            &read_all(alloc, &mut ThreeBytes::failing(1)).err(),
             &Some(Fault::Read),
         );
     }
@@ -117,16 +112,16 @@ mod tests {
     #[test]
     fn reads_no_more_than_allowed(rt: HostRuntime) {
         let alloc = rt.alloc();
-        let read = read_up_to(alloc, 6, 9, &mut ThreeBytes::ending(2)).expect(&rt, "six bytes");
+        let read = read_up_to(alloc, 6, &mut ThreeBytes::ending(2)).expect(&rt, "six bytes");
         is(
             &rt,
             "read.as_slice()",
             &read.as_slice(),
             &b"abcabc".as_slice(),
         );
-        let refused = read_up_to(alloc, 5, 0, &mut ThreeBytes::ending(2)).err();
+        let refused = read_up_to(alloc, 5, &mut ThreeBytes::ending(2)).err();
         is(&rt, "refused", &refused, &Some(Fault::Read));
-        let refused = read_up_to(alloc, 5, 0, &mut ThreeBytes::ending(2_000_000_000)).err();
+        let refused = read_up_to(alloc, 5, &mut ThreeBytes::ending(2_000_000_000)).err();
         is(&rt, "refused", &refused, &Some(Fault::Read));
     }
 }

@@ -11,6 +11,7 @@ mod failing;
 #[cfg(test)]
 mod fakes;
 mod files;
+mod in_parts;
 mod info;
 mod inlinees;
 mod input;
@@ -22,6 +23,7 @@ mod report;
 mod sample;
 mod sections;
 mod streams;
+mod streams_asked;
 mod symbols;
 #[cfg(test)]
 mod tests;
@@ -29,12 +31,14 @@ mod text;
 
 use command::{Command, asks_for_sample, parse_commands};
 use engine::run;
+use in_parts::list_in_parts;
 use input::read_all;
 use pdb::MemorySource;
+use pdb_file::Fetched;
 use report::{Fault, report};
 use std::alloc::{AllocError, Global};
 use std::env;
-use std::fs::{self, OpenFile};
+use std::fs::{self, File};
 use std::io::{self, ErrorKind};
 use std::process::ExitCode;
 use std::rt::{Env, Files};
@@ -80,13 +84,18 @@ fn list_sample<W: io::Write>(alloc: Global, out: &mut W) -> Result<(), Fault> {
     Ok(())
 }
 
-/// How many bytes a file has, as far as the system tells.
-fn size_of(file: &impl OpenFile) -> usize {
-    file.metadata().map_or(0, |it| it.len() as usize)
+/// How many bytes a file has that can be read at a place; none for a pipe and the like.
+fn size_of(file: &File) -> Option<u64> {
+    let it = file.metadata().ok()?;
+    if !it.is_file() {
+        return None;
+    }
+    Some(it.len())
 }
 
-/// Lists what the words ask for: their commands are taken first, then the file is read.
-fn list(rt: &(impl Env + Files + Print + AllocGlobal)) -> Result<(), Fault> {
+/// Lists what the words ask for: their commands are taken first, then the file is read, as far as they ask for it where
+/// it can be read at a place, and else whole.
+fn list(rt: &(impl Env + Files<File = File> + Print + AllocGlobal)) -> Result<(), Fault> {
     let words = words_of(rt)?;
     let mut out = io::writer(rt);
     if asks_for_sample(&words) {
@@ -100,7 +109,11 @@ fn list(rt: &(impl Env + Files + Print + AllocGlobal)) -> Result<(), Fault> {
     }
     let commands = parse_commands(rt.alloc(), spelled)?;
     let mut file = fs::open(rt, name.as_str()).map_err(|_| Fault::Read)?;
-    let bytes = read_all(rt.alloc(), size_of(&file), &mut file)?;
+    if let Some(size) = size_of(&file) {
+        let mut fetched = Fetched::default();
+        return list_in_parts(rt.alloc(), &file, size, &commands, &mut out, &mut fetched);
+    }
+    let bytes = read_all(rt.alloc(), &mut file)?;
     run(rt.alloc(), MemorySource::new(&bytes), &commands, &mut out)?;
     Ok(())
 }

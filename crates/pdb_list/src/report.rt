@@ -8,6 +8,7 @@ ghost use Rattle.pdb_list.specs.Faults.{fault_line, status_of};
 
 use crate::command::WordsError;
 use crate::engine::{RunError, WriteFailed, write_out};
+use pdb_file::FetchError;
 use std::alloc::AllocError;
 use std::io::Write;
 
@@ -46,6 +47,19 @@ impl From<RunError> for Fault {
             RunError::OutOfMemory => Fault::Memory,
             RunError::Open(refusal) => Fault::Open(refusal.number()),
             RunError::Write => Fault::Write,
+        }
+    }
+}
+
+impl From<FetchError> for Fault {
+    ghost use Rattle.pdb_list.specs.Faults.{fault_of_fetch};
+
+    ghost from_gives = { λ e f. f ≡ fault_of_fetch e };
+
+    fn from(e: FetchError) -> Fault {
+        match e {
+            FetchError::Read => Fault::Read,
+            FetchError::Memory => Fault::Memory,
         }
     }
 }

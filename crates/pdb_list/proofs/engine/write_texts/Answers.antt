@@ -13,7 +13,7 @@ returns-in_err-write_out-clause-wrote g c = λ steady kept.
     let text = (rw c.clear.ensures.items at c.in_ok-put_next.ensures.text) (so_far.continues.steady steady).0 same in
     let wrote = rw (c.deref.ensures.value, text, so_far.continues.file) at c.in_err-write_out.ensures.err in
     let front = texts_front (command_text start.file) (g.W.Write.contents c.args.out.now) (g.W.Write.contents c.loop-command.out) (g.W.Write.contents c.write_out.new.out) c.args.commands.now c.loop-command.command-index Info c.loop-command-test.true (so_far.told steady kept) wrote in
-    wrote_failed (command_text start.file) (g.W.Write.contents c.args.out.now) (g.W.Write.contents c.write_out.new.out) c.args.commands.now c.from_residual-in_err-write_out.result c.from_residual-in_err-write_out.ensures.1 front
+    wrote_failed (command_text start.file) (g.W.Write.contents c.args.out.now) (g.W.Write.contents c.write_out.new.out) c.args.commands.now c.args.written.now c.loop-command.written c.from_residual-in_err-write_out.result c.from_residual-in_err-write_out.ensures.1 front
 
 pub loop-command-preserved : goal.loop-command-preserved
 loop-command-preserved g c =
@@ -22,6 +22,7 @@ loop-command-preserved g c =
     let on = c.put_next.ensures.continues in
     let same : (start.steady ≡ true) → KeptOf start.file c.args.kept.now → KeptOf c.loop-command.pdb.file c.loop-command.kept = λ steady kept. rw so_far.continues.file (so_far.kept steady kept) in
     record {
+      counted = omega (arith, so_far.counted);
       continues = record {
         file = on.file ∙ so_far.continues.file;
         rises = omega (arith, on.rises, so_far.continues.rises);

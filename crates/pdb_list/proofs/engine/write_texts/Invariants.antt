@@ -1,4 +1,4 @@
-use Rattle.std.proofs.Common.{◌≡◌, true, take, flat_map}
+use Rattle.std.proofs.Common.{◌≡◌, ◌+◌, true, take, flat_map}
 use Rattle.std.specs.Io.KnownBytes.{Appends}
 use Rattle.pdb.specs.Source.{Continues}
 use Rattle.pdb_list.specs.Chosen.{KeptOf}
@@ -10,6 +10,7 @@ abbrev pub invariant-loop-command : goal.invariant-loop-command
 invariant-loop-command g l =
     let start = l.fn.pdb in
     record {
+      counted : l.written ≡ l.fn.written + l.command-index;
       continues : Continues start l.pdb;
       kept : start.steady ≡ true → KeptOf start.file l.fn.kept → KeptOf start.file l.kept;
       told : start.steady ≡ true → KeptOf start.file l.fn.kept → Appends (g.W.Write.contents l.fn.out) (g.W.Write.contents l.out) (flat_map (command_text start.file) (take l.command-index l.commands));

@@ -1,0 +1,11 @@
+use Rattle.std.proofs.Common.{◌≡◌, ℕ, List}
+use Rattle.std.specs.Option.{ForSome}
+use Rattle.pdb_file.specs.HeldBytes.{IsOf}
+use Rattle.pdb_file.proofs.reading.fetch.Given as goal
+
+abbrev pub invariant-loop-slice : goal.invariant-loop-slice
+invariant-loop-slice g l = record {
+  size : l.held.size ≡ l.fn.held.size;
+  kept : (F : List ℕ) → IsOf F l.held → IsOf F l.fn.held;
+  told : ForSome (g.R.ReadAt.known l.input) (λ F. IsOf F l.fn.held → IsOf F l.held);
+}

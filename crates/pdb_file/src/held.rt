@@ -1,0 +1,151 @@
+//! The bytes of a file that are held.
+
+ghost use Rattle.std.specs.Prelude.{◌≡◌, ℕ, ◌+◌, ◌-◌, ◌<◌, ◌≤◌, List, [], length, true, false, get_or, Bool, IfOk, IfErr, IfSome, IsSomeAnd, IsNone};
+ghost use Rattle.std.specs.List.{AllWithin};
+ghost use Rattle.pdb_file.specs.HeldBytes.{Agrees, IsPart, IsRunOf, IsBefore, IsKept, IsWith, HasByte, end_of};
+ghost use Rattle.pdb_file.specs.declared.run.Run.{Run};
+
+use crate::run::Run;
+use std::alloc::{AllocError, Global};
+use std::marker::Model;
+
+/// A file's size, and the runs of its bytes that are held. No byte is held twice.
+#[derive(Drop)]
+pub struct Held {
+    size: u64,
+    runs: Vec<Run>,
+}
+
+impl Model for Held {
+    ghost use Rattle.pdb_file.specs.HeldBytes.{Kept, IsKept};
+
+    ghost Value = { Kept };
+
+    ghost view = { λ h. record { size = h.size; runs = h.runs.items } };
+
+    ghost invariant = { λ h. IsKept (record { size = h.size; runs = h.runs.items }) };
+}
+
+/// Whether a run lies in a file of this size.
+fn fits(size: u64, run: &Run) -> bool
+    ensures { result ≡ true → end_of run.now ≤ size }
+{
+    run.at <= size && run.bytes.len() as u64 <= size - run.at
+}
+
+/// Whether the one run ends before the other begins.
+fn is_before(run: &Run, other: &Run) -> bool
+    ensures { result ≡ true → IsBefore run.now other.now }
+{
+    run.at <= other.at && run.bytes.len() as u64 <= other.at - run.at
+}
+
+/// Whether a run ends before the one with this place in the list begins, where there is one.
+fn is_before_next(runs: &[Run], index: usize, run: &Run) -> bool
+    ensures { result ≡ true → (d : Run) → index < length runs.now → IsBefore run.now (get_or runs.now index d) }
+{
+    match runs.get(index) {
+        Some(next) => is_before(run, next),
+        None => true,
+    }
+}
+
+/// Whether a run begins behind the end of the one before this place in the list, where there is one.
+fn is_behind_last(runs: &[Run], index: usize, run: &Run) -> bool
+    ensures { result ≡ true → (d : Run) → 0 < index → index ≤ length runs.now → IsBefore (get_or runs.now (index - 1) d) run.now }
+{
+    if index == 0 {
+        return true;
+    }
+    match runs.get(index - 1) {
+        Some(last) => is_before(last, run),
+        None => true,
+    }
+}
+
+/// The bytes of a run from a place of the file on; none where there is none.
+#[tactic(auto, using(crate::proofs::Parts::part_behind))]
+fn behind(run: &Run, at: u64) -> Option<&[u8]>
+    ensures part { (F : List ℕ) → IsRunOf F run.now → IfSome result (λ p. IsPart F at p.now) }
+    ensures some { IfSome result (λ p. 0 < length p.now) }
+    ensures found { HasByte at run.now → IsSomeAnd result (λ p. at + length p.now ≡ end_of run.now) }
+{
+    let skip = at.checked_sub(run.at)?;
+    if skip >= run.bytes.len() as u64 {
+        return None;
+    }
+    Some(run.bytes.as_slice().split_at(skip as usize).1)
+}
+
+impl Held {
+    /// A file of this size, of which nothing is held.
+    pub fn new(alloc: Global, size: u64) -> Held
+        ensures { result ≡ record { size = size; runs = [] } }
+    {
+        Held {
+            size,
+            runs: Vec::new(alloc),
+        }
+    }
+
+    /// How many bytes the file has. The runs that are held lie in it, in their order, and no byte is held twice.
+    pub fn size(&self) -> u64
+        ensures size { result ≡ self.now.size }
+        ensures kept { IsKept self.now }
+    {
+        self.size
+    }
+
+    /// How many runs are held.
+    pub fn count(&self) -> usize
+        ensures { result ≡ length self.now.runs }
+    {
+        self.runs.len()
+    }
+
+    /// How many runs begin at or before a place.
+    fn before(&self, at: u64) -> usize
+        ensures bound { result ≤ length self.now.runs }
+        ensures front { AllWithin (λ r. r.at ≤ at) self.now.runs 0 result }
+        ensures back { AllWithin (λ r. at < r.at) self.now.runs result (length self.now.runs) }
+    {
+        self.runs.partition_point(|run| run.at <= at)
+    }
+
+    /// The bytes that are held from a place on, up to the end of their run; none where the byte there isn't held.
+    pub fn from_place(&self, at: u64) -> Option<&[u8]>
+        ensures part { (F : List ℕ) → Agrees F self.now → IfSome result (λ p. IsPart F at p.now) }
+        ensures some { IfSome result (λ p. 0 < length p.now) }
+        ensures found { (i : ℕ) → (d : Run) → i < length self.now.runs → HasByte at (get_or self.now.runs i d) → IsSomeAnd result (λ p. at + length p.now ≡ end_of (get_or self.now.runs i d)) }
+    {
+        let index = self.before(at).checked_sub(1)?;
+        behind(self.runs.get(index)?, at)
+    }
+
+    /// Where the next run begins behind a place, or this end where that comes first.
+    pub fn next_place(&self, at: u64, end: u64) -> u64
+        ensures { at < end → (at < result) × (result ≤ end) }
+    {
+        match self.runs.get(self.before(at)) {
+            Some(run) => run.at.min(end),
+            None => end,
+        }
+    }
+
+    /// Holds a run, unless it lies outside of the file, or a byte of it is held; answers whether it does.
+    pub fn insert(&mut self, run: Run) -> Result<bool, AllocError>
+        ensures held { IfOk result (λ b. b ≡ true → IsWith self.old run self.new) }
+        ensures same { IfOk result (λ b. b ≡ false → self.new ≡ self.old) }
+        ensures refused { IfErr result (λ _. self.new ≡ self.old) }
+    {
+        let index = self.before(run.at);
+        if !fits(self.size, &run)
+            || !is_behind_last(&self.runs, index, &run)
+            || !is_before_next(&self.runs, index, &run)
+        {
+            return Ok(false);
+        }
+        self.runs.insert(index, run)?;
+        Ok(true)
+    }
+}

@@ -1,0 +1,26 @@
+-- What a fault of the program says of the run that stopped.
+use Rattle.std.proofs.Common.{◌≡◌, ℕ, List, [], length, ◌⊎◌, inl, inr, Err, refl}
+use Rattle.std.specs.Prelude.{IsErrOf}
+use Rattle.std.proofs.lemmas.List.Elements.{All-nil}
+use Rattle.pdb_file.specs.HeldBytes.{Kept, IsOf, IsRunOf}
+use Rattle.pdb_list.specs.declared.engine.RunError.{RunError}
+use Rattle.pdb_list.specs.declared.engine.RunError.TheVariants as run
+use Rattle.pdb_list.specs.declared.report.Fault.{Fault}
+use Rattle.pdb_list.specs.declared.report.Fault.TheVariants.{Read, Memory, Write}
+use Rattle.pdb_list.specs.Faults.{fault_of_run}
+
+pub only_memory : (e : RunError) (f : Fault) → f ≡ fault_of_run e → (f ≡ Read) ⊎ (f ≡ Memory) → e ≡ run.OutOfMemory
+only_memory run.OutOfMemory f s h = refl
+only_memory run.Write f s (inl h) = absurd cc
+only_memory run.Write f s (inr h) = absurd cc
+only_memory (run.Open x) f s (inl h) = absurd cc
+only_memory (run.Open x) f s (inr h) = absurd cc
+
+pub only_write : {T : Type 0} (e : RunError) (f : Fault) → f ≡ fault_of_run e → IsErrOf {T = T} (Err f) Write → e ≡ run.Write
+only_write run.OutOfMemory f s h = absurd cc
+only_write run.Write f s h = refl
+only_write (run.Open x) f s h = absurd cc
+
+-- a file of which nothing is held
+pub none_held : (file : List ℕ) (k : Kept) (n : ℕ) → k ≡ record { size = n; runs = [] } → length file ≡ n → IsOf file k
+none_held file k n e same = rw e (record { size = same; agrees = All-nil (IsRunOf file) })

@@ -1,0 +1,49 @@
+use Rattle.std.proofs.Common.{◌≡◌, ◌+◌, ap, Err, arith}
+use Rattle.pdb_list.specs.declared.engine.RunError.TheVariants.{OutOfMemory, Write}
+use Rattle.pdb_list.specs.CommandTexts.{command_text}
+use Rattle.pdb_list.proofs.Stopped.{only_memory, only_write}
+use Rattle.pdb_list.proofs.Written.{first_more, first_front}
+use Rattle.pdb_list.proofs.in_parts.run_in_parts.Goals as goal
+
+pub returns-in-Err-clause-stopped : goal.returns-in-Err-clause-stopped
+returns-in-Err-clause-stopped g c = λ is h.
+    let stopped = only_memory _ c.from.result c.from.ensures h in
+    let same = c.in-Err.e-is in
+    let wanted : c.in-Err.e ≡ OutOfMemory = cc in
+    let texts = rw c.split_at.ensures.back at (c.in-Err.ensures.memory is (ap Err wanted)) in (
+      c.loop.done + c.run_held.new.written,
+      omega (arith, c.loop.invariant.within, c.in-Err.ensures.most, c.split_at.ensures.back_len),
+      first_more (command_text (g.F.Meant.file c.args.file.now)) _ _ _ c.args.commands.now c.loop.done c.run_held.new.written (c.loop.invariant.wrote is) texts,
+    )
+
+pub returns-in-Err-clause-write : goal.returns-in-Err-clause-write
+returns-in-Err-clause-write g c = λ is h.
+    let stopped = only_write _ c.from.result c.from.ensures h in
+    let same = c.in-Err.e-is in
+    let failed : c.in-Err.e ≡ Write = cc in
+    let front = rw c.split_at.ensures.back at (c.in-Err.ensures.write is (ap Err failed)) in
+    first_front (command_text (g.F.Meant.file c.args.file.now)) _ _ _ c.args.commands.now c.loop.done (c.loop.invariant.wrote is) front
+
+pub returns-in_err-fetch-clause-stopped : goal.returns-in_err-fetch-clause-stopped
+returns-in_err-fetch-clause-stopped g c = λ is h.
+    let was = c.in_err-fetch.ensures.kept _ is in
+    let same = c.in-Err-OutOfMemory.field-0-is in
+    let wanted : c.in-Err-OutOfMemory.field-0 ≡ OutOfMemory = cc in
+    let texts = rw c.split_at.ensures.back at (c.in-Err-OutOfMemory.ensures.memory was (ap Err wanted)) in (
+      c.loop.done + c.run_held.new.written,
+      omega (arith, c.loop.invariant.within, c.in-Err-OutOfMemory.ensures.most, c.split_at.ensures.back_len),
+      first_more (command_text (g.F.Meant.file c.args.file.now)) _ _ _ c.args.commands.now c.loop.done c.run_held.new.written (c.loop.invariant.wrote was) texts,
+    )
+
+pub loop-preserved : goal.loop-preserved
+loop-preserved g c = record {
+  within = omega (arith, c.loop.invariant.within, c.in-Err-OutOfMemory.ensures.most, c.split_at.ensures.back_len);
+  kept = λ G is. c.loop.invariant.kept G (c.in_ok-fetch.ensures.kept G is);
+  told = λ G known is. c.in_ok-fetch.ensures.told G known (c.loop.invariant.told G known is);
+  wrote = λ is.
+      let was = c.in_ok-fetch.ensures.kept _ is in
+      let same = c.in-Err-OutOfMemory.field-0-is in
+      let wanted : c.in-Err-OutOfMemory.field-0 ≡ OutOfMemory = cc in
+      let texts = rw c.split_at.ensures.back at (c.in-Err-OutOfMemory.ensures.memory was (ap Err wanted)) in
+      first_more (command_text (g.F.Meant.file c.args.file.now)) _ _ _ c.args.commands.now c.loop.done c.run_held.new.written (c.loop.invariant.wrote was) texts;
+}

@@ -1,0 +1,204 @@
+//! Texts of a file of which no more is read than the commands ask for.
+
+ghost use Rattle.std.specs.Prelude.{◌≡◌, ◌≤◌, ◌⊎◌, ℕ, List, length, take, OnOk, IsErrOf, IsErrAnd, Ok, Err};
+ghost use Rattle.std.specs.Option.{ForSome};
+ghost use Rattle.std.specs.Io.KnownBytes.{Appends};
+ghost use Rattle.pdb.specs.Error.{Error};
+ghost use Rattle.pdb.specs.Container.{opens};
+ghost use Rattle.pdb_file.specs.HeldBytes.{IsOf};
+ghost use Rattle.pdb_list.specs.Written.{WroteFirst, WroteFront};
+ghost use Rattle.pdb_list.specs.CommandTexts.{command_text, texts};
+
+use crate::command::Command;
+use crate::engine::{RunError, run_counted};
+use crate::input::MOST_BYTES;
+use crate::report::Fault;
+use crate::streams_asked::StreamsAsked;
+use pdb_file::{Fetched, Held, HeldSource, KnownFile, Meant, Missed, ReadAt, fetch, fetch_asked};
+use std::alloc::Global;
+use std::io::Write;
+
+/// Writes the commands' texts over what is held, and counts them. They are those of each file that has what is held:
+/// where a text asks for more, the run stops as for want of memory, and nothing of that text was written.
+fn run_held<F: Meant, W: Write>(
+    alloc: Global,
+    held: &Held,
+    missed: &mut Missed,
+    file: &F,
+    commands: &[Command],
+    out: &mut W,
+    written: &mut usize,
+) -> Result<(), RunError>
+    ensures ok { IsOf (F.file file.now) held.now → OnOk result ((opens (F.file file.now) ≡ Ok tt)
+        × Appends (W.contents out.old) (W.contents out.new) (texts (F.file file.now) commands.now)) }
+    ensures memory { IsOf (F.file file.now) held.now → IsErrOf result RunError.OutOfMemory
+        → Appends (W.contents out.old) (W.contents out.new) (texts (F.file file.now) (take written.new commands.now)) }
+    ensures most { written.new ≤ length commands.now }
+    ensures refused { IsOf (F.file file.now) held.now → (e : Error) → IsErrOf result (RunError.Open e) → opens (F.file file.now) ≡ Err e }
+    ensures write { IsOf (F.file file.now) held.now → IsErrOf result RunError.Write
+        → WroteFront (W.contents out.old) (W.contents out.new) (texts (F.file file.now) commands.now) }
+{
+    let source = HeldSource::new(held, missed, file);
+    run_counted(alloc, source, commands, out, written)
+}
+
+/// Writes the commands' texts over what is held, reads what is missed, and goes on with the first command whose text
+/// wasn't written.
+pub fn run_in_parts<R: ReadAt, F: Meant, W: Write>(
+    alloc: Global,
+    input: &R,
+    held: &mut Held,
+    file: &F,
+    commands: &[Command],
+    out: &mut W,
+    fetched: &mut Fetched,
+) -> Result<(), Fault>
+    // What was held is held, and what was read stands in the file that was read.
+    ensures kept { (G : List ℕ) → IsOf G held.new → IsOf G held.old }
+    ensures told { ForSome (R.known input.now) (λ G. IsOf G held.old → IsOf G held.new) }
+    // All texts of any file that has what is held were written.
+    ensures ok { IsOf (F.file file.now) held.new → OnOk result ((opens (F.file file.now) ≡ Ok tt)
+        × Appends (W.contents out.old) (W.contents out.new) (texts (F.file file.now) commands.now)) }
+    // The texts of some first commands were written, whole.
+    ensures stopped { IsOf (F.file file.now) held.new → IsErrAnd result (λ e. (e ≡ Fault.Read) ⊎ (e ≡ Fault.Memory))
+        → WroteFirst (command_text (F.file file.now)) (W.contents out.old) (W.contents out.new) commands.now }
+    // A beginning of the texts was written.
+    ensures write { IsOf (F.file file.now) held.new → IsErrOf result Fault.Write
+        → WroteFront (W.contents out.old) (W.contents out.new) (texts (F.file file.now) commands.now) }
+{
+    let mut missed = Missed::new(alloc);
+    let mut done = 0;
+    for _ in 0..u64::MAX {
+        missed.clear();
+        let mut written = 0;
+        let left = commands.split_at(done).1;
+        match run_held(alloc, held, &mut missed, file, left, out, &mut written) {
+            Ok(()) => return Ok(()),
+            Err(RunError::OutOfMemory) if !missed.is_empty() => done += written,
+            Err(e) => return Err(Fault::from(e)),
+        }
+        fetch(alloc, held, &mut missed, input, fetched)?;
+    }
+    Err(Fault::Read)
+}
+
+/// Lists what the commands ask for of a file of this size: asks for the streams that they read, and then runs.
+pub fn list_in_parts<R: ReadAt, W: Write>(
+    alloc: Global,
+    input: &R,
+    size: u64,
+    commands: &[Command],
+    out: &mut W,
+    fetched: &mut Fetched,
+) -> Result<(), Fault>
+    ensures ok { ForSome (R.known input.now) (λ G. length G ≡ size → OnOk result ((opens G ≡ Ok tt)
+        × Appends (W.contents out.old) (W.contents out.new) (texts G commands.now))) }
+    ensures write { ForSome (R.known input.now) (λ G. length G ≡ size → IsErrOf result Fault.Write
+        → WroteFront (W.contents out.old) (W.contents out.new) (texts G commands.now)) }
+{
+    if size > MOST_BYTES as u64 {
+        return Err(Fault::Read);
+    }
+    let mut held = Held::new(alloc, size);
+    let mut asks = StreamsAsked::of(alloc, commands)?;
+    fetch_asked(alloc, &mut held, input, &mut asks, fetched)?;
+    let file = KnownFile::new(input);
+    run_in_parts(alloc, input, &mut held, &file, commands, out, fetched)
+}
+
+#[cfg(test)]
+mod tests {
+    use super::*;
+    use crate::SAMPLE_COMMANDS;
+    use crate::engine::run;
+    use crate::fakes::{Places, Slow, is};
+    use pdb::MemorySource;
+    use pdb_file::AnyFile;
+
+    #[test]
+    fn texts_are_those_of_the_file_read_whole(rt: HostRuntime) {
+        let alloc = rt.alloc();
+        let bytes = crate::sample::file(alloc).expect(&rt, "the sample");
+        let size = bytes.len() as u64;
+        let mut whole = Slow::new(alloc, 4096, 999);
+        let ran = run(
+            alloc,
+            MemorySource::new(&bytes),
+            &SAMPLE_COMMANDS,
+            &mut whole,
+        );
+        is(&rt, "ran", &ran, &Ok(()));
+        for step in [1usize, 100, 65536] {
+            let input = Places::of(&bytes, step);
+            let (mut out, mut fetched) = (Slow::new(alloc, 4096, 999), Fetched::default());
+            let listed = list_in_parts(
+                alloc,
+                &input,
+                size,
+                &SAMPLE_COMMANDS,
+                &mut out,
+                &mut fetched,
+            );
+            is(&rt, "listed", &listed, &Ok(()));
+            is(&rt, "out.taken()", &out.taken(), &whole.taken());
+            is(&rt, "rounds", &(fetched.rounds <= 8), &true);
+            is(&rt, "bytes", &(fetched.bytes <= size), &true);
+        }
+        // Nothing was asked for before the run.
+        let mut held = Held::new(alloc, size);
+        let (mut out, mut fetched) = (Slow::new(alloc, 4096, 999), Fetched::default());
+        let ran = run_in_parts(
+            alloc,
+            &bytes,
+            &mut held,
+            &AnyFile,
+            &SAMPLE_COMMANDS,
+            &mut out,
+            &mut fetched,
+        );
+        is(&rt, "ran", &ran, &Ok(()));
+        is(&rt, "out.taken()", &out.taken(), &whole.taken());
+    }
+
+    #[test]
+    fn reads_that_fail_or_end(rt: HostRuntime) {
+        let alloc = rt.alloc();
+        let bytes = crate::sample::file(alloc).expect(&rt, "the sample");
+        let size = bytes.len() as u64;
+        for fails in [true, false] {
+            for reads in 0..40u32 {
+                let input = Places::ending(&bytes, 100, reads, fails);
+                let (mut out, mut fetched) = (Slow::new(alloc, 4096, 999), Fetched::default());
+                let listed = list_in_parts(
+                    alloc,
+                    &input,
+                    size,
+                    &SAMPLE_COMMANDS,
+                    &mut out,
+                    &mut fetched,
+                );
+                if listed.is_ok() {
+                    is(
+                        &rt,
+                        "fetched.reads",
+                        &(fetched.reads <= reads as u64),
+                        &true,
+                    );
+                } else {
+                    is(&rt, "listed", &listed, &Err(Fault::Read));
+                    assert!(rt; out.taken().is_empty());
+                }
+            }
+        }
+        let (mut out, mut fetched) = (Slow::new(alloc, 4096, 999), Fetched::default());
+        let shrank = list_in_parts(
+            alloc,
+            &bytes,
+            size + 1,
+            &SAMPLE_COMMANDS,
+            &mut out,
+            &mut fetched,
+        );
+        is(&rt, "a file that shrank", &shrank, &Err(Fault::Read));
+    }
+}
