@@ -50,7 +50,7 @@ impl Write for Slow {
     }
 }
 
-/// A writer of which the call of this number fails, counted from 0, and no other.
+/// A writer, and a reader without an end, of which the call of this number fails, counted from 0, and no other.
 #[derive(Drop)]
 pub struct FailsOnce {
     taken: Vec<u8>,
@@ -68,16 +68,35 @@ impl FailsOnce {
     pub fn taken(&self) -> &[u8] {
         self.taken.as_slice()
     }
-}
 
-impl Write for FailsOnce {
-    fn write(&mut self, buf: &[u8]) -> io::Result<usize> {
+    /// One more call: whether it fails.
+    fn fails(&mut self) -> bool {
         let fails = self.left == Some(0);
         self.left = match self.left {
             Some(left) => left.checked_sub(1),
             None => None,
         };
-        if fails {
+        fails
+    }
+}
+
+impl Read for FailsOnce {
+    fn read(&mut self, buf: &mut [u8]) -> io::Result<usize> {
+        if self.fails() {
+            return Err(io::Error::from(ErrorKind::Other));
+        }
+        if self.left.is_none() {
+            return Ok(0);
+        }
+        let count = buf.len().min(2);
+        buf[..count].fill(b'r');
+        Ok(count)
+    }
+}
+
+impl Write for FailsOnce {
+    fn write(&mut self, buf: &[u8]) -> io::Result<usize> {
+        if self.fails() {
             return Err(io::Error::from(ErrorKind::Other));
         }
         let count = buf.len().min(2);

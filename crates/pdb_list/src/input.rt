@@ -86,7 +86,7 @@ pub fn read_all<R: Read>(alloc: Global, input: &mut R) -> Result<Vec<u8>, Fault>
 #[cfg(test)]
 mod tests {
     use super::*;
-    use crate::fakes::{Plenty, ThreeBytes, is};
+    use crate::fakes::{FailsOnce, Plenty, ThreeBytes, is};
 
     #[test]
     fn reads_to_the_end(rt: HostRuntime) {
@@ -123,5 +123,22 @@ mod tests {
         is(&rt, "refused", &refused, &Some(Fault::Read));
         let refused = read_up_to(alloc, 5, &mut ThreeBytes::ending(2_000_000_000)).err();
         is(&rt, "refused", &refused, &Some(Fault::Read));
+    }
+
+    #[test]
+    fn no_failed_read_is_tried_again(rt: HostRuntime) {
+        for call in 0..3u32 {
+            let mut input = FailsOnce::at(rt.alloc(), call);
+            let refused = read_all(rt.alloc(), &mut input).err();
+            is(&rt, "refused", &refused, &Some(Fault::Read));
+        }
+    }
+
+    #[test]
+    fn reads_files_of_some_megabytes(rt: HostRuntime) {
+        is(&rt, "most", &MOST_BYTES, &1_099_511_627_776);
+        let mut input = Plenty::of(3_000_001);
+        let read = read_all(rt.alloc(), &mut input).expect(&rt, "all bytes");
+        is(&rt, "read.len()", &read.len(), &3_000_001);
     }
 }
