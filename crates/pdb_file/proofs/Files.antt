@@ -1,14 +1,13 @@
 -- Files that have what is held.
 use Rattle.std.proofs.Common.{◌≡◌, ℕ, zero, suc, ◌+◌, ◌-◌, ◌<◌, ◌≤◌, ◌⊎◌, inl, inr, ⊎_elim, Bool, true, false, List, [], ◌∷◌, ◌++◌, length, length-append, get_or, take, drop, refl, sym, ap, ◌∙◌, append_assoc, flat_map, Result, Ok, Err, subst, arith, true≢false}
-use Rattle.std.specs.Prelude.{replicate, IfOk, IfErr, IsErrOf, ◌↔◌, nat_le, nat_eq, ◌&&◌, if◌then◌else◌}
+use Rattle.std.specs.Prelude.{replicate, IfOk, IfErr, IsErrOf, ◌↔◌, if◌then◌else◌}
 use Rattle.std.specs.Bool.{Decides}
 use Rattle.std.specs.List.Sorted.{IsNonDecreasingBy}
-use Rattle.std.specs.Str.{bytes_eq}
 use Rattle.std.specs.List.{All, AllPairs, list_all, insert}
 use Rattle.std.proofs.lemmas.Bool.{cases_lt, leb-true, le-leb}
 use Rattle.std.proofs.lemmas.Bool.Decides.{Decides-eqb, Decides-and, Decides-like, Decides-by_and}
 use Rattle.std.proofs.lemmas.Slice.Eq.{bytes_eq-Decides}
-use Rattle.std.proofs.lemmas.List.{append-nil, length-take, length-drop, take-take, drop-take, take-append-le, take-append-drop, drop-append-le}
+use Rattle.std.proofs.lemmas.List.{length-take, length-drop, take-take, drop-take, take-append-le, drop-append-le}
 use Rattle.std.proofs.lemmas.Slice.{drop-append-drop}
 use Rattle.std.proofs.lemmas.Grind.{common_steps}
 use Rattle.std.proofs.lemmas.List.Elements.{All-nil, All-cons, All-head, All-tail, All-take, All-drop, All-append}
@@ -20,7 +19,7 @@ use Rattle.pdb_base.specs.declared.error.Error.TheVariants.{OutOfMemory, Unexpec
 use Rattle.pdb_base.specs.Refusal.{Gives, Fails}
 use Rattle.pdb_base.specs.Source.{is_inside, slice_bytes, view_bytes, viewed}
 use Rattle.pdb_file.specs.declared.run.Run.{Run}
-use Rattle.pdb_file.specs.HeldBytes.{Kept, IsPart, IsRunOf, Agrees, IsOf, end_of, IsBefore, IsKept, IsWith, HasByte, laid, laid_all, file_of, has_run, has_all, supposed, is_inside_of}
+use Rattle.pdb_file.specs.HeldBytes.{Kept, IsRunOf, IsOf, end_of, IsBefore, IsKept, IsWith, laid, laid_all, file_of, has_run, has_all, supposed, is_inside_of}
 
 abbrev IsApart : Run → Run → Type 0
 IsApart r s = IsBefore r s ⊎ IsBefore s r

@@ -1,6 +1,4 @@
-use Rattle.std.proofs.Common.{rules, refl, sym, ◌∙◌, ◌≡◌, false}
-use Rattle.std.specs.List.{list_all}
-use Rattle.pdb_base.specs.Source.{is_inside}
+use Rattle.std.proofs.Common.{refl, sym, ◌∙◌}
 use Rattle.pdb_file.proofs.Files.{given, inside_same, past, only_past, supposed_has}
 use Rattle.pdb_file.specs.HeldBytes.{supposed}
 use Rattle.pdb_file.proofs.source.HeldSourceSource.view.Goals as goal
