@@ -1,6 +1,6 @@
 -- What is held of a file.
 use Rattle.std.specs.Prelude.{◌≡◌, ℕ, ◌+◌, ◌<◌, ◌≤◌, ◌&&◌, Bool, Option, Some, None, List, [], ◌∷◌, ◌++◌, length, take, drop, replicate, nat_le, nat_eq, if◌then◌else◌}
-use Rattle.std.specs.List.{All, AllPairs, list_all, insert}
+use Rattle.std.specs.List.{All, AllPairs, list_all, insert, sum_by}
 use Rattle.std.specs.Str.{bytes_eq}
 use Rattle.pdb_base.specs.declared.source.SourceSlice.{SourceSlice}
 use Rattle.pdb_file.specs.declared.run.Run.{Run}
@@ -39,6 +39,10 @@ IsBefore r s = end_of r ≤ s.at
 pub record IsKept (k : Kept) : Type 0 where
   pub fits : All (λ r. end_of r ≤ k.size) k.runs
   pub order : AllPairs IsBefore k.runs
+
+-- how many bytes are held
+abbrev pub held_bytes : Kept → ℕ
+held_bytes k = sum_by (λ r. length r.bytes.items) k.runs
 
 -- one run more is held
 abbrev pub IsWith : Kept → Run → Kept → Type 0

@@ -1,8 +1,8 @@
 //! The bytes of a file that are held.
 
-ghost use Rattle.std.specs.Prelude.{◌≡◌, ℕ, ◌+◌, ◌-◌, ◌<◌, ◌≤◌, List, [], length, true, false, get_or, Bool, IfOk, IfErr, IfSome, IsSomeAnd, IsNone};
+ghost use Rattle.std.specs.Prelude.{◌≡◌, ℕ, ◌+◌, ◌-◌, ◌<◌, ◌≤◌, List, [], length, min, true, false, get_or, Bool, IfOk, IfErr, IfSome, IsSomeAnd, IsNone};
 ghost use Rattle.std.specs.List.{AllWithin};
-ghost use Rattle.pdb_file.specs.HeldBytes.{Agrees, IsPart, IsRunOf, IsBefore, IsKept, IsWith, HasByte, end_of};
+ghost use Rattle.pdb_file.specs.HeldBytes.{Agrees, IsPart, IsRunOf, IsBefore, IsKept, IsWith, HasByte, end_of, held_bytes};
 ghost use Rattle.pdb_file.specs.declared.run.Run.{Run};
 
 use crate::run::Run;
@@ -101,6 +101,17 @@ impl Held {
         ensures { result ≡ length self.now.runs }
     {
         self.runs.len()
+    }
+
+    /// How many bytes are held, or 18446744073709551615 where these are more.
+    pub fn bytes(&self) -> u64
+        ensures { result ≡ min (held_bytes self.now) 18446744073709551615 }
+    {
+        let mut bytes = 0u64;
+        for run in &self.runs {
+            bytes = bytes.saturating_add(run.bytes.len() as u64);
+        }
+        bytes
     }
 
     /// How many runs begin at or before a place.

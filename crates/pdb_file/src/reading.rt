@@ -1,8 +1,8 @@
 //! What was missed, read from a file.
 
-ghost use Rattle.std.specs.Prelude.{◌≡◌, ◌+◌, ◌≤◌, ℕ, List, length, take, drop, vec_len, IfOk, OnOk, None, Some, Option};
+ghost use Rattle.std.specs.Prelude.{◌≡◌, ◌+◌, ◌<◌, ◌≤◌, ℕ, List, length, take, drop, vec_len, IfOk, OnOk, None, Some, Option};
 ghost use Rattle.std.specs.Option.{ForSome};
-ghost use Rattle.pdb_file.specs.HeldBytes.{IsOf, IsPart};
+ghost use Rattle.pdb_file.specs.HeldBytes.{IsOf, IsPart, held_bytes};
 
 use crate::held::Held;
 use crate::missed::Missed;
@@ -100,6 +100,21 @@ fn read_behind<R: ReadAt>(
     }
 }
 
+/// By how many bytes the room for them grows at a time.
+const ROOM: usize = 2048;
+
+/// Room for so many bytes more, behind those that are there.
+fn make_room(bytes: &mut Vec<u8>, more: usize) -> Result<(), AllocError>
+    ensures front { OnOk result (take (vec_len bytes.old) bytes.new.items ≡ bytes.old.items) }
+    ensures len { OnOk result (vec_len bytes.old ≤ vec_len bytes.new) }
+{
+    let end = bytes.len().saturating_add(more);
+    while bytes.len() < end {
+        bytes.resize(bytes.len().saturating_add(ROOM).min(end), 0)?;
+    }
+    Ok(())
+}
+
 /// Reads more bytes behind those of a run that begins at a place, at most so many; answers how many.
 fn read_more<R: ReadAt>(
     input: &R,
@@ -114,7 +129,7 @@ fn read_more<R: ReadAt>(
     let Some(at) = from.checked_add(len as u64) else {
         return Err(FetchError::Read);
     };
-    bytes.resize(len.saturating_add(most), 0)?;
+    make_room(bytes, most)?;
     let count = read_behind(input, bytes.as_mut_slice(), len, at)?;
     bytes.truncate(len + count);
     Ok(count)
@@ -175,7 +190,8 @@ fn fill<R: ReadAt>(
     Ok(())
 }
 
-/// Reads what was missed, neighbours together. A read that fails or ends early is `FetchError::Read`.
+/// Reads what was missed, neighbours together. A read that fails or ends early is `FetchError::Read`; so is it where no
+/// byte is held that wasn't before, since then nothing was missed that can be read.
 pub fn fetch<R: ReadAt>(
     alloc: Global,
     held: &mut Held,
@@ -186,8 +202,10 @@ pub fn fetch<R: ReadAt>(
     ensures told { ForSome (R.known input.now) (λ F. IsOf F held.old → IsOf F held.new) }
     ensures kept { (F : List ℕ) → IsOf F held.new → IsOf F held.old }
     ensures size { held.new.size ≡ held.old.size }
+    ensures more { IfOk result (λ _. held_bytes held.old < held_bytes held.new) }
 {
     fetched.rounds = fetched.rounds.saturating_add(1);
+    let before = held.bytes();
     missed.sort();
     let size = held.size();
     let mut from = 0u64;
@@ -204,5 +222,8 @@ pub fn fetch<R: ReadAt>(
     }
     fill(alloc, held, input, from, end, fetched)?;
     missed.clear();
+    if held.bytes() <= before {
+        return Err(FetchError::Read);
+    }
     Ok(())
 }

@@ -1,0 +1,12 @@
+use Rattle.std.proofs.Common.{◌≡◌, ◌-◌, ◌≤◌, take, vec_len}
+use Rattle.pdb_file.proofs.reading.make_room.Given as goal
+
+-- what was there stays in front
+abbrev pub invariant-loop-bytes : goal.invariant-loop-bytes
+invariant-loop-bytes l = record {
+  front : take (vec_len l.fn.bytes) l.bytes.items ≡ l.fn.bytes.items;
+  grown : vec_len l.fn.bytes ≤ vec_len l.bytes;
+}
+
+abbrev pub decreases-loop-bytes : goal.decreases-loop-bytes
+decreases-loop-bytes l = l.end - vec_len l.bytes
