@@ -6,7 +6,7 @@ PREFIX ?= /usr/local
 run:
 	@tests/run
 
-# Proves all crates and builds the program.
+# Proves the crates on which the program stands, and builds it. The gate proves pdb_resolve too.
 prove:
 	cd crates/pdb_list && rt run > /dev/null
 

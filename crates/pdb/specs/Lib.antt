@@ -50,6 +50,7 @@ pub use Rattle.pdb_modules.specs.ModuleStream
 pub use Rattle.pdb_modules.specs.ModuleViews
 pub use Rattle.pdb_modules.specs.LineProgram
 pub use Rattle.pdb_modules.specs.LineViews
+pub use Rattle.pdb_modules.specs.LineCover
 pub use Rattle.pdb_modules.specs.Lines
 pub use Rattle.pdb_modules.specs.LineOrder
 pub use Rattle.pdb_modules.specs.Files

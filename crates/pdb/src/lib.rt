@@ -87,6 +87,7 @@ pub use pdb_modules::LineInfo;
 pub use pdb_modules::LineInfoKind;
 pub use pdb_modules::LineIterator;
 pub use pdb_modules::LineProgram;
+pub use pdb_modules::LineRecords;
 pub use pdb_modules::ModuleInfo;
 pub use pdb_modules::ModuleRef;
 pub use pdb_symbols::AnnotationReferenceSymbol;

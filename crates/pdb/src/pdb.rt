@@ -1,6 +1,6 @@
 //! An opened PDB file, and its streams.
 
-ghost use Rattle.std.specs.Prelude.{◌≡◌, ◌≢◌, ℕ, List, IfOk, false, None};
+ghost use Rattle.std.specs.Prelude.{◌≡◌, ◌≢◌, ℕ, List, Ok, IfOk, false, None};
 ghost use Rattle.std.specs.Option.{option_map};
 ghost use Rattle.pdb_base.specs.Refusal.{Gives};
 ghost use Rattle.pdb_base.specs.Source.{State, Continues, MayFail};
@@ -82,14 +82,16 @@ impl<'s, S: Source<'s>> PDB<'s, S> {
 
     /// How many views of the source failed so far.
     pub fn failures(&self) -> u64
-        ensures { result ≡ self.now.failures }
+        ensures failures { result ≡ self.now.failures }
+        ensures opened { opens self.now.file ≡ Ok tt }
     {
         self.msf.failures()
     }
 
     /// Whether no view of the source can fail.
     pub fn steady(&self) -> bool
-        ensures { result ≡ self.now.steady }
+        ensures steady { result ≡ self.now.steady }
+        ensures opened { opens self.now.file ≡ Ok tt }
     {
         self.msf.steady()
     }

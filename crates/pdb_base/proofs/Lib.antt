@@ -15,3 +15,5 @@ pub mod OpenLemmas
 pub mod Fronts
 pub mod ZeroRuns
 pub mod Layouts
+pub mod Collecting
+pub mod Finding

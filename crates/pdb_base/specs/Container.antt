@@ -130,6 +130,13 @@ stream_of file n limit = open_of file >>= λ o. front_of file o n limit
 unfoldable pub opens : List ℕ → Result (Unit {0}) Error
 opens file = open_of file >>= λ o. Ok tt
 
+-- what refuses a stream of a file that opens: the end of the file or of the directory, a number that is no page's, or that there is no such stream
+abbrev pub RefusesStreams : Error → Type 0
+RefusesStreams UnexpectedEof = Unit {0}
+RefusesStreams (PageReferenceOutOfRange page) = Unit {0}
+RefusesStreams (StreamNotFound n) = Unit {0}
+RefusesStreams e = ⊥
+
 -- the k-th of them is how many pages the streams before stream k have together; each stream of a directory with all sizes has one
 pub record ArePagesBefore (directory : List ℕ) (P : ℕ) (before : List ℕ) : Type 0 where
   pub each : (k : ℕ) → k < length before → slice_index before k ≡ sum_by (pages_of directory P) (range_with_len 0 k)

@@ -2,7 +2,7 @@
 use Rattle.std.specs.Prelude.{◌≡◌, ℕ, Bool, true, false, ◌⊎◌, List, [], ◌∷◌, ◌++◌, map, length, Option, Some, None, Result, Ok, Err}
 use Rattle.std.specs.Fn.{Mut, CalledAt}
 use Rattle.std.specs.Borrow.{Bor}
-use Rattle.std.specs.List.{FoldsTo}
+use Rattle.std.specs.List.{FoldsTo, find}
 use Rattle.pdb_base.specs.declared.error.Error.{Error}
 use Rattle.pdb_base.specs.declared.error.Error.TheVariants.{OutOfMemory}
 
@@ -48,6 +48,16 @@ abbrev pub Collects : {X A : Type 0} → (X → A) → Left A → Result (List X
 Collects shown old (Ok xs) = (map shown xs ≡ old.items) × (old.fault ≡ None)
 Collects shown old (Err e) = (old.fault ≡ Some e) ⊎ (e ≡ OutOfMemory)
 
+-- the item that was found, or else the fault, or nothing
+abbrev pub found_or : {A : Type 0} → Option A → Option Error → Result (Option A) Error
+found_or (Some x) fault = Ok (Some x)
+found_or None (Some e) = Err e
+found_or None None = Ok None
+
+-- the first item that passes a test; where none does the fault, or nothing
+abbrev pub found_in : {A : Type 0} → (A → Bool) → Left A → Result (Option A) Error
+found_in test left = found_or (find test left.items) left.fault
+
 module _ {F X A : Type 0} (shown : X → A) (g : Mut F (Bor X × Unit {0}) (Result Bool Error)) where
   -- calls of p at the items xs, in order, answered `Ok(false)` and left q
   abbrev pub RejectsAll : F → List X → F → Type 0
@@ -64,3 +74,7 @@ module _ {F X A : Type 0} (shown : X → A) (g : Mut F (Bor X × Unit {0}) (Resu
   -- `find` rejected the items xs, and then gave the item that p wanted, or the iterator's fault, or p's error at the item behind which it stands
   abbrev pub Finds : Left A → F → Result (Option X) Error → Left A → Type 0
   Finds old p result new = (xs : List X) × (q : F) × RejectsAll p xs q × StopsAt old xs q result new
+
+  -- each call of p answers whether what the item shows passes a test
+  abbrev pub Tests : (A → Bool) → Type 0
+  Tests test = (p : F) (x : X) (r : Result Bool Error) (q : F) → CalledAt g p x r q → r ≡ Ok (test (shown x))

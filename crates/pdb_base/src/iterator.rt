@@ -1,8 +1,8 @@
 //! Iterators whose `next` may be refused.
 
-ghost use Rattle.std.specs.Prelude.{◌≢◌, ◌^◌, ◌<◌, length, IfErr};
+ghost use Rattle.std.specs.Prelude.{◌≡◌, ◌≢◌, ◌^◌, ◌<◌, map, length, Ok, IfOk, IfErr};
 ghost use Rattle.std.specs.Result.{result_map_both};
-ghost use Rattle.pdb_base.specs.Left.{Left, Yields, Counts, Collects, Finds};
+ghost use Rattle.pdb_base.specs.Left.{Left, whole, Yields, Counts, Collects, Finds};
 ghost use Rattle.pdb_base.specs.declared.error.Error.TheVariants.{IoError, OutOfMemory};
 
 use crate::error::{Error, Result};
@@ -45,10 +45,12 @@ pub trait FallibleIterator: Drop {
     }
 
     /// The items that are left, or the fault after them. It takes memory for the list.
+    #[tactic(auto, using(crate::proofs::Collecting::collected_whole))]
     final fn collect(mut self, alloc: Global) -> Result<Vec<Self::Item>>
     where
         Self: Sized,
         ensures collects { Collects shown (left self) (result_map_both (λ v. v.items) (λ e. e) result) }
+        ensures all { IfOk result (λ v. whole (left self) ≡ Ok (map shown v.items)) }
         ensures refused { IfErr result (λ e. e ≢ IoError) }
     {
         let mut items = Vec::new(alloc);

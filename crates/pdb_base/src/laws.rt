@@ -1,7 +1,8 @@
 //! Laws of the definitions. Each is the contract of a function that does nothing.
 
-ghost use Rattle.std.specs.Prelude.{◌≡◌, ◌↔◌, ◌+◌, ◌<◌, ℕ, ℤ, List, take, Some, None, Ok, Err};
-ghost use Rattle.pdb_base.specs.Left.{Left};
+ghost use Rattle.std.specs.Prelude.{◌≡◌, ◌↔◌, ◌+◌, ◌<◌, ℕ, ℤ, List, take, Option, Some, None, Result, Bool, Ok, Err, IfErr, option_map};
+ghost use Rattle.std.specs.Result.{result_map_both};
+ghost use Rattle.pdb_base.specs.Left.{Left, Finds, Tests, found_in};
 ghost use Rattle.pdb_base.specs.Tiling.{Row, IsInside, IsListing, listing};
 ghost use Rattle.pdb_base.specs.Fields.{number_at, bytes_at, cstring_at, pascal_at, signed_at, variant_at, aligned_at, padding};
 ghost use Rattle.pdb_base.specs.Places.{IsNumber, IsSigned, IsSlice, IsCString, IsPascal, IsVariant, IsAligned};
@@ -9,9 +10,9 @@ ghost use Rattle.pdb_base.specs.SectionHeader.{IsSectionHeader, header_at};
 ghost use Rattle.pdb_base.specs.declared.section_header.ImageSectionHeader.{ImageSectionHeader};
 ghost use Rattle.pdb_base.specs.declared.variant.Variant.{Variant};
 ghost use Rattle.std.specs.Int.{Width};
-ghost use Rattle.pdb_base.specs.Container.{stream_of, page_numbers_of};
+ghost use Rattle.pdb_base.specs.Container.{opens, stream_of, page_numbers_of, RefusesStreams};
 
-use crate::error::Error;
+use crate::error::{Error, Result};
 
 /// Bytes have one list of each kind from each place on, and it is the one that the contracts name.
 pub fn one_listing<A>()
@@ -38,4 +39,19 @@ pub fn fields_stand_at_their_places()
 pub fn front_is_the_beginning()
     ensures beginning { (file : List ℕ) (n limit : ℕ) (bytes : List ℕ) → stream_of file n None ≡ Ok bytes → stream_of file n (Some limit) ≡ Ok (take limit bytes) }
     ensures refusal { (file : List ℕ) (n limit page : ℕ) (pages : List ℕ) → page_numbers_of file n ≡ Ok pages → stream_of file n (Some limit) ≡ Err (Error.PageReferenceOutOfRange page) → stream_of file n None ≡ Err (Error.PageReferenceOutOfRange page) }
+{}
+
+/// A stream of a file that opens is refused for the end of the file or of the directory, for a number that is no
+/// page's, or because there is no such stream, and never for the container's front.
+#[tactic(auto, using(crate::proofs::OpenLemmas::opened_refuses))]
+pub fn opened_files_refuse_streams_alone()
+    ensures { (file : List ℕ) (n : ℕ) (limit : Option ℕ) → opens file ≡ Ok tt → IfErr (stream_of file n limit) RefusesStreams }
+{}
+
+/// A search by a test of what items show gives the first item that passes it; where none does the list's fault, or
+/// nothing.
+pub fn a_test_finds_the_first<X, A, P: FnMut(&X) -> Result<bool>>()
+    ensures { (shown : X → A) (test : A → Bool) → Tests shown P.FnMut test
+        → (old new : Left A) (p : P) (result : Result (Option X) Error) → Finds shown P.FnMut old p result new
+        → result_map_both (option_map shown) (λ e. e) result ≡ found_in test old }
 {}

@@ -11,6 +11,7 @@ pub mod laws;
 pub mod little_endian;
 mod msf;
 mod pages;
+pub mod part;
 mod section_header;
 mod source;
 mod steps;

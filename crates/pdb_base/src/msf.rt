@@ -1,6 +1,6 @@
 //! An opened file.
 
-ghost use Rattle.std.specs.Prelude.{◌≡◌, ℕ, ◌+◌, ◌*◌, ◌<◌, ◌≤◌, ◌^◌, List, length, true, false, IfOk, IsOk, IsErrOf};
+ghost use Rattle.std.specs.Prelude.{◌≡◌, ℕ, ◌+◌, ◌*◌, ◌<◌, ◌≤◌, ◌^◌, List, length, true, false, Ok, IfOk, IsOk, IsErrOf};
 ghost use Rattle.pdb_base.specs.Refusal.{Gives};
 ghost use Rattle.pdb_base.specs.Source.{State, Continues, MayFail, view_bytes};
 ghost use Rattle.pdb_base.specs.Container.{opens, stream_of, pages_needed, limited as limited_size};
@@ -72,10 +72,13 @@ impl<'s, S: Source<'s>> Msf<'s, S> {
     }
 
     /// The first bytes of a stream, as many as the limit says, or all.
+    #[tactic(auto, using(crate::proofs::OpenLemmas::opened_opens))]
     pub fn get(&mut self, number: u32, limit: Option<u32>) -> Result<Stream<'s>>
         ensures continues { Continues self.old self.new }
         ensures bytes { Gives (λ s. s) (MayFail self.old self.new) result (stream_of self.old.file number limit) }
         ensures memory { IsErrOf result Error.OutOfMemory → IsOk (pages_needed self.old.file number limit) }
+        // Its front isn't what refuses it.
+        ensures opened { opens self.old.file ≡ Ok tt }
     {
         let directory = self.directory.as_slice();
         let size = size_of(directory, number)?;
@@ -92,14 +95,20 @@ impl<'s, S: Source<'s>> Msf<'s, S> {
         Ok(Stream::of(view))
     }
 
+    /// How many views of the source failed so far.
+    #[tactic(auto, using(crate::proofs::OpenLemmas::opened_opens))]
     pub fn failures(&self) -> u64
-        ensures { result ≡ self.now.failures }
+        ensures failures { result ≡ self.now.failures }
+        ensures opened { opens self.now.file ≡ Ok tt }
     {
         self.source.failures()
     }
 
+    /// Whether no view of the source can fail.
+    #[tactic(auto, using(crate::proofs::OpenLemmas::opened_opens))]
     pub fn steady(&self) -> bool
-        ensures { result ≡ self.now.steady }
+        ensures steady { result ≡ self.now.steady }
+        ensures opened { opens self.now.file ≡ Ok tt }
     {
         self.source.steady()
     }

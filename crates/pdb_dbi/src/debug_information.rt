@@ -12,7 +12,7 @@ use crate::contributions::DBISectionContributionIter;
 use crate::header::{DBIHeader, parse_header};
 use crate::machine::MachineType;
 use crate::modules::ModuleIter;
-use crate::part::part_of;
+use pdb_base::part::part_of;
 use pdb_base::{Result, Stream};
 use std::marker::Model;
 

@@ -11,7 +11,6 @@ pub mod laws;
 mod machine;
 mod modules;
 mod names;
-mod part;
 
 pub use contributions::{DBISectionContribution, DBISectionContributionIter};
 pub use debug_information::DebugInformation;

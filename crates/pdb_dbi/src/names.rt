@@ -7,8 +7,8 @@ ghost use Rattle.pdb_base.specs.Refusal.{Answers, Gives};
 ghost use Rattle.pdb_dbi.specs.Names.{name_at, names_of, names_up_to, pairs_at, words_at};
 ghost use Rattle.pdb_dbi.specs.DbiViews.{stream_name};
 
-use crate::part::part_of;
 use pdb_base::little_endian::{u16_at, u32_at};
+use pdb_base::part::part_of;
 use pdb_base::{ParseBuffer, RawString, Result, StreamIndex};
 use std::alloc::Global;
 use std::marker::Model;

@@ -3,7 +3,7 @@ use Rattle.std.proofs.Common.{◌≡◌, ℕ, zero, suc, ◌+◌, ◌-◌, ◌<�
 use Rattle.std.specs.Prelude.{replicate, IfOk, IfErr, IsErrOf, ◌↔◌, if◌then◌else◌}
 use Rattle.std.specs.Bool.{Decides}
 use Rattle.std.specs.List.Sorted.{IsNonDecreasingBy}
-use Rattle.std.specs.List.{All, AllPairs, list_all, insert}
+use Rattle.std.specs.List.{All, AllPairs, AllWithin, list_all, insert}
 use Rattle.std.proofs.lemmas.Bool.{cases_lt, leb-true, le-leb}
 use Rattle.std.proofs.lemmas.Bool.Decides.{Decides-eqb, Decides-and, Decides-like, Decides-by_and}
 use Rattle.std.proofs.lemmas.Slice.Eq.{bytes_eq-Decides}
@@ -213,3 +213,10 @@ rising k h i j d le lt = ⊎_elim
     (λ less. let b = h.order i j d less lt in omega (arith, b))
     (λ more. let same : i ≡ j = omega (arith, le, more) in rw same (same_le _))
     (cases_lt i j)
+
+-- the first run behind a place begins before the others there
+pub first_behind : (k : Kept) (at n i : ℕ) → IsKept k → AllWithin (λ r. r.at ≤ at) k.runs 0 i → ((d : Run) → n ≤ (get_or k.runs i d).at) → All (λ r. at < r.at → n ≤ r.at) k.runs
+first_behind k at n i h front le = λ j d lt behind. ⊎_elim
+    (λ less. let b = front j d (omega arith) less in absurd (omega (arith, b, behind)))
+    (λ more. let rises = rising k h i j d more lt in omega (arith, rises, le d))
+    (cases_lt j i)

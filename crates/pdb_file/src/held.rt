@@ -1,7 +1,7 @@
 //! The bytes of a file that are held.
 
-ghost use Rattle.std.specs.Prelude.{◌≡◌, ℕ, ◌+◌, ◌-◌, ◌<◌, ◌≤◌, List, [], length, min, true, false, get_or, Bool, IfOk, IfErr, IfSome, IsSomeAnd, IsNone};
-ghost use Rattle.std.specs.List.{AllWithin};
+ghost use Rattle.std.specs.Prelude.{◌≡◌, ℕ, ◌+◌, ◌-◌, ◌<◌, ◌≤◌, ◌⊎◌, List, [], length, min, true, false, get_or, Bool, IfOk, IfErr, IfSome, IsSomeAnd, IsNone};
+ghost use Rattle.std.specs.List.{All, AllWithin, Any};
 ghost use Rattle.pdb_file.specs.HeldBytes.{Agrees, IsPart, IsRunOf, IsBefore, IsKept, IsWith, HasByte, end_of, held_bytes};
 ghost use Rattle.pdb_file.specs.declared.run.Run.{Run};
 
@@ -135,7 +135,9 @@ impl Held {
 
     /// Where the next run begins behind a place, or this end where that comes first.
     pub fn next_place(&self, at: u64, end: u64) -> u64
-        ensures { at < end → (at < result) × (result ≤ end) }
+        ensures most { result ≤ end }
+        ensures least { All (λ r. at < r.at → result ≤ r.at) self.now.runs }
+        ensures begins { (result ≡ end) ⊎ Any (λ r. (at < r.at) × (result ≡ r.at)) self.now.runs }
     {
         match self.runs.get(self.before(at)) {
             Some(run) => run.at.min(end),

@@ -35,19 +35,26 @@ pub struct KnownFile<'r, R: ReadAt> {
     input: &'r R,
 }
 
+impl<'r, R: ReadAt> Model for KnownFile<'r, R> {
+    ghost use Rattle.std.specs.Prelude.{ℕ, List};
+    ghost use Rattle.pdb_file.specs.HeldBytes.{known_or_empty};
+
+    ghost Value = { List ℕ };
+
+    ghost view = { λ k. known_or_empty (R.known k.input.now) };
+}
+
 impl<'r, R: ReadAt> KnownFile<'r, R> {
-    /// The file that this reader reads.
+    /// The file that this reader reads; the empty one where its bytes aren't known.
     pub fn new(input: &'r R) -> Self
-        ensures { known_or_empty (R.known result.input.now) ≡ known_or_empty (R.known input.now) }
+        ensures { result ≡ known_or_empty (R.known input.now) }
     {
         KnownFile { input }
     }
 }
 
 impl<'r, R: ReadAt> Meant for KnownFile<'r, R> {
-    ghost use Rattle.pdb_file.specs.HeldBytes.{known_or_empty};
-
-    ghost file = { λ k. known_or_empty (R.known k.input.now) };
+    ghost file = { λ k. k };
 }
 
 /// A steady source of a file of which some runs of bytes are held. It lends a slice that stands in one run, and copies

@@ -11,14 +11,6 @@ use pdb_base::{Error, Result};
 use std::alloc::Global;
 use std::marker::Model;
 
-/// One more place.
-fn push_place(places: &mut Vec<u32>, place: u32) -> Result<()>
-    ensures pushed { IfOk result (λ _. places.new.items ≡ places.old.items ++ place ∷ []) }
-    ensures refused { IfErr result (λ e. e ≡ Error.OutOfMemory) }
-{
-    places.push(place).map_err(|_| Error::OutOfMemory)
-}
-
 /// The places of all records up to the first that isn't there.
 fn read_places(alloc: Global, records: &[u8]) -> Result<Vec<u32>>
     requires { length records.now < 2 ^ 32 }
@@ -28,7 +20,7 @@ fn read_places(alloc: Global, records: &[u8]) -> Result<Vec<u32>>
     let mut places = Vec::new(alloc);
     let mut place = 0;
     while let Some(size) = record_size(records, place) {
-        push_place(&mut places, place as u32)?;
+        places.push(place as u32)?;
         place += size;
     }
     Ok(places)

@@ -4,7 +4,6 @@ pub mod Written
 pub mod Spelling
 pub mod Stopped
 pub mod SampleFacts
-pub mod Pairs
 pub mod LinePieces
 pub mod Listed
 pub mod ModuleLists

@@ -7,7 +7,7 @@ use Rattle.std.proofs.Math.Seq.{take-add, take-append-add, drop-cons}
 use Rattle.std.specs.Prelude.{IsErrOf, IsErrAnd}
 use Rattle.pdb_list.specs.declared.engine.RunError.{RunError}
 use Rattle.pdb_list.specs.declared.engine.RunError.TheVariants.{OutOfMemory, Open, Write}
-use Rattle.pdb_list.specs.Written.{Wrote, WroteCounted, WroteFront}
+use Rattle.pdb_list.specs.Written.{Wrote, WroteCounted, WroteFirst, WroteFront}
 
 pub on_ok : {A E : Type 0} {P Q : Type 0} (r : Result A E) → (P → Q) → OnOk r P → OnOk r Q
 on_ok (Ok x) f h = f h
@@ -165,3 +165,8 @@ pub wrote_stopped : {X : Type 0} (f : X → List ℕ) (a b : Option (List ℕ)) 
     → IsErrAnd r (λ x. x ≡ e) → Wrote f a b xs m n (Err e) → Wrote f a b (xs ++ ys) m n r
 wrote_stopped f a b xs ys m n e (Ok tt) h w = absurd h
 wrote_stopped f a b xs ys m n e (Err x) h w = subst (λ x. Wrote f a b (xs ++ ys) m n (Err x)) (sym h) (wrote_less f a b xs ys m n e w)
+
+-- nothing was written
+pub first_none : {X : Type 0} (text : X → List ℕ) (a : Option (List ℕ)) (xs : List X) → WroteFirst text a a xs
+first_none text None xs = (0, omega arith, tt)
+first_none text (Some a) xs = (0, omega arith, grind (arith, common_steps))

@@ -23,7 +23,7 @@ use Rattle.pdb.specs.Inlined.{inlined_lines}
 use Rattle.pdb.specs.CrossModule.{Reference, reference_of}
 use Rattle.pdb.specs.ExportViews.{export_of, is_id, local_of, global_number_of}
 use Rattle.pdb.specs.Answers.{module_of_file}
-use Rattle.pdb_list.specs.Digits.{hex}
+use Rattle.pdb_text.specs.Digits.{hex}
 use Rattle.pdb_list.specs.Texts.{told, error_text, fault_text, offset_text, symbols_text}
 
 -- the text of what a module's stream says; `none` where there is no such module, or it has no stream

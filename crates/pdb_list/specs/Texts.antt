@@ -23,7 +23,7 @@ use Rattle.pdb.specs.SymbolList.{Entry, symbols_from}
 use Rattle.pdb.specs.ImageSectionHeader.{ImageSectionHeader}
 use Rattle.pdb.specs.SectionHeader.{name_of as section_name}
 use Rattle.pdb.specs.Answers.{information_in, debug_information_in, global_symbols_in, sections_in}
-use Rattle.pdb_list.specs.Digits.{hex}
+use Rattle.pdb_text.specs.Digits.{hex}
 
 -- the line of a refusal
 abbrev pub error_text : Error → List ℕ

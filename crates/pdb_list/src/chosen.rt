@@ -7,7 +7,6 @@ ghost use Rattle.pdb.specs.Refusal.{Gives};
 ghost use Rattle.pdb.specs.Source.{Continues, MayFail};
 ghost use Rattle.pdb.specs.DbiViews.{modules_left};
 ghost use Rattle.pdb.specs.Left.{ended};
-ghost use Rattle.pdb.specs.Answers.{module_of_file};
 
 use pdb::{Error, FallibleIterator, Module, ModuleInfo, ModuleIter, PDB, Result, Source};
 use std::alloc::{AllocError, Global};
@@ -74,19 +73,4 @@ impl<'m> ModuleList<'m> {
             },
         }
     }
-}
-
-/// The stream of the module with this place in the list of modules of a file.
-#[tactic(auto, unfolding(crate::specs::Chosen::info_at, pdb::specs::Answers::module_listed, pdb::specs::Answers::module_of_file))]
-pub fn chosen_module<'s, S: Source<'s>>(
-    alloc: Global,
-    pdb: &mut PDB<'s, S>,
-    k: u32,
-) -> Result<Option<ModuleInfo<'s>>>
-    ensures continues { Continues pdb.old pdb.new }
-    ensures answer { Gives (λ m. m) (MayFail pdb.old pdb.new) result (module_of_file pdb.old.file k) }
-{
-    let information = pdb.debug_information()?;
-    let modules = information.modules()?;
-    ModuleList::new(alloc, modules).module_info(pdb, k)
 }

@@ -3,24 +3,25 @@
 ghost use Rattle.std.specs.Prelude.{◌≡◌, ◌++◌, true, OnOk, codes};
 ghost use Rattle.pdb.specs.Source.{Continues};
 ghost use Rattle.pdb.specs.DbiViews.{contributions_left};
-ghost use Rattle.pdb_list.specs.Digits.{hex};
+ghost use Rattle.pdb_text.specs.Digits.{hex};
 ghost use Rattle.pdb_list.specs.Texts.{contribution_list_text, contributed_text, contribution_text, contributions_text, offset_text};
 
-use crate::text::{h4, h8, put_decimal, put_error, put_refusal};
+use crate::text::{put_error, put_refusal};
 use pdb::{
     DBISectionContribution, DBISectionContributionIter, FallibleIterator, PDB,
     PdbInternalSectionOffset, Source,
 };
+use pdb_text::{hex4, hex8, put_decimal};
 use std::alloc::AllocError;
 
 /// `contribution`, a section, `:` and an offset, each word with a space behind it.
 #[inline(always)]
-#[tactic(auto, unfolding(crate::specs::Digits::hex))]
+#[tactic(auto, unfolding(pdb_text::specs::Digits::hex))]
 fn head(offset: PdbInternalSectionOffset) -> [u8; 27]
     ensures { result ≡ codes "contribution " ++ offset_text offset ++ codes " " }
 {
-    let s = h4(offset.section);
-    let o = h8(offset.offset);
+    let s = hex4(offset.section);
+    let o = hex8(offset.offset);
     [
         b'c', b'o', b'n', b't', b'r', b'i', b'b', b'u', b't', b'i', b'o', b'n', b' ', s[0], s[1],
         s[2], s[3], b':', o[0], o[1], o[2], o[3], o[4], o[5], o[6], o[7], b' ',
@@ -29,22 +30,22 @@ fn head(offset: PdbInternalSectionOffset) -> [u8; 27]
 
 /// Eight hex digits between two spaces.
 #[inline(always)]
-#[tactic(auto, unfolding(crate::specs::Digits::hex))]
+#[tactic(auto, unfolding(pdb_text::specs::Digits::hex))]
 fn between_spaces(n: u32) -> [u8; 10]
     ensures { result ≡ codes " " ++ hex 8 n ++ codes " " }
 {
-    let h = h8(n);
+    let h = hex8(n);
     [b' ', h[0], h[1], h[2], h[3], h[4], h[5], h[6], h[7], b' ']
 }
 
 /// Two numbers of eight hex digits, a space before each, and the end of the line.
 #[inline(always)]
-#[tactic(auto, unfolding(crate::specs::Digits::hex))]
+#[tactic(auto, unfolding(pdb_text::specs::Digits::hex))]
 fn tail(m: u32, n: u32) -> [u8; 19]
     ensures { result ≡ codes " " ++ hex 8 m ++ codes " " ++ hex 8 n ++ codes "\n" }
 {
-    let g = h8(m);
-    let h = h8(n);
+    let g = hex8(m);
+    let h = hex8(n);
     [
         b' ', g[0], g[1], g[2], g[3], g[4], g[5], g[6], g[7], b' ', h[0], h[1], h[2], h[3], h[4],
         h[5], h[6], h[7], b'\n',

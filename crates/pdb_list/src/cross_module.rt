@@ -5,11 +5,12 @@ ghost use Rattle.pdb.specs.ModuleViews.{exports_left};
 ghost use Rattle.pdb.specs.CrossModule.{Reference};
 ghost use Rattle.pdb_list.specs.ModuleTexts.{export_kind_text, export_list_text, export_text, exports_of_text, import_of_text, reference_text};
 
-use crate::text::{h8, h8_field, put_decimal, put_error, put_line_end, put_refusal};
+use crate::text::{put_error, put_refusal};
 use pdb::{
     CrossModuleExport, CrossModuleExportIter, CrossModuleRef, FallibleIterator, IdIndex, Local,
     ModuleInfo, ModuleRef,
 };
+use pdb_text::{hex8, hex8_field, put_decimal, put_line_end};
 use std::alloc::{AllocError, Global};
 
 /// `id` or `type`, and a space.
@@ -26,8 +27,8 @@ fn put_export(out: &mut Vec<u8>, export: CrossModuleExport) -> Result<(), AllocE
 {
     out.extend_from_slice(b"export ")?;
     out.extend_from_slice(kind_of(export))?;
-    out.extend_from_slice(&h8(export.local_number()))?;
-    out.extend_from_slice(&h8_field(export.global_number()))?;
+    out.extend_from_slice(&hex8(export.local_number()))?;
+    out.extend_from_slice(&hex8_field(export.global_number()))?;
     put_line_end(out)
 }
 
@@ -67,7 +68,7 @@ fn put_reference(out: &mut Vec<u8>, reference: CrossModuleRef<IdIndex>) -> Resul
     let CrossModuleRef(ModuleRef(name), Local(IdIndex(local))) = reference;
     out.extend_from_slice(b"import ")?;
     put_decimal(out, u64::from(name.0))?;
-    out.extend_from_slice(&h8_field(local))?;
+    out.extend_from_slice(&hex8_field(local))?;
     put_line_end(out)
 }
 

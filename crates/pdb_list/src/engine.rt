@@ -12,7 +12,7 @@ ghost use Rattle.pdb_list.specs.CommandTexts.{command_text, of_module_text, run_
 ghost use Rattle.pdb_list.specs.ModuleTexts.{module_text, text_of_module};
 ghost use Rattle.pdb_list.specs.Texts.{error_text};
 
-use crate::chosen::{ModuleList, chosen_module};
+use crate::chosen::ModuleList;
 use crate::command::{Command, names_module};
 use crate::contributions::put_contributions;
 use crate::cross_module::{put_exports, put_import};
@@ -137,7 +137,7 @@ fn put_of_chosen<'s, S: Source<'s>>(
     ensures continues { Continues pdb.old pdb.new }
     ensures text { pdb.old.steady ≡ true → OnOk result (out.new.items ≡ out.old.items ++ module_text pdb.old.file k (of_module_text command)) }
 {
-    let found = chosen_module(alloc, pdb, k);
+    let found = pdb.module_at(k as usize);
     put_found(alloc, out, found, command)
 }
 

@@ -5,8 +5,9 @@ ghost use Rattle.pdb.specs.ModuleViews.{files_left};
 ghost use Rattle.pdb.specs.FileViews.{shown_checksum, shown_file};
 ghost use Rattle.pdb_list.specs.ModuleTexts.{checksum_text, digest_text, file_list_text, file_text, files_of_text};
 
-use crate::text::{put_bytes, put_decimal, put_error, put_line_end, put_refusal};
+use crate::text::{put_error, put_refusal};
 use pdb::{FallibleIterator, FileChecksum, FileInfo, FileIterator, ModuleInfo};
+use pdb_text::{put_decimal, put_hex_bytes, put_line_end};
 use std::alloc::{AllocError, Global};
 
 /// The bytes of a digest in hex digits, behind a space where there are any.
@@ -17,7 +18,7 @@ fn put_digest(out: &mut Vec<u8>, digest: &[u8]) -> Result<(), AllocError>
         return Ok(());
     }
     out.push(b' ')?;
-    put_bytes(out, digest)
+    put_hex_bytes(out, digest)
 }
 
 /// A digest's kind and bytes.

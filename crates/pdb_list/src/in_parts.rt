@@ -5,6 +5,7 @@ ghost use Rattle.std.specs.Option.{ForSome};
 ghost use Rattle.std.specs.Io.KnownBytes.{Appends};
 ghost use Rattle.pdb.specs.Error.{Error};
 ghost use Rattle.pdb.specs.Container.{opens};
+ghost use Rattle.pdb.specs.Refusal.{number_of};
 ghost use Rattle.pdb_file.specs.HeldBytes.{IsOf};
 ghost use Rattle.pdb_list.specs.Written.{WroteFirst, WroteFront};
 ghost use Rattle.pdb_list.specs.CommandTexts.{command_text, texts};
@@ -62,6 +63,9 @@ pub fn run_in_parts<R: ReadAt, F: Meant, W: Write>(
     // The texts of some first commands were written, whole.
     ensures stopped { IsOf (F.file file.now) held.new → IsErrAnd result (λ e. (e ≡ Fault.Read) ⊎ (e ≡ Fault.Memory))
         → WroteFirst (command_text (F.file file.now)) (W.contents out.old) (W.contents out.new) commands.now }
+    // The file can't be opened, and the refusal is the container's.
+    ensures refused { IsOf (F.file file.now) held.new → (n : ℕ) → IsErrOf result (Fault.Open n)
+        → IsErrAnd (opens (F.file file.now)) (λ e. n ≡ number_of e) }
     // A beginning of the texts was written.
     ensures write { IsOf (F.file file.now) held.new → IsErrOf result Fault.Write
         → WroteFront (W.contents out.old) (W.contents out.new) (texts (F.file file.now) commands.now) }
@@ -83,6 +87,7 @@ pub fn run_in_parts<R: ReadAt, F: Meant, W: Write>(
 }
 
 /// Lists what the commands ask for of a file of this size: asks for the streams that they read, and then runs.
+#[tactic(auto, using(crate::proofs::Written::first_none))]
 pub fn list_in_parts<R: ReadAt, W: Write>(
     alloc: Global,
     input: &R,
@@ -93,6 +98,10 @@ pub fn list_in_parts<R: ReadAt, W: Write>(
 ) -> Result<(), Fault>
     ensures ok { ForSome (R.known input.now) (λ G. length G ≡ size → OnOk result ((opens G ≡ Ok tt)
         × Appends (W.contents out.old) (W.contents out.new) (texts G commands.now))) }
+    ensures stopped { ForSome (R.known input.now) (λ G. length G ≡ size → IsErrAnd result (λ e. (e ≡ Fault.Read) ⊎ (e ≡ Fault.Memory))
+        → WroteFirst (command_text G) (W.contents out.old) (W.contents out.new) commands.now) }
+    ensures refused { ForSome (R.known input.now) (λ G. length G ≡ size → (n : ℕ) → IsErrOf result (Fault.Open n)
+        → IsErrAnd (opens G) (λ e. n ≡ number_of e)) }
     ensures write { ForSome (R.known input.now) (λ G. length G ≡ size → IsErrOf result Fault.Write
         → WroteFront (W.contents out.old) (W.contents out.new) (texts G commands.now)) }
 {

@@ -5,8 +5,9 @@ ghost use Rattle.pdb.specs.Source.{Continues};
 ghost use Rattle.pdb.specs.DbiViews.{information};
 ghost use Rattle.pdb_list.specs.Texts.{debug_information_text, header_text, info_text, information_text, version_text};
 
-use crate::text::{put_bytes, put_decimal, put_line_end, put_optional, put_refusal};
+use crate::text::{put_optional, put_refusal};
 use pdb::{DBIHeader, DebugInformation, HeaderVersion, MachineType, PDB, PDBInformation, Source};
+use pdb_text::{put_decimal, put_hex_bytes, put_line_end};
 use std::alloc::{AllocError, Global};
 
 /// `V41`, and so on; or the number of another version.
@@ -35,7 +36,7 @@ fn put_information(out: &mut Vec<u8>, stream: &PDBInformation<'_>) -> Result<(),
     out.push(b' ')?;
     put_decimal(out, u64::from(stream.age))?;
     out.push(b' ')?;
-    put_bytes(out, &stream.guid)?;
+    put_hex_bytes(out, &stream.guid)?;
     put_line_end(out)
 }
 

@@ -6,26 +6,27 @@ ghost use Rattle.pdb.specs.Forms.{record_at};
 ghost use Rattle.pdb.specs.InlinedViews.{inlined_left};
 ghost use Rattle.pdb.specs.ModuleViews.{inlinees_left};
 ghost use Rattle.pdb.specs.Views.{symbol_of, symbols_left};
-ghost use Rattle.pdb_list.specs.Digits.{hex};
+ghost use Rattle.pdb_text.specs.Digits.{hex};
 ghost use Rattle.pdb_list.specs.Shown.{shown_here};
 ghost use Rattle.pdb_list.specs.ModuleTexts.{here, inlinee_list_text, inlinee_text, inlinee_with, inlinees_of_text, line_list_text, site_lines, site_text, sites_of_text, sites_text};
 
 use crate::known::Known;
 use crate::lines::put_line;
-use crate::text::{h8, put_error, put_refusal};
+use crate::text::{put_error, put_refusal};
 use pdb::{
     Error, FallibleIterator, InlineSiteSymbol, Inlinee, InlineeIterator, InlineeLineIterator,
     ModuleInfo, PdbInternalSectionOffset, Symbol, SymbolData, SymbolIndex, SymbolIter,
 };
+use pdb_text::hex8;
 use std::alloc::{AllocError, Global};
 
 /// `inlinee`, an id, and the end of the line.
 #[inline(always)]
-#[tactic(auto, unfolding(crate::specs::Digits::hex))]
+#[tactic(auto, unfolding(pdb_text::specs::Digits::hex))]
 fn inlinee_line(id: u32) -> [u8; 17]
     ensures { result ≡ codes "inlinee " ++ hex 8 id ++ codes "\n" }
 {
-    let d = h8(id);
+    let d = hex8(id);
     [
         b'i', b'n', b'l', b'i', b'n', b'e', b'e', b' ', d[0], d[1], d[2], d[3], d[4], d[5], d[6],
         d[7], b'\n',
@@ -104,12 +105,12 @@ fn put_site_lines(
 
 /// `site`, an index and an id, and the end of the line.
 #[inline(always)]
-#[tactic(auto, unfolding(crate::specs::Digits::hex))]
+#[tactic(auto, unfolding(pdb_text::specs::Digits::hex))]
 fn site_line(index: u32, id: u32) -> [u8; 23]
     ensures { result ≡ codes "site " ++ hex 8 index ++ codes " " ++ hex 8 id ++ codes "\n" }
 {
-    let i = h8(index);
-    let d = h8(id);
+    let i = hex8(index);
+    let d = hex8(id);
     [
         b's', b'i', b't', b'e', b' ', i[0], i[1], i[2], i[3], i[4], i[5], i[6], i[7], b' ', d[0],
         d[1], d[2], d[3], d[4], d[5], d[6], d[7], b'\n',

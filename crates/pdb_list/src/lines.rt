@@ -2,24 +2,25 @@
 
 ghost use Rattle.std.specs.Prelude.{◌≡◌, ◌++◌, OnOk, codes};
 ghost use Rattle.pdb.specs.LineViews.{lines_left};
-ghost use Rattle.pdb_list.specs.Digits.{hex};
+ghost use Rattle.pdb_text.specs.Digits.{hex};
 ghost use Rattle.pdb_list.specs.Texts.{offset_text};
 ghost use Rattle.pdb_list.specs.ModuleTexts.{columns_text, line_kind_text, line_list_text, line_text, lines_of_text, numbers_text};
 
-use crate::text::{h4, h8, put_error, put_field, put_optional_field, put_refusal};
+use crate::text::{put_error, put_optional_field, put_refusal};
 use pdb::{
     FallibleIterator, LineInfo, LineInfoKind, LineIterator, ModuleInfo, PdbInternalSectionOffset,
 };
+use pdb_text::{hex4, hex8, put_field};
 use std::alloc::{AllocError, Global};
 
 /// `line`, a section, `:` and an offset.
 #[inline(always)]
-#[tactic(auto, unfolding(crate::specs::Digits::hex))]
+#[tactic(auto, unfolding(pdb_text::specs::Digits::hex))]
 fn head(offset: PdbInternalSectionOffset) -> [u8; 18]
     ensures { result ≡ codes "line " ++ offset_text offset }
 {
-    let s = h4(offset.section);
-    let o = h8(offset.offset);
+    let s = hex4(offset.section);
+    let o = hex8(offset.offset);
     [
         b'l', b'i', b'n', b'e', b' ', s[0], s[1], s[2], s[3], b':', o[0], o[1], o[2], o[3], o[4],
         o[5], o[6], o[7],

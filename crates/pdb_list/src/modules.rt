@@ -5,8 +5,9 @@ ghost use Rattle.pdb.specs.Source.{Continues};
 ghost use Rattle.pdb.specs.DbiViews.{modules_left, modules_steps};
 ghost use Rattle.pdb_list.specs.Texts.{module_line, module_list_text, modules_text, object_line, parts_text};
 
-use crate::text::{put_decimal, put_error, put_field, put_line_end, put_refusal, put_stream};
+use crate::text::{put_error, put_refusal, put_stream};
 use pdb::{FallibleIterator, Module, ModuleIter, PDB, Source};
+use pdb_text::{put_decimal, put_field, put_line_end};
 use std::alloc::AllocError;
 
 /// The number of the module's stream, and the sizes of its three parts.

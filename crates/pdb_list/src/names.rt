@@ -5,8 +5,9 @@ ghost use Rattle.pdb.specs.Source.{Continues};
 ghost use Rattle.pdb.specs.DbiViews.{stream_name};
 ghost use Rattle.pdb_list.specs.Texts.{names_text, stream_name_text};
 
-use crate::text::{put_line_end, put_refusal, put_stream};
+use crate::text::{put_refusal, put_stream};
 use pdb::{PDB, PDBInformation, Source, StreamName, StreamNames};
+use pdb_text::put_line_end;
 use std::alloc::{AllocError, Global};
 
 /// The line of a name.

@@ -4,8 +4,9 @@ ghost use Rattle.std.specs.Prelude.{◌≡◌, ◌++◌, true, OnOk, codes, flat
 ghost use Rattle.pdb.specs.Source.{Continues};
 ghost use Rattle.pdb_list.specs.Texts.{section_text, sections_text};
 
-use crate::text::{h8, h8_field, put_line_end, put_none, put_refusal};
+use crate::text::{put_none, put_refusal};
 use pdb::{ImageSectionHeader, PDB, Source};
+use pdb_text::{hex8, hex8_field, put_line_end};
 use std::alloc::AllocError;
 
 /// The line of a section header: its size and place in memory, its size and place in the image's file, its
@@ -15,11 +16,11 @@ fn put_section(out: &mut Vec<u8>, header: &ImageSectionHeader) -> Result<(), All
     ensures { OnOk result (out.new.items ≡ out.old.items ++ section_text header.now) }
 {
     out.extend_from_slice(b"section ")?;
-    out.extend_from_slice(&h8(header.virtual_size))?;
-    out.extend_from_slice(&h8_field(header.virtual_address))?;
-    out.extend_from_slice(&h8_field(header.size_of_raw_data))?;
-    out.extend_from_slice(&h8_field(header.pointer_to_raw_data))?;
-    out.extend_from_slice(&h8_field(header.characteristics.0))?;
+    out.extend_from_slice(&hex8(header.virtual_size))?;
+    out.extend_from_slice(&hex8_field(header.virtual_address))?;
+    out.extend_from_slice(&hex8_field(header.size_of_raw_data))?;
+    out.extend_from_slice(&hex8_field(header.pointer_to_raw_data))?;
+    out.extend_from_slice(&hex8_field(header.characteristics.0))?;
     out.push(b' ')?;
     out.extend_from_slice(header.name())?;
     put_line_end(out)

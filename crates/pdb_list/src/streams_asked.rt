@@ -18,7 +18,7 @@ const DBI_FRONT: u32 = 1024;
 
 /// What is still to be asked for of the streams that commands read.
 #[derive(Drop)]
-pub struct StreamsAsked {
+pub(crate) struct StreamsAsked {
     information: bool,
     debug_information: bool,
     sections: bool,
@@ -29,7 +29,7 @@ pub struct StreamsAsked {
 
 impl StreamsAsked {
     /// All that the commands read.
-    pub fn of(alloc: Global, commands: &[Command]) -> Result<Self, AllocError> {
+    pub(crate) fn of(alloc: Global, commands: &[Command]) -> Result<Self, AllocError> {
         let mut asked = StreamsAsked {
             information: false,
             debug_information: false,

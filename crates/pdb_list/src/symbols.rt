@@ -7,14 +7,15 @@ ghost use Rattle.pdb.specs.Data.{shown, name_of};
 ghost use Rattle.pdb.specs.Forms.{record_at};
 ghost use Rattle.pdb.specs.Views.{symbol_of, symbols_left};
 ghost use Rattle.pdb.specs.Text.{name_bytes};
-ghost use Rattle.pdb_list.specs.Digits.{hex};
+ghost use Rattle.pdb_text.specs.Digits.{hex};
 ghost use Rattle.pdb_list.specs.Texts.{globals_text, form_text, space_text, bytes_of, refused_text, record_text, symbol_text, symbols_text};
 ghost use Rattle.pdb_list.specs.ModuleTexts.{symbols_of_text};
 
-use crate::text::{h4, h8, put_error, put_line_end, put_refusal, put_refused_line};
+use crate::text::{put_error, put_refusal, put_refused_line};
 use pdb::{
     Error, FallibleIterator, ModuleInfo, PDB, RawString, Source, Symbol, SymbolData, SymbolIter,
 };
+use pdb_text::{hex4, hex8, put_line_end};
 use std::alloc::{AllocError, Global};
 
 /// A form's name with a space behind it, a symbol's name, and the end of the line.
@@ -98,12 +99,12 @@ fn put_record(alloc: Global, out: &mut Vec<u8>, symbol: &Symbol<'_>) -> Result<(
 
 /// `symbol`, an index and a kind, each with a space behind it.
 #[inline(always)]
-#[tactic(auto, unfolding(crate::specs::Digits::hex))]
+#[tactic(auto, unfolding(pdb_text::specs::Digits::hex))]
 fn head(index: u32, kind: u16) -> [u8; 21]
     ensures { result ≡ codes "symbol " ++ hex 8 index ++ codes " " ++ hex 4 kind ++ codes " " }
 {
-    let i = h8(index);
-    let k = h4(kind);
+    let i = hex8(index);
+    let k = hex4(kind);
     [
         b's', b'y', b'm', b'b', b'o', b'l', b' ', i[0], i[1], i[2], i[3], i[4], i[5], i[6], i[7],
         b' ', k[0], k[1], k[2], k[3], b' ',

@@ -24,3 +24,4 @@ pub mod Among
 pub mod InlinedSteps
 pub mod InlinedSums
 pub mod LookupLaws
+pub mod CoverLemmas

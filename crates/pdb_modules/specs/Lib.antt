@@ -9,6 +9,7 @@ pub mod ProgramParts
 pub mod PartViews
 pub mod LineProgram
 pub mod LineViews
+pub mod LineCover
 pub mod Inlined
 pub mod InlinedViews
 pub mod InlinedSums

@@ -12,6 +12,7 @@ pub mod laws;
 mod line;
 mod line_info;
 mod line_program;
+mod line_records;
 mod line_subsection;
 mod lines;
 mod module_info;
@@ -31,6 +32,7 @@ pub use inlined_lines::InlineeLineIterator;
 pub use inlinees::{Inlinee, InlineeIterator};
 pub use line_info::{LineInfo, LineInfoKind};
 pub use line_program::LineProgram;
+pub use line_records::LineRecords;
 pub use lines::LineIterator;
 pub use module_info::ModuleInfo;
 

@@ -1,5 +1,8 @@
 //! Line records.
 
+ghost use Rattle.std.specs.Prelude.{◌≡◌};
+ghost use Rattle.pdb_modules.specs.LineCover.{bytes_cover};
+
 use pdb_base::{FileIndex, PdbInternalSectionOffset};
 
 /// What a line record's code is: bit 31 of `cvinfo.h`'s `CV_Line_t`.
@@ -42,4 +45,31 @@ pub struct LineInfo {
     pub column_end: Option<u32>,
     /// What the code is.
     pub kind: LineInfoKind,
+}
+
+/// Whether so many bytes from a place on have the one at another.
+fn bytes_cover(place: PdbInternalSectionOffset, from: PdbInternalSectionOffset, length: u32) -> bool
+    ensures { result ≡ bytes_cover place from length }
+{
+    from.section == place.section
+        && from.offset <= place.offset
+        && u64::from(place.offset) < u64::from(from.offset) + u64::from(length)
+}
+
+impl LineInfo {
+    ghost use Rattle.std.specs.Prelude.{Decides};
+    ghost use Rattle.pdb_modules.specs.LineCover.{Covers, line_covers};
+
+    /// Whether a place is one of the record's bytes: it lies in the record's section, at or behind its offset, and
+    /// before the end of its bytes. A record of which it isn't known how many it has covers no place.
+    #[tactic(auto, using(crate::proofs::CoverLemmas::covers_decides))]
+    pub fn covers(&self, place: PdbInternalSectionOffset) -> bool
+        ensures says { Decides result (Covers place self.now) }
+        ensures computed { result ≡ line_covers place self.now }
+    {
+        match self.length {
+            Some(length) => bytes_cover(place, self.offset, length),
+            None => false,
+        }
+    }
 }

@@ -2,7 +2,6 @@
 
 ghost use Rattle.std.specs.Prelude.{◌≡◌, ◌≢◌, ◌≤◌, ℕ, List, [], length, Some, Ok, IfOk, IfErr};
 ghost use Rattle.pdb_base.specs.Refusal.{Answers, Gives};
-ghost use Rattle.pdb_base.specs.Fields.{bytes_at};
 ghost use Rattle.pdb_symbols.specs.Views.{symbols_left, symbols_bytes, symbols_steps};
 ghost use Rattle.pdb_modules.specs.ModuleStream.{checked_part, symbols_part_of, symbols_of, symbols_at_of, lines_data_of, line_program_of, line_subsections_of, part_of_kind, inlinees_of, inlinees_part_of, imports_of, exports_of};
 ghost use Rattle.pdb_modules.specs.ModuleViews.{inlinees_left, inlinees_part, inlinees_steps};
@@ -13,6 +12,7 @@ use crate::imports::CrossModuleImports;
 use crate::inlinees::InlineeIterator;
 use crate::line_program::LineProgram;
 use crate::subsections::{EXPORTS, IMPORTS, INLINEE_LINES, first_of_kind};
+use pdb_base::part::part_of;
 use pdb_base::{Error, Feature, ParseBuffer, Result, Stream, SymbolIndex};
 use pdb_dbi::Module;
 use pdb_symbols::SymbolIter;
@@ -38,23 +38,6 @@ impl<'s> Model for ModuleInfo<'s> {
     ghost Value = { ModuleBytes };
 
     ghost view = { λ m. record { bytes = m.stream; symbols_size = m.symbols_size; lines_size = m.lines_size; c13_lines_size = m.c13_lines_size } };
-}
-
-/// The bytes of a part.
-#[tactic(auto, unfolding(pdb_base::specs::Fields::bytes_at))]
-fn bytes_at(bytes: &[u8], place: u32, size: u32) -> Result<&[u8]>
-    ensures bytes { Answers (λ s. s.now) result (bytes_at bytes.entry.now place size) }
-    ensures refused { IfErr result (λ e. e ≡ Error.UnexpectedEof) }
-    ensures inside { IfOk result (λ s. length s.now ≤ length bytes.entry.now) }
-{
-    let start = place as usize;
-    let size = size as usize;
-    if bytes.len() < start + size {
-        return Err(Error::UnexpectedEof);
-    }
-    let (_, rest) = bytes.split_at(start);
-    let (part, _) = rest.split_at(size);
-    Ok(part)
 }
 
 /// A symbols part, which begins with its number where it isn't empty.
@@ -91,7 +74,7 @@ impl<'s> ModuleInfo<'s> {
         ensures part { Answers (λ s. s.now) result (symbols_part_of self.now) }
         ensures small { IfOk result (λ s. length s.now ≤ 4294967295) }
     {
-        checked_part(bytes_at(self.stream.as_slice(), 0, self.symbols_size)?)
+        checked_part(part_of(self.stream.as_slice(), 0, self.symbols_size as usize)?)
     }
 
     /// The module's symbols, behind the number 4 with which their part begins; an empty part has no number. Where the
@@ -124,10 +107,10 @@ impl<'s> ModuleInfo<'s> {
         ensures bytes { Answers (λ s. s.now) result (lines_data_of self.now) }
         ensures refused { IfErr result (λ e. e ≡ Error.UnexpectedEof) }
     {
-        bytes_at(
+        part_of(
             self.stream.as_slice(),
-            self.symbols_size,
-            self.c13_lines_size,
+            self.symbols_size as usize,
+            self.c13_lines_size as usize,
         )
     }
 

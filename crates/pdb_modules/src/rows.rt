@@ -8,7 +8,7 @@ ghost use Rattle.pdb_modules.specs.LineProgram.{part_bytes};
 ghost use Rattle.pdb_modules.specs.KeptRows.{upto, whole, own, noted, noted_from, stepped, stepped_from, after, subsection_of};
 ghost use Rattle.pdb_modules.specs.Lines.{distance, lesser, is_marker, mark_at, entry_mark, marks, records, Mark};
 
-use crate::blocks::{Block, entry, read_block};
+use crate::blocks::{Block, entry, entry_width, read_block};
 use crate::line::{Columns, Line};
 use crate::line_info::{LineInfo, LineInfoKind};
 use crate::line_subsection::LineSubsection;
@@ -177,12 +177,7 @@ pub(crate) fn most_rows(parts: &[LineSubsection<'_>]) -> usize
 {
     let mut most = 0;
     for part in parts {
-        let fit = if part.has_columns {
-            part.bytes.len() / 12
-        } else {
-            part.bytes.len() / 8
-        };
-        most += fit;
+        most += part.bytes.len() / entry_width(part.has_columns);
     }
     most
 }

@@ -154,6 +154,8 @@ fn pages_are_above_zero_and_below_pages_used(rt: HostRuntime) -> Result<()> {
         put(&mut bytes, 1024 + 24, page);
         let mut msf = open(rt.alloc(), &bytes)?;
         is(&rt, "in a stream", &msf.get(0, None).err(), &wanted);
+        let needed = msf.get(0, Some(257)).err();
+        is(&rt, "in a front that needs the page", &needed, &wanted);
         is(
             &rt,
             "msf.get(0, Some(256))?.as_slice().len()",

@@ -1,6 +1,6 @@
 //! Line records of inline sites.
 
-use crate::tests::lists::gives;
+use crate::tests::lists::{gives, gives_lines};
 use crate::tests::streams::info;
 use crate::{LineInfo, LineInfoKind};
 use pdb_base::{
@@ -63,8 +63,9 @@ fn site_lines(
         invocations: None,
         annotations: BinaryAnnotations::new(annotations),
     };
-    let lines = inlinee.lines(PdbInternalSectionOffset::new(1, from.0), &site);
-    gives(rt, label, lines, wanted, fault);
+    let parent = PdbInternalSectionOffset::new(1, from.0);
+    gives(rt, label, inlinee.lines(parent, &site), wanted, fault);
+    gives_lines(rt, label, inlinee.lines(parent, &site), wanted, fault);
     Ok(())
 }
 

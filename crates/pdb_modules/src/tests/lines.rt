@@ -1,7 +1,7 @@
 //! Line records: their lengths and order, and those of a symbol.
 
 use crate::tests::lists::*;
-use pdb_base::Result;
+use pdb_base::{PdbInternalSectionOffset, Result};
 
 const ENTRIES_OF_ONE_BLOCK: &[u8] = b"\
     \xf4\x00\x00\x00\x18\x00\x00\x00\xa9\x31\x00\x00\x10\x01\x73\x79\x02\xc6\x2d\x74\
@@ -349,4 +349,22 @@ fn a_symbol_in_a_later_section_or_at_two_subsections(rt: HostRuntime) -> Result<
     )?;
     lines_at(&rt, alloc, "no subsections", b"", (1, 0x100), &[], None)?;
     Ok(())
+}
+
+#[test]
+fn a_record_covers_its_bytes_alone(rt: HostRuntime) {
+    for (length, section, offset, covers) in [
+        (Some(3), 2, 15, false),
+        (Some(3), 2, 16, true),
+        (Some(3), 2, 18, true),
+        (Some(3), 2, 19, false),
+        (Some(3), 1, 16, false),
+        (Some(0), 2, 16, false),
+        (Some(0xffff_ffff), 2, 0xffff_ffff, true),
+        (None, 2, 16, false),
+    ] {
+        let record = line_in(2, 16, length, 7, 7);
+        let place = PdbInternalSectionOffset { offset, section };
+        is(&rt, "covers", &record.covers(place), &covers);
+    }
 }

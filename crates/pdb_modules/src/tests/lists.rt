@@ -62,6 +62,24 @@ pub fn line(offset: u32, length: Option<u32>, line_start: u32, line_end: u32) ->
     line_in(1, offset, length, line_start, line_end)
 }
 
+/// A list of line records, whichever it is, gives these, then this fault, if any, and then nothing.
+pub fn gives_lines<L: LineRecords>(
+    rt: &impl Abort,
+    label: &str,
+    mut lines: L,
+    wanted: &[LineInfo],
+    fault: Option<Error>,
+) {
+    for wanted in wanted {
+        match lines.next_line() {
+            Ok(Some(given)) => is(rt, label, &given, wanted),
+            _ => panic!(rt; "{label}: too few records"),
+        }
+    }
+    is(rt, label, &lines.next_line().err(), &fault);
+    assert!(rt; matches!(lines.next_line(), Ok(None)), "{label}: the end");
+}
+
 /// All records of lines data.
 pub fn lines_are(
     rt: &impl Abort,
@@ -74,6 +92,7 @@ pub fn lines_are(
     let info = lines_info(rt, lines_data)?;
     let program = info.line_program(alloc)?;
     gives(rt, label, program.lines(), wanted, fault);
+    gives_lines(rt, label, program.lines(), wanted, fault);
     Ok(())
 }
 

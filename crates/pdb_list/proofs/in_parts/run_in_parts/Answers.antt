@@ -1,7 +1,7 @@
 use Rattle.std.proofs.Common.{◌≡◌, ◌+◌, ap, Err, arith}
 use Rattle.pdb_list.specs.declared.engine.RunError.TheVariants.{OutOfMemory, Write}
 use Rattle.pdb_list.specs.CommandTexts.{command_text}
-use Rattle.pdb_list.proofs.Stopped.{only_memory, only_write}
+use Rattle.pdb_list.proofs.Stopped.{only_memory, only_open, only_write}
 use Rattle.pdb_list.proofs.Written.{first_more, first_front}
 use Rattle.pdb_list.proofs.in_parts.run_in_parts.Goals as goal
 
@@ -15,6 +15,11 @@ returns-in-Err-clause-stopped g c = λ is h.
       omega (arith, c.loop.invariant.within, c.in-Err.ensures.most, c.split_at.ensures.back_len),
       first_more (command_text (g.F.Meant.file c.args.file.now)) _ _ _ c.args.commands.now c.loop.done c.run_held.new.written (c.loop.invariant.wrote is) texts,
     )
+
+pub returns-in-Err-clause-refused : goal.returns-in-Err-clause-refused
+returns-in-Err-clause-refused g c = λ is n h.
+    let same = c.in-Err.e-is in
+    only_open _ c.from.result n _ c.from.ensures h (λ x is_open. c.in-Err.ensures.refused is x (ap Err cc))
 
 pub returns-in-Err-clause-write : goal.returns-in-Err-clause-write
 returns-in-Err-clause-write g c = λ is h.

@@ -1,6 +1,0 @@
-use Rattle.std.proofs.Common.{◌∙◌}
-use Rattle.pdb_list.proofs.Pairs.{decimal_word}
-use Rattle.pdb_list.proofs.text.d2.Goals as goal
-
-pub returns : goal.returns
-returns c = c.to_le_bytes.ensures ∙ decimal_word c.args.n c.requires

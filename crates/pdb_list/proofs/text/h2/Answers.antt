@@ -1,6 +1,0 @@
-use Rattle.std.proofs.Common.{◌∙◌}
-use Rattle.pdb_list.proofs.Pairs.{hex_word}
-use Rattle.pdb_list.proofs.text.h2.Goals as goal
-
-pub returns : goal.returns
-returns c = c.to_le_bytes.ensures ∙ hex_word c.args.n c.requires

@@ -1,0 +1,33 @@
+-- What an accessor answered, as if it weren't there where it is refused.
+use Rattle.std.proofs.Common.{◌≡◌, Result, Ok, Err, ◌⊎◌, inl, inr, true, false, Option, Bor, ap, ◌∙◌}
+use Rattle.std.specs.Prelude.{option_copied, IfOk, IfErr}
+use Rattle.pdb.specs.Error.{Error}
+use Rattle.pdb.specs.Error.TheVariants.{IoError, OutOfMemory}
+use Rattle.pdb.specs.Refusal.{Gives, Fails}
+use Rattle.pdb_resolve.specs.AsIfEmpty.{if_read, OnlyFails}
+use Rattle.pdb_resolve.specs.declared.part.Part.{Part}
+use Rattle.pdb_resolve.specs.KeptParts.{IsAskedOf}
+
+fails_told : {Y : Type 0} (io : Type 0) (e : Error) (reading : Result Y Error) → Fails io e reading → Fails (Unit {0}) e reading
+fails_told io IoError reading h = tt
+fails_told io OutOfMemory reading h = tt
+fails_told io e reading h = h
+
+pub told : {X Y : Type 0} (view : X → Y) (io : Type 0) (r : Result X Error) (reading : Result Y Error) → Gives view io r reading → Gives view (Unit {0}) r reading
+told view io (Ok x) reading h = h
+told view io (Err e) reading h = fails_told io e reading h
+
+failed : {X Y : Type 0} (view : X → Y) (io : Type 0) (r : Result X Error) (reading : Result Y Error) → Gives view io r reading → r ≡ Err IoError → io
+failed view io (Ok x) reading h e = absurd cc
+failed view io (Err IoError) reading h e = h
+failed view io (Err d) reading h e = absurd cc
+
+pub only_fails : {X Y : Type 0} (view : X → Y) (io : Type 0) (r : Result X Error) (reading : Result Y Error) (e : Error) → Gives view io r reading → (e ≡ OutOfMemory) ⊎ ((e ≡ IoError) × (r ≡ Err IoError)) → OnlyFails io e
+only_fails view io r reading e h (inl memory) = rw memory tt
+only_fails view io r reading e h (inr same) = rw same.0 (failed view io r reading h same.1)
+
+-- what was kept is what was read
+pub asked_then : {A : Type 0} (part : Part A) (r : Result (Option (Bor A)) Error) (reading : Result A Error)
+    → IfOk r (λ o. option_copied o ≡ if_read reading) → IfOk r (λ o. part.there ≡ o) → IfErr r (λ _. part.asked ≡ false) → IsAskedOf (if_read reading) part
+asked_then part (Ok o) reading is kept again = λ h. ap option_copied kept ∙ is
+asked_then part (Err e) reading is kept again = λ h. absurd cc

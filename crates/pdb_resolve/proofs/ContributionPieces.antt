@@ -1,0 +1,123 @@
+-- Contributions as pieces of code, each with its number: what is found among them, and that they don't overlap.
+use Rattle.std.proofs.Common.{◌≡◌, ℕ, zero, suc, ◌+◌, ◌^◌, ◌<◌, ◌≤◌, ◌⊎◌, inl, inr, Bool, true, false, cond, List, [], ◌∷◌, ◌++◌, length, get_or, map, Option, Some, None, refl, sym, ap, ◌∙◌, append_assoc, length-append, zero-add, arith}
+use Rattle.std.specs.Prelude.{find}
+use Rattle.std.specs.Option.{option_map}
+use Rattle.std.proofs.lemmas.List.{length-map}
+use Rattle.pdb.specs.PdbInternalSectionOffset.{PdbInternalSectionOffset}
+use Rattle.pdb.specs.DBISectionContribution.{DBISectionContribution}
+use Rattle.pdb_resolve.specs.declared.range.CodeRange.{CodeRange}
+use Rattle.pdb_resolve.specs.RangeOrder.{InOrder}
+use Rattle.pdb_resolve.specs.ModuleCode.{Code, code_covers, index_of, SameCode, ApartCode, AreCodesApart}
+use Rattle.pdb_resolve.specs.Kept.{range_parts, code_parts}
+use Rattle.pdb_resolve.specs.ModulePlaces.{contributes, module_of, module_among, SameBytes, NoCommonByte, AreContributionsApart}
+use Rattle.pdb_resolve.specs.ModuleTable.{piece, pieces_from, IsTableOf}
+use Rattle.pdb_resolve.proofs.Pieces.{looks_halved}
+
+-- ---- one more contribution
+
+abbrev Parts : Type 0
+Parts = ℕ × (PdbInternalSectionOffset × ℕ)
+
+one_longer : (rs ss : List CodeRange) (p : Parts) → map range_parts ss ≡ map range_parts rs ++ p ∷ [] → length ss ≡ length rs + 1
+one_longer rs ss p e =
+    sym (length-map ss range_parts) ∙ (ap (λ (l : List Parts). length l) e ∙ (length-append (map range_parts rs) (p ∷ []) ∙ ap (λ (n : ℕ). n + 1) (length-map rs range_parts)))
+
+pub one_more_piece : (c : DBISectionContribution) (n : ℕ) (old new : List DBISectionContribution) (rs ss : List CodeRange) (all : List Parts)
+    → old ≡ c ∷ new → n ≡ length rs → map range_parts ss ≡ map range_parts rs ++ (n, (c.offset, c.size)) ∷ []
+    → map range_parts rs ++ map code_parts (pieces_from (length rs) old) ≡ all
+    → map range_parts ss ++ map code_parts (pieces_from (length ss) new) ≡ all
+one_more_piece c n old new rs ss all follows number added before =
+    let longer = one_longer rs ss (n, (c.offset, c.size)) added in
+    ap (λ (k : ℕ). map range_parts ss ++ map code_parts (pieces_from k new)) longer
+    ∙ (ap (λ (l : List Parts). l ++ map code_parts (pieces_from (length rs + 1) new)) added
+    ∙ (append_assoc (map range_parts rs) ((n, (c.offset, c.size)) ∷ []) (map code_parts (pieces_from (length rs + 1) new))
+    ∙ (ap (λ (k : ℕ). map range_parts rs ++ (k, (c.offset, c.size)) ∷ map code_parts (pieces_from (length rs + 1) new)) number
+    ∙ (ap (λ (l : List DBISectionContribution). map range_parts rs ++ map code_parts (pieces_from (length rs) l)) (sym follows)
+    ∙ before))))
+
+pub one_more_module : (c : DBISectionContribution) (old new : List DBISectionContribution) (ms ns all : List ℕ) → old ≡ c ∷ new → ns ≡ ms ++ module_of c ∷ [] → ms ++ map module_of old ≡ all → ns ++ map module_of new ≡ all
+one_more_module c old new ms ns all follows added before =
+    ap (λ (l : List ℕ). l ++ map module_of new) added
+    ∙ (append_assoc ms (module_of c ∷ []) (map module_of new)
+    ∙ (ap (λ (l : List DBISectionContribution). ms ++ map module_of l) (sym follows) ∙ before))
+
+-- ---- what is found
+
+abbrev pub number_found : PdbInternalSectionOffset → ℕ → List DBISectionContribution → Option ℕ
+number_found q n cs = option_map index_of (find (code_covers q) (pieces_from n cs))
+
+pub none_among : (q : PdbInternalSectionOffset) (n : ℕ) (cs : List DBISectionContribution) → number_found q n cs ≡ None → module_among q cs ≡ None
+none_among q n [] e = refl
+none_among q n (c ∷ cs) e = by_head (contributes q c) e (none_among q (n + 1) cs)
+  where
+    by_head : (b : Bool) → option_map index_of (cond b (Some (piece n c)) (find (code_covers q) (pieces_from (n + 1) cs))) ≡ None → (number_found q (n + 1) cs ≡ None → module_among q cs ≡ None)
+        → option_map module_of (cond b (Some c) (find (contributes q) cs)) ≡ None
+    by_head true f rest = absurd cc
+    by_head false f rest = rest f
+
+-- number k is that of the contribution whose module is found
+pub record IsNumber (q : PdbInternalSectionOffset) (n : ℕ) (cs : List DBISectionContribution) (k : ℕ) : Type 0 where
+  pub place : ℕ
+  pub number : k ≡ n + place
+  pub there : place < length cs
+  pub finds : module_among q cs ≡ Some (get_or (map module_of cs) place 0)
+
+pub some_among : (q : PdbInternalSectionOffset) (n : ℕ) (cs : List DBISectionContribution) (k : ℕ) → number_found q n cs ≡ Some k → IsNumber q n cs k
+some_among q n [] k e = absurd cc
+some_among q n (c ∷ cs) k e = by_head (contributes q c) refl e (some_among q (n + 1) cs k)
+  where
+    by_head : (b : Bool) → contributes q c ≡ b → option_map index_of (cond b (Some (piece n c)) (find (code_covers q) (pieces_from (n + 1) cs))) ≡ Some k
+        → (number_found q (n + 1) cs ≡ Some k → IsNumber q (n + 1) cs k) → IsNumber q n (c ∷ cs) k
+    by_head true is f rest =
+        let same : n ≡ k = cc in
+        record {
+          place = 0;
+          number = omega (arith, same);
+          there = omega arith;
+          finds = ap (λ (b : Bool). option_map module_of (cond b (Some c) (find (contributes q) cs))) is;
+        }
+    by_head false is f rest =
+        let found = rest f in
+        record {
+          place = suc found.place;
+          number = omega (arith, found.number);
+          there = omega (arith, found.there);
+          finds = ap (λ (b : Bool). option_map module_of (cond b (Some c) (find (contributes q) cs))) is ∙ found.finds;
+        }
+
+-- ---- pieces that don't overlap
+
+pub pieces_count : (n : ℕ) (cs : List DBISectionContribution) → length (pieces_from n cs) ≡ length cs
+pieces_count n [] = refl
+pieces_count n (c ∷ cs) = ap suc (pieces_count (n + 1) cs)
+
+a_contribution : Code → DBISectionContribution
+a_contribution d = record { offset = d.place; size = d.length; characteristics = record { 0 = 0 }; «module» = 0; data_crc = 0; reloc_crc = 0 }
+
+piece_at : (n : ℕ) (cs : List DBISectionContribution) (j : ℕ) (d : Code) → j < length cs → get_or (pieces_from n cs) j d ≡ piece (n + j) (get_or cs j (a_contribution d))
+piece_at n [] j d l = absurd (omega (arith, l))
+piece_at n (c ∷ cs) zero d l = let same : n ≡ n + 0 = omega arith in ap (λ (k : ℕ). piece k c) same
+piece_at n (c ∷ cs) (suc j) d l =
+    let same : n + 1 + j ≡ n + suc j = omega arith in
+    piece_at (n + 1) cs j d (omega (arith, l)) ∙ ap (λ (k : ℕ). piece k (get_or cs j (a_contribution d))) same
+
+either_piece : (i j : ℕ) (c d : DBISectionContribution) (x y : Code) → x ≡ piece i c → y ≡ piece j d → SameBytes c d ⊎ NoCommonByte c d → SameCode x y ⊎ ApartCode x y
+either_piece i j c d x y e f (inl same) = rw (e, f) (inl same)
+either_piece i j c d x y e f (inr apart) = rw (e, f) (inr apart)
+
+pub pieces_apart : (cs : List DBISectionContribution) → AreContributionsApart cs → AreCodesApart (pieces_from 0 cs)
+pieces_apart cs apart j d l k f m =
+    let n = pieces_count 0 cs in
+    either_piece j k (get_or cs j (a_contribution d)) (get_or cs k (a_contribution f)) (get_or (pieces_from 0 cs) j d) (get_or (pieces_from 0 cs) k f)
+    (piece_at 0 cs j d (omega (arith, l, n)) ∙ ap (λ (i : ℕ). piece i (get_or cs j (a_contribution d))) (zero-add j))
+    (piece_at 0 cs k f (omega (arith, m, n)) ∙ ap (λ (i : ℕ). piece i (get_or cs k (a_contribution f))) (zero-add k))
+    (apart j (a_contribution d) (omega (arith, l, n)) k (a_contribution f) (omega (arith, m, n)))
+
+-- ---- the looks
+
+pub table_halves : (cs : List DBISectionContribution) (rs : List CodeRange) (ms : List ℕ) (old new : ℕ) → IsTableOf cs rs ms → (InOrder rs → (digits : ℕ) → length rs < 2 ^ digits → new ≤ old + digits) → AreContributionsApart cs → (digits : ℕ) → length cs < 2 ^ digits → new ≤ old + digits
+table_halves cs rs ms old new table looks apart digits l =
+    looks_halved (pieces_from 0 cs) (pieces_from 0 cs) rs old new table.ranges refl looks (pieces_apart cs apart) digits (rw (pieces_count 0 cs) l)
+
+pub table_few : (cs : List DBISectionContribution) (rs : List CodeRange) (ms : List ℕ) → IsTableOf cs rs ms → length rs ≤ length cs
+table_few cs rs ms table = let n = pieces_count 0 cs in omega (arith, table.ranges.few, n)

@@ -1,0 +1,156 @@
+-- The calls of the list that begins at a procedure's symbol are the inlined calls at the place.
+use Rattle.std.proofs.Common.{◌≡◌, ℕ, List, [], ◌∷◌, Option, Some, None, Result, Ok, Err, ◌<◌, ◌++◌, ◌==◌, Bool, cond, filter_map, refl, sym, ap, subst, ◌∙◌, arith}
+use Rattle.std.specs.Prelude.{find, IfOk}
+use Rattle.std.specs.Option.{option_map, option_or}
+use Rattle.std.proofs.lemmas.Bool.{eq-eqb, ne_eqb}
+use Rattle.pdb.specs.Error.{Error}
+use Rattle.pdb.specs.Left.{Left}
+use Rattle.pdb.specs.Refusal.{◌>>=◌}
+use Rattle.pdb.specs.PdbInternalSectionOffset.{PdbInternalSectionOffset}
+use Rattle.pdb.specs.ModuleStream.{ModuleBytes, symbols_at_of, symbols_part_of}
+use Rattle.pdb.specs.SymbolList.{Entry, symbols_from}
+use Rattle.pdb_symbols.proofs.SymbolLaws.{resumes_at}
+use Rattle.pdb.specs.Forms.{record_at}
+use Rattle.pdb_resolve.specs.ModuleCode.{Code, Role, role, other_of_role, symbols_in, inlinees_in, inlinee_with, procedure_of, other_of, code_covers, procedure_at, other_at, function_at, index_of, call_in, calls_in, inlined_at, says_if, says_at}
+use Rattle.pdb_resolve.specs.ModuleCode.Role.{at_procedure, at_other, at_site, passed}
+use Rattle.pdb_resolve.specs.AsIfEmpty.{items_of}
+use Rattle.pdb_resolve.specs.Kept.{calls_from, IsListed, head_says}
+use Rattle.pdb_resolve.proofs.Scopes.{Stands, stands, scope_calls, symbols_rise, Above, Rises, is_procedure}
+
+pub on_ok : {X E : Type 0} (P Q : X → Type 0) → ((x : X) → P x → Q x) → (r : Result X E) → IfOk r P → IfOk r Q
+on_ok P Q h (Ok x) p = h x p
+on_ok P Q h (Err e) p = tt
+
+-- ---- the symbols by their part
+
+symbols_by : (m : ModuleBytes) (part : List ℕ) → symbols_part_of m ≡ Ok part → symbols_in m ≡ (symbols_from part 4).items
+unfolding symbols_in symbols_at_of
+symbols_by m part e = ap (λ (r : Result (List ℕ) Error). items_of (r >>= λ part. Ok (symbols_from part 4))) e
+
+symbols_none : (m : ModuleBytes) (e : Error) → symbols_part_of m ≡ Err e → symbols_in m ≡ []
+unfolding symbols_in symbols_at_of
+symbols_none m e f = ap (λ (r : Result (List ℕ) Error). items_of (r >>= λ part. Ok (symbols_from part 4))) f
+
+at_by : (m : ModuleBytes) (index : ℕ) (part : List ℕ) → symbols_part_of m ≡ Ok part → symbols_at_of index m ≡ Ok (symbols_from part index)
+unfolding symbols_at_of
+at_by m index part e = ap (λ (r : Result (List ℕ) Error). r >>= λ part. Ok (symbols_from part index)) e
+
+at_none : (m : ModuleBytes) (index : ℕ) (e : Error) → symbols_part_of m ≡ Err e → symbols_at_of index m ≡ Err e
+unfolding symbols_at_of
+at_none m index e f = ap (λ (r : Result (List ℕ) Error). r >>= λ part. Ok (symbols_from part index)) f
+
+no_procedure : (q : PdbInternalSectionOffset) (m : ModuleBytes) → symbols_in m ≡ [] → procedure_at q m ≡ None
+no_procedure q m e = ap (λ (ss : List Entry). find (code_covers q) (filter_map procedure_of ss)) e
+
+no_calls : (q : PdbInternalSectionOffset) (m : ModuleBytes) → procedure_at q m ≡ None → inlined_at q m ≡ []
+no_calls q m e = ap (calls_in q (inlinee_with (inlinees_in m)) (symbols_in m)) e
+
+-- ---- where no procedure is found, or no symbols are read
+
+pub without_procedure : (q : PdbInternalSectionOffset) (m : ModuleBytes) → option_map index_of (procedure_at q m) ≡ None → inlined_at q m ≡ []
+without_procedure q m e = no_calls q m (none_of (procedure_at q m) e)
+  where
+    none_of : (o : Option Code) → option_map index_of o ≡ None → o ≡ None
+    none_of None e = refl
+    none_of (Some c) e = absurd cc
+
+without_part : (q : PdbInternalSectionOffset) (m : ModuleBytes) (index : ℕ) (e : Error) (r : Result (List ℕ) Error) → symbols_part_of m ≡ r → symbols_at_of index m ≡ Err e → inlined_at q m ≡ []
+without_part q m index e (Ok part) p h = let f = at_by m index part p in absurd cc
+without_part q m index e (Err f) p h = no_calls q m (no_procedure q m (symbols_none m f p))
+
+pub without_symbols : (q : PdbInternalSectionOffset) (m : ModuleBytes) (index : ℕ) (e : Error) → symbols_at_of index m ≡ Err e → inlined_at q m ≡ []
+without_symbols q m index e h = without_part q m index e (symbols_part_of m) refl h
+
+-- ---- where one is found
+
+module _ (q : PdbInternalSectionOffset) (m : ModuleBytes) (index : ℕ) (left : Left Entry) where
+  with_part : (c : Code) → procedure_at q m ≡ Some c → c.index ≡ index → symbols_at_of index m ≡ Ok left → (r : Result (List ℕ) Error) → symbols_part_of m ≡ r → calls_from q (inlinee_with (inlinees_in m)) left.items ≡ inlined_at q m
+  with_part c found is h (Err e) p = let f = at_none m index e p in absurd cc
+  with_part c found is h (Ok part) p =
+      let listed = inlinee_with (inlinees_in m) in
+      let symbols : symbols_in m ≡ (symbols_from part 4).items = symbols_by m part p in
+      let s : Stands procedure_of (symbols_from part 4).items c = stands procedure_of q (symbols_from part 4).items c (ap (λ (ss : List Entry). find (code_covers q) (filter_map procedure_of ss)) (sym symbols) ∙ found) in
+      let place : s.symbol.index ≡ index = sym (is_procedure s.symbol c s.says).index ∙ is in
+      let from = at_by m index part p in
+      let left_is : left ≡ symbols_from part index = cc in
+      let items : left.items ≡ s.symbol ∷ s.after =
+      ap (λ (l : Left Entry). l.items) (left_is ∙ (ap (symbols_from part) (sym place) ∙ resumes_at part 4 s.before s.after s.symbol s.whole)) in
+      ap (calls_from q listed) items
+      ∙ (sym (scope_calls q listed c (symbols_from part 4).items (symbols_rise part 4) s)
+      ∙ (ap (filter_map (call_in q listed c)) (sym symbols)
+      ∙ sym (ap (calls_in q listed (symbols_in m)) found)))
+
+  by_procedure : (o : Option Code) → procedure_at q m ≡ o → option_map index_of o ≡ Some index → symbols_at_of index m ≡ Ok left → calls_from q (inlinee_with (inlinees_in m)) left.items ≡ inlined_at q m
+  by_procedure None found is h = absurd cc
+  by_procedure (Some c) found is h = let same : c.index ≡ index = cc in with_part c found same h (symbols_part_of m) refl
+
+  pub calls_found : option_map index_of (procedure_at q m) ≡ Some index → symbols_at_of index m ≡ Ok left → calls_from q (inlinee_with (inlinees_in m)) left.items ≡ inlined_at q m
+  calls_found is h = by_procedure (procedure_at q m) refl is h
+
+-- ---- what a symbol says that is found
+
+index_by : (of : Entry → Option Code) (ss : List Entry) (c : Code) → ((s : Entry) (d : Code) → of s ≡ Some d → d.index ≡ s.index) → Stands of ss c → IsListed c.index ss
+index_by of ss c indexed h = record { before = h.before; symbol = h.symbol; after = h.after; whole = h.whole; index = sym (indexed h.symbol c h.says) }
+
+other_by : (s : Entry) (c : Code) (h : Role) → other_of_role s.index h ≡ Some c → c.index ≡ s.index
+other_by s c (at_procedure place size end) f = absurd cc
+other_by s c (at_other place size end) f = let g : record { index = s.index; place = place; length = size; end = end } ≡ c = cc in ap index_of (sym g)
+other_by s c (at_site id annotations) f = absurd cc
+other_by s c passed f = absurd cc
+
+listed_by : (of : Entry → Option Code) (q : PdbInternalSectionOffset) (ss : List Entry) (i : ℕ) → ((s : Entry) (d : Code) → of s ≡ Some d → d.index ≡ s.index) → (o : Option Code) → find (code_covers q) (filter_map of ss) ≡ o → option_map index_of o ≡ Some i → IsListed i ss
+listed_by of q ss i indexed None e f = absurd cc
+listed_by of q ss i indexed (Some c) e f = let same : c.index ≡ i = cc in subst (λ (n : ℕ). IsListed n ss) same (index_by of ss c indexed (stands of q ss c e))
+
+pub procedure_listed : (q : PdbInternalSectionOffset) (m : ModuleBytes) (i : ℕ) → option_map index_of (procedure_at q m) ≡ Some i → IsListed i (symbols_in m)
+procedure_listed q m i e = listed_by procedure_of q (symbols_in m) i (λ s d f. (is_procedure s d f).index) (procedure_at q m) refl e
+
+other_listed : (q : PdbInternalSectionOffset) (m : ModuleBytes) (i : ℕ) → option_map index_of (other_at q m) ≡ Some i → IsListed i (symbols_in m)
+other_listed q m i e = listed_by other_of q (symbols_in m) i (λ s d f. other_by s d (role (record_at s.bytes)) f) (other_at q m) refl e
+
+function_by : (q : PdbInternalSectionOffset) (m : ModuleBytes) (i : ℕ) (o : Option ℕ) → option_map index_of (procedure_at q m) ≡ o → option_or o (option_map index_of (other_at q m)) ≡ Some i → IsListed i (symbols_in m)
+function_by q m i None e f = other_listed q m i f
+function_by q m i (Some j) e f = let same : j ≡ i = cc in procedure_listed q m i (e ∙ ap Some same)
+
+pub function_listed : (q : PdbInternalSectionOffset) (m : ModuleBytes) (i : ℕ) → function_at q m ≡ Some i → IsListed i (symbols_in m)
+function_listed q m i e = function_by q m i (option_map index_of (procedure_at q m)) refl e
+
+-- the symbol of an index is the first of that index, as indices rise
+find_index : (i : ℕ) (before : List Entry) (s : Entry) (after : List Entry) → s.index ≡ i → Rises (before ++ s ∷ after) → find (λ s. s.index == i) (before ++ s ∷ after) ≡ Some s
+find_index i [] s after e r = ap (λ (b : Bool). cond b (Some s) (find (λ s. s.index == i) after)) (eq-eqb s.index i e)
+find_index i (x ∷ before) s after e r =
+    let lower = above_there before r.0 in
+    ap (λ (b : Bool). cond b (Some x) (find (λ s. s.index == i) (before ++ s ∷ after))) (ne_eqb x.index i (λ same. absurd (omega arith)))
+    ∙ find_index i before s after e r.1
+  where
+    above_there : (xs : List Entry) → Above x.index (xs ++ s ∷ after) → x.index < s.index
+    above_there [] h = h.0
+    above_there (y ∷ xs) h = above_there xs h.1
+
+said_by : (m : ModuleBytes) (i : ℕ) (left : Left Entry) (r : Result (List ℕ) Error) → symbols_part_of m ≡ r → symbols_at_of i m ≡ Ok left → IsListed i (symbols_in m) → head_says left.items ≡ says_at m i
+said_by m i left (Err e) p h l = let f = at_none m i e p in absurd cc
+said_by m i left (Ok part) p h l =
+    let symbols : symbols_in m ≡ (symbols_from part 4).items = symbols_by m part p in
+    let whole : (symbols_from part 4).items ≡ l.before ++ l.symbol ∷ l.after = sym symbols ∙ l.whole in
+    let from = at_by m i part p in
+    let left_is : left ≡ symbols_from part i = cc in
+    let items : left.items ≡ l.symbol ∷ l.after =
+    ap (λ (l : Left Entry). l.items) (left_is ∙ (ap (symbols_from part) (sym l.index) ∙ resumes_at part 4 l.before l.after l.symbol whole)) in
+    let rises : Rises (l.before ++ l.symbol ∷ l.after) = subst Rises whole (symbols_rise part 4) in
+    ap head_says items
+    ∙ sym (ap (λ (ss : List Entry). says_if (find (λ s. s.index == i) ss)) l.whole ∙ ap says_if (find_index i l.before l.symbol l.after l.index rises))
+
+pub said_there : (m : ModuleBytes) (i : ℕ) (left : Left Entry) → symbols_at_of i m ≡ Ok left → IsListed i (symbols_in m) → head_says left.items ≡ says_at m i
+said_there m i left h l = said_by m i left (symbols_part_of m) refl h l
+
+-- a listed symbol's list is there
+not_there_by : (m : ModuleBytes) (i : ℕ) (e : Error) (r : Result (List ℕ) Error) → symbols_part_of m ≡ r → symbols_at_of i m ≡ Err e → IsListed i (symbols_in m) → ⊥
+not_there_by m i e (Ok part) p h l = let f = at_by m i part p in absurd cc
+not_there_by m i e (Err f) p h l = not_empty l.before l.symbol l.after (sym (symbols_none m f p) ∙ l.whole)
+  where
+    not_empty : (before : List Entry) (s : Entry) (after : List Entry) → [] ≡ before ++ s ∷ after → ⊥
+    not_empty [] s after g = absurd cc
+    not_empty (x ∷ before) s after g = absurd cc
+
+pub not_there : (m : ModuleBytes) (i : ℕ) (e : Error) → symbols_at_of i m ≡ Err e → IsListed i (symbols_in m) → ⊥
+not_there m i e h l = not_there_by m i e (symbols_part_of m) refl h l

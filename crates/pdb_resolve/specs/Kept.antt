@@ -1,0 +1,72 @@
+-- Words of private functions, and what is kept of a module.
+use Rattle.std.specs.Prelude.{◌≡◌, ◌≤◌, find, length, ℕ, nat_lt, if◌then◌else◌, List, [], ◌∷◌, ◌++◌, Option, None, map}
+use Rattle.std.specs.Option.{option_map, option_to_list}
+use Rattle.pdb.specs.PdbInternalSectionOffset.{PdbInternalSectionOffset}
+use Rattle.pdb.specs.AnnotationViews.{annotation_bytes}
+use Rattle.pdb.specs.Data.{Data}
+use Rattle.pdb.specs.Forms.{record_at}
+use Rattle.pdb.specs.SymbolList.{Entry}
+use Rattle.pdb.specs.Inlinees.{InlineeEntry}
+use Rattle.pdb_resolve.specs.declared.range.CodeRange.{CodeRange}
+use Rattle.pdb_resolve.specs.declared.role.Role.{Role as Read}
+use Rattle.pdb_resolve.specs.declared.role.Role.TheVariants.{Procedure, Other, Site, Passed}
+use Rattle.pdb_resolve.specs.declared.calls.InlinedCall.{InlinedCall}
+use Rattle.pdb_resolve.specs.Covering.{first_covering}
+use Rattle.pdb_resolve.specs.RangeOrder.{InOrder}
+use Rattle.pdb_resolve.specs.ModuleCode.{Code, Role, role, Call, call_of_role, index_of, code_covers, AreCodesApart, says}
+use Rattle.pdb_resolve.specs.ModuleCode.Role.{at_procedure, at_other, at_site, passed}
+
+-- what a symbol is to the code
+abbrev pub shown_role : Read → Role
+shown_role (Procedure s) = at_procedure s.place s.length s.end.0
+shown_role (Other s) = at_other s.place s.length s.end.0
+shown_role (Site s) = at_site s.inlinee.0 (annotation_bytes s.annotations)
+shown_role Passed = passed
+
+abbrev pub shown_call : InlinedCall → Call
+shown_call c = record { id = c.id.0; line = c.line }
+
+-- a range and a piece of code, each as its index, its place and its length
+abbrev pub range_parts : CodeRange → ℕ × (PdbInternalSectionOffset × ℕ)
+range_parts r = (r.payload, (r.place, r.length))
+
+abbrev pub code_parts : Code → ℕ × (PdbInternalSectionOffset × ℕ)
+code_parts c = (c.index, (c.place, c.length))
+
+-- the ranges are those of these pieces of code
+abbrev pub AreRangesOf : List Code → List CodeRange → Type 0
+AreRangesOf cs rs = map range_parts rs ≡ map code_parts cs
+
+module _ (q : PdbInternalSectionOffset) (listed : ℕ → Option InlineeEntry) where
+  -- the calls of symbols up to the first that stands at the end of the scope or behind it
+  abbrev pub calls_until : PdbInternalSectionOffset → ℕ → List Entry → List Call
+  calls_until parent end [] = []
+  calls_until parent end (t ∷ ts) = if nat_lt t.index end then option_to_list (call_of_role q listed parent (role (record_at t.bytes))) ++ calls_until parent end ts else []
+
+  abbrev pub calls_behind : Role → List Entry → List Call
+  calls_behind (at_procedure place length end) ts = calls_until place end ts
+  calls_behind h ts = []
+
+  -- the calls of a list that begins with a procedure
+  abbrev pub calls_from : List Entry → List Call
+  calls_from [] = []
+  calls_from (s ∷ ss) = calls_behind (role (record_at s.bytes)) ss
+
+-- ranges that are kept find what these pieces of code have, and stand in order where those don't overlap
+pub record IsKeptOf (cs : List Code) (rs : List CodeRange) : Type 0 where
+  pub finds : (q : PdbInternalSectionOffset) → first_covering q rs ≡ option_map index_of (find (code_covers q) cs)
+  pub apart : AreCodesApart cs → InOrder rs
+  pub few : length rs ≤ length cs
+
+-- a symbol of the list has the index
+pub record IsListed (i : ℕ) (ss : List Entry) : Type 0 where
+  pub before : List Entry
+  pub symbol : Entry
+  pub after : List Entry
+  pub whole : ss ≡ before ++ symbol ∷ after
+  pub index : symbol.index ≡ i
+
+-- what the first symbol says
+abbrev pub head_says : List Entry → Option Data
+head_says [] = None
+head_says (s ∷ ss) = says s

@@ -1,0 +1,53 @@
+-- What is kept of a file by a resolver.
+use Rattle.std.specs.Prelude.{◌≡◌, ℕ, true, Box, List, Option, Some, None, option_copied, slice_index_or, map}
+use Rattle.std.specs.declared.alloc.Global.{Global}
+use Rattle.pdb.specs.Container.{stream_of}
+use Rattle.pdb.specs.ModuleStream.{ModuleBytes}
+use Rattle.pdb_resolve.specs.declared.frames.FunctionNames.{FunctionNames}
+use Rattle.pdb_resolve.specs.declared.part.Part.{Part}
+use Rattle.pdb_resolve.specs.declared.name_tables.NameTables.{NameTables}
+use Rattle.pdb_resolve.specs.declared.modules.Modules.{Modules}
+use Rattle.pdb_resolve.specs.declared.global_names.GlobalNames.{GlobalNames}
+use Rattle.pdb_resolve.specs.declared.public_names.PublicNames.{PublicNames}
+use Rattle.pdb.specs.Answers.{global_symbols_in}
+use Rattle.pdb_resolve.specs.AsIfEmpty.{if_read}
+use Rattle.pdb_resolve.specs.FileParts.{items_listed, modules_listed, module_numbered}
+
+-- what is kept of a part that was asked for is what was read
+abbrev pub IsAskedOf : {A : Type 0} → Option A → Part A → Type 0
+IsAskedOf reading p = p.asked ≡ true → option_copied p.there ≡ reading
+
+-- the names that were made are those of the file
+abbrev pub IsMadeOf : List ℕ → Option FunctionNames → Type 0
+IsMadeOf file None = Unit {0}
+IsMadeOf file (Some n) = (n.ids ≡ items_listed file 4) × (n.types ≡ items_listed file 2)
+
+pub record AreTablesOf (file : List ℕ) (t : NameTables) : Type 0 where
+  pub ids : IsAskedOf (if_read (stream_of file 4 None)) t.ids
+  pub types : IsAskedOf (if_read (stream_of file 2 None)) t.types
+  pub made : IsMadeOf file t.made
+
+-- the modules whose code is kept, by their numbers
+abbrev pub boxed : Option (Box ModuleBytes Global) → Option ModuleBytes
+boxed None = None
+boxed (Some b) = Some b.value
+
+abbrev pub codes_of : Modules → List (Option ModuleBytes)
+codes_of ms = map boxed ms.codes.items
+
+abbrev pub code_kept : Modules → ℕ → Option ModuleBytes
+code_kept ms k = slice_index_or (codes_of ms) k None
+
+-- the list of modules is that of the file, and so is each module that was read
+pub record AreModulesOf (file : List ℕ) (ms : Modules) : Type 0 where
+  pub listed : ms.listed.items ≡ modules_listed file
+  pub codes : (k : ℕ) (m : ModuleBytes) → code_kept ms k ≡ Some m → module_numbered file k ≡ Some m
+
+-- the publics that are kept are those of the file
+abbrev pub IsPublicsOf : List ℕ → Option PublicNames → Type 0
+IsPublicsOf file None = Unit {0}
+IsPublicsOf file (Some p) = p.stream ≡ if_read (global_symbols_in file)
+
+pub record AreGlobalsOf (file : List ℕ) (g : GlobalNames) : Type 0 where
+  pub globals : IsAskedOf (if_read (global_symbols_in file)) g.globals
+  pub publics : IsPublicsOf file g.publics

@@ -1,0 +1,204 @@
+-- What stands at a place of a module's code: the function, the line, the inlined calls.
+use Rattle.std.specs.Prelude.{◌≡◌, ◌⊎◌, All, ℕ, Bool, true, false, ◌+◌, ◌&&◌, ◌==◌, nat_le, nat_lt, if◌then◌else◌, List, [], Option, Some, None, Result, Ok, Err, find, filter_map}
+use Rattle.std.specs.Option.{option_map, option_or}
+use Rattle.pdb.specs.Error.{Error}
+use Rattle.pdb.specs.Left.{Left, ended}
+use Rattle.pdb.specs.PdbInternalSectionOffset.{PdbInternalSectionOffset}
+use Rattle.pdb.specs.Data.{Data}
+use Rattle.pdb.specs.Data.Data.{Procedure, Thunk, SeparatedCode, InlineSite}
+use Rattle.pdb.specs.Forms.{record_at}
+use Rattle.pdb.specs.SymbolList.{Entry}
+use Rattle.pdb.specs.ModuleStream.{ModuleBytes, symbols_of, line_program_of, inlinees_of}
+use Rattle.pdb.specs.Inlinees.{InlineeEntry}
+use Rattle.pdb.specs.Inlined.{inlined_lines}
+use Rattle.pdb.specs.LineInfo.{LineInfo}
+use Rattle.pdb.specs.LineProgram.{ProgramOf}
+use Rattle.pdb.specs.LineOrder.{lines_for}
+use Rattle.pdb_resolve.specs.AsIfEmpty.{items_of, if_read}
+
+-- ---- parts of a module, each as if empty where it is refused; of one with a fault the items before it
+
+unfoldable pub symbols_in : ModuleBytes → List Entry
+symbols_in m = items_of (symbols_of m)
+
+unfoldable pub inlinees_in : ModuleBytes → List InlineeEntry
+inlinees_in m = items_of (inlinees_of m)
+
+unfoldable pub program_in : ModuleBytes → Option ProgramOf
+program_in m = if_read (line_program_of m)
+
+-- ---- pieces of code
+
+-- so many bytes from a place on cover the place q
+abbrev pub covers_place : PdbInternalSectionOffset → PdbInternalSectionOffset → ℕ → Bool
+covers_place q p n = (p.section == q.section) && (nat_le p.offset q.offset && nat_lt q.offset (p.offset + n))
+
+-- a piece of code: its symbol's index, where it begins, how many bytes it has, and the index of the symbol that ends its scope
+pub record Code : Type 0 where
+  pub index : ℕ
+  pub place : PdbInternalSectionOffset
+  pub length : ℕ
+  pub end : ℕ
+
+-- the role of a record in the code
+pub data Role : Type 0 where
+  at_procedure : (place : PdbInternalSectionOffset) (length end : ℕ) → Role
+  at_other : (place : PdbInternalSectionOffset) (length end : ℕ) → Role
+  at_site : (id : ℕ) (annotations : List ℕ) → Role
+  passed : Role
+
+abbrev pub role : Result Data Error → Role
+role (Ok (Procedure s)) = at_procedure s.offset s.len s.end.0
+role (Ok (Thunk s)) = at_other s.offset s.len s.end.0
+role (Ok (SeparatedCode s)) = at_other s.offset s.len s.end.0
+role (Ok (InlineSite s)) = at_site s.inlinee.0 s.annotations
+role r = passed
+
+abbrev pub procedure_of_role : ℕ → Role → Option Code
+procedure_of_role index (at_procedure place length end) = Some (record { index = index; place = place; length = length; end = end })
+procedure_of_role index h = None
+
+abbrev pub other_of_role : ℕ → Role → Option Code
+other_of_role index (at_other place length end) = Some (record { index = index; place = place; length = length; end = end })
+other_of_role index h = None
+
+-- the code of a symbol that parses as Procedure; as Thunk or SeparatedCode
+abbrev pub procedure_of : Entry → Option Code
+procedure_of s = procedure_of_role s.index (role (record_at s.bytes))
+
+abbrev pub other_of : Entry → Option Code
+other_of s = other_of_role s.index (role (record_at s.bytes))
+
+-- ---- the function at a place
+
+abbrev pub code_covers : PdbInternalSectionOffset → Code → Bool
+code_covers q c = covers_place q c.place c.length
+
+-- the procedures of a module; its thunks and separated code
+abbrev pub procedures_in : ModuleBytes → List Code
+procedures_in m = filter_map procedure_of (symbols_in m)
+
+abbrev pub others_in : ModuleBytes → List Code
+others_in m = filter_map other_of (symbols_in m)
+
+-- the first procedure that covers the place; the first thunk or separated code
+abbrev pub procedure_at : PdbInternalSectionOffset → ModuleBytes → Option Code
+procedure_at q m = find (code_covers q) (procedures_in m)
+
+abbrev pub other_at : PdbInternalSectionOffset → ModuleBytes → Option Code
+other_at q m = find (code_covers q) (others_in m)
+
+abbrev pub index_of : Code → ℕ
+index_of c = c.index
+
+-- the index of the function's symbol
+abbrev pub function_at : PdbInternalSectionOffset → ModuleBytes → Option ℕ
+function_at q m = option_or (option_map index_of (procedure_at q m)) (option_map index_of (other_at q m))
+
+-- ---- pieces that don't overlap
+
+abbrev pub SameCode : Code → Code → Type 0
+SameCode c d = (c.place.section ≡ d.place.section) × (c.place.offset ≡ d.place.offset) × (c.length ≡ d.length)
+
+abbrev pub ApartCode : Code → Code → Type 0
+ApartCode c d = (q : PdbInternalSectionOffset) → code_covers q c ≡ true → code_covers q d ≡ true → ⊥
+
+-- any two have the same bytes, or none in common
+abbrev pub AreCodesApart : List Code → Type 0
+AreCodesApart cs = All (λ c. All (λ d. SameCode c d ⊎ ApartCode c d) cs) cs
+
+-- ---- the line at a place
+
+abbrev pub length_covers : PdbInternalSectionOffset → PdbInternalSectionOffset → Option ℕ → Bool
+length_covers q p None = false
+length_covers q p (Some n) = covers_place q p n
+
+abbrev pub line_covers : PdbInternalSectionOffset → LineInfo → Bool
+line_covers q r = length_covers q r.offset r.length
+
+-- the first record that has a length and covers the place
+abbrev pub first_line : PdbInternalSectionOffset → List LineInfo → Option LineInfo
+first_line q rs = find (line_covers q) rs
+
+abbrev pub line_in : PdbInternalSectionOffset → Option ProgramOf → Option LineInfo
+line_in q None = None
+line_in q (Some p) = first_line q (lines_for q p.subsections).items
+
+abbrev pub line_at : PdbInternalSectionOffset → ModuleBytes → Option LineInfo
+line_at q m = line_in q (program_in m)
+
+-- ---- inlined calls at a place
+
+-- the first inlined function with an id
+abbrev pub inlinee_with : List InlineeEntry → ℕ → Option InlineeEntry
+inlinee_with xs id = find (λ x. x.index == id) xs
+
+-- the records of a site with these annotations in a procedure that begins there; none where its function isn't listed
+abbrev pub lines_from : PdbInternalSectionOffset → List ℕ → Option InlineeEntry → Left LineInfo
+lines_from parent annotations None = ended
+lines_from parent annotations (Some x) = inlined_lines parent (record { 0 = x.file_index }) x.line annotations
+
+-- a call: the id of its function, and the record of its line
+pub record Call : Type 0 where
+  pub id : ℕ
+  pub line : LineInfo
+
+abbrev pub call_of : ℕ → LineInfo → Call
+call_of id line = record { id = id; line = line }
+
+module _ (q : PdbInternalSectionOffset) (listed : ℕ → Option InlineeEntry) where
+  -- the call of a record of a procedure that begins there
+  abbrev pub call_of_role : PdbInternalSectionOffset → Role → Option Call
+  call_of_role parent (at_site id annotations) = option_map (call_of id) (first_line q (lines_from parent annotations (listed id)).items)
+  call_of_role parent h = None
+
+  abbrev pub between : Code → Entry → Bool
+  between c t = nat_lt c.index t.index && nat_lt t.index c.end
+
+  -- the call of a symbol between a procedure's own and the one that ends its scope
+  abbrev pub call_in : Code → Entry → Option Call
+  call_in c t = if between c t then call_of_role c.place (role (record_at t.bytes)) else None
+
+  abbrev pub calls_in : List Entry → Option Code → List Call
+  calls_in symbols None = []
+  calls_in symbols (Some c) = filter_map (call_in c) symbols
+
+-- the inlined calls at a place, in the order of their sites
+abbrev pub inlined_at : PdbInternalSectionOffset → ModuleBytes → List Call
+inlined_at q m = calls_in q (inlinee_with (inlinees_in m)) (symbols_in m) (procedure_at q m)
+
+-- ---- names
+
+-- what a symbol says, where it can be read
+abbrev pub says : Entry → Option Data
+says s = if_read (record_at s.bytes)
+
+abbrev pub says_if : Option Entry → Option Data
+says_if None = None
+says_if (Some s) = says s
+
+-- what the symbol of an index says
+abbrev pub says_at : ModuleBytes → ℕ → Option Data
+says_at m i = says_if (find (λ s. s.index == i) (symbols_in m))
+
+abbrev pub said_at : ModuleBytes → Option ℕ → Option Data
+said_at m None = None
+said_at m (Some i) = says_at m i
+
+-- the name of a procedure
+abbrev pub procedure_name : Option Data → Option (List ℕ)
+procedure_name (Some (Procedure s)) = Some s.name
+procedure_name d = None
+
+abbrev pub procedure_name_at : PdbInternalSectionOffset → ModuleBytes → Option (List ℕ)
+procedure_name_at q m = procedure_name (said_at m (option_map index_of (procedure_at q m)))
+
+-- the name of a function: that of separated code is its parent's
+abbrev pub function_name : ModuleBytes → Option Data → Option (List ℕ)
+function_name m (Some (Procedure s)) = Some s.name
+function_name m (Some (Thunk s)) = Some s.name
+function_name m (Some (SeparatedCode s)) = procedure_name_at s.parent_offset m
+function_name m d = None
+
+abbrev pub name_at : PdbInternalSectionOffset → ModuleBytes → Option (List ℕ)
+name_at q m = function_name m (said_at m (function_at q m))

@@ -1,0 +1,55 @@
+-- Which module the bytes at a place come from: that of the first listed contribution that covers it.
+use Rattle.std.specs.Prelude.{◌≡◌, ◌⊎◌, All, ℕ, ◌+◌, ◌<◌, ◌≤◌, Bool, true, List, [], length, get_or, Option, Some, None, find}
+use Rattle.std.specs.Option.{option_map}
+use Rattle.pdb.specs.PdbInternalSectionOffset.{PdbInternalSectionOffset}
+use Rattle.pdb.specs.DBISectionContribution.{DBISectionContribution}
+use Rattle.pdb.specs.Contributions.{contributions_in}
+use Rattle.pdb_resolve.specs.AsIfEmpty.{items_of}
+use Rattle.pdb_resolve.specs.ModuleCode.{covers_place}
+
+-- the contributions of a DBI stream: none without one or where they are refused, and those before a fault
+unfoldable pub contributions_known : Option (List ℕ) → List DBISectionContribution
+contributions_known None = []
+contributions_known (Some b) = items_of (contributions_in b)
+
+-- ---- by positions
+
+-- the place is one of the contribution's bytes
+pub record HasPlace (q : PdbInternalSectionOffset) (c : DBISectionContribution) : Type 0 where
+  pub section : c.offset.section ≡ q.section
+  pub from : c.offset.offset ≤ q.offset
+  pub before : q.offset < c.offset.offset + c.size
+
+-- number k is the first that has it
+pub record IsFirstContribution (q : PdbInternalSectionOffset) (cs : List DBISectionContribution) (k : ℕ) (c : DBISectionContribution) : Type 0 where
+  pub there : k < length cs
+  pub is : get_or cs k c ≡ c
+  pub has : HasPlace q c
+  pub first : (j : ℕ) → j < k → HasPlace q (get_or cs j c) → ⊥
+
+-- ---- computed
+
+abbrev pub contributes : PdbInternalSectionOffset → DBISectionContribution → Bool
+contributes q c = covers_place q c.offset c.size
+
+abbrev pub module_of : DBISectionContribution → ℕ
+module_of c = c.«module»
+
+abbrev pub module_among : PdbInternalSectionOffset → List DBISectionContribution → Option ℕ
+module_among q cs = option_map module_of (find (contributes q) cs)
+
+-- the number of the module at a place, by a DBI stream
+abbrev pub module_number_at : PdbInternalSectionOffset → Option (List ℕ) → Option ℕ
+module_number_at q b = module_among q (contributions_known b)
+
+-- ---- contributions that don't overlap
+
+abbrev pub SameBytes : DBISectionContribution → DBISectionContribution → Type 0
+SameBytes c d = (c.offset.section ≡ d.offset.section) × (c.offset.offset ≡ d.offset.offset) × (c.size ≡ d.size)
+
+abbrev pub NoCommonByte : DBISectionContribution → DBISectionContribution → Type 0
+NoCommonByte c d = (q : PdbInternalSectionOffset) → contributes q c ≡ true → contributes q d ≡ true → ⊥
+
+-- any two have the same bytes, or none in common
+abbrev pub AreContributionsApart : List DBISectionContribution → Type 0
+AreContributionsApart cs = All (λ c. All (λ d. SameBytes c d ⊎ NoCommonByte c d) cs) cs

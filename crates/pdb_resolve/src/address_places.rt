@@ -1,0 +1,101 @@
+//! The places of addresses.
+
+ghost use Rattle.std.specs.Prelude.{◌≡◌, ◌+◌, ◌≤◌, ◌<◌, ◌^◌, ℕ, length, IsTrue, ◌↔◌};
+ghost use Rattle.std.specs.Option.{option_map};
+ghost use Rattle.pdb_resolve.specs.AddressPlaces.{pairs_of, pairs_of_table, sections_of, Rises, translated, place_for};
+
+use crate::pairs::{rises, translate};
+use crate::sections::place_among;
+use pdb::{AddressMap, OMAPTable, PdbInternalSectionOffset, Steps};
+use std::marker::Model;
+
+/// What is known of the addresses of an image, of which the places are found: the original sections, and the table to
+/// their addresses where the image was rearranged. A contract sees it as the file's address map, where that is known.
+#[derive(Drop)]
+pub struct AddressPlaces<'s> {
+    map: Option<AddressMap<'s>>,
+    // Whether no pair of the table begins before an earlier one.
+    rises: bool,
+}
+
+impl<'s> Model for AddressPlaces<'s> {
+    ghost use Rattle.std.specs.Prelude.{Option, IsTrue, ◌↔◌};
+    ghost use Rattle.pdb.specs.Tables.{Addresses};
+    ghost use Rattle.pdb_resolve.specs.AddressPlaces.{pairs_of, Rises};
+
+    ghost Value = { Option Addresses };
+
+    ghost view = { λ p. p.map };
+
+    ghost invariant = { λ p. IsTrue p.rises ↔ Rises (pairs_of p.map) };
+}
+
+/// Whether no pair of a map's table begins before an earlier one.
+fn map_rises(map: &Option<AddressMap<'_>>) -> bool
+    ensures { IsTrue result ↔ Rises (pairs_of map.now) }
+{
+    match map {
+        Some(map) => match map.omap_to_src() {
+            Some(table) => rises(table.stream().as_slice()),
+            None => true,
+        },
+        None => true,
+    }
+}
+
+/// Where an address goes by a table, where there is one.
+fn through(
+    table: Option<&OMAPTable<'_>>,
+    rises: bool,
+    address: u32,
+    steps: &mut Steps,
+) -> Option<u64>
+    requires { IsTrue rises ↔ Rises (pairs_of_table (option_map (λ t. t.now) table)) }
+    ensures moved { result ≡ translated address (option_map (λ t. t.now) table.entry) }
+    ensures halved { Rises (pairs_of_table (option_map (λ t. t.now) table.entry)) → (digits : ℕ) → length (pairs_of_table (option_map (λ t. t.now) table.entry)) < 2 ^ digits → steps.new.count ≤ steps.old.count + digits }
+    ensures few { steps.new.count ≤ steps.old.count + length (pairs_of_table (option_map (λ t. t.now) table.entry)) }
+{
+    match table {
+        Some(table) => translate(table.stream().as_slice(), rises, address, steps),
+        None => Some(u64::from(address)),
+    }
+}
+
+impl<'s> AddressPlaces<'s> {
+    /// The places by a file's address map; without one no address has a place. The table's pairs are read once, and no
+    /// memory is taken.
+    pub fn new(map: Option<AddressMap<'s>>) -> Self
+        ensures { result ≡ map.entry }
+    {
+        let rises = map_rises(&map);
+        AddressPlaces { map, rises }
+    }
+
+    /// The place of an address, as `place`, with a step for each look at a pair of the table or at a section. Where no
+    /// pair begins before an earlier one there are at most as many looks at pairs as their number has binary digits,
+    /// and never more than there are pairs; and never more looks at sections than there are sections.
+    pub fn place_counted(&self, address: u32, steps: &mut Steps) -> Option<PdbInternalSectionOffset>
+        ensures place { result ≡ place_for self.now address }
+        ensures halved { Rises (pairs_of self.now) → (digits : ℕ) → length (pairs_of self.now) < 2 ^ digits
+            → steps.new.count ≤ steps.old.count + digits + length (sections_of self.now) }
+        ensures few { steps.new.count ≤ steps.old.count + length (pairs_of self.now) + length (sections_of self.now) }
+    {
+        let Some(map) = &self.map else {
+            return None;
+        };
+        match through(map.omap_to_src(), self.rises, address, steps) {
+            Some(at) => place_among(map.original_sections(), at, steps),
+            None => None,
+        }
+    }
+
+    /// The section and the offset in which a relative virtual address lies: the last listed pair at or before the
+    /// address leads to an address of the image before it was rearranged, and the first original section that has that
+    /// one counts. None where the pair drops the address, where there is no such pair or section, and in a section
+    /// whose number isn't below 65536. It takes no memory.
+    pub fn place(&self, address: u32) -> Option<PdbInternalSectionOffset>
+        ensures { result ≡ place_for self.now address }
+    {
+        self.place_counted(address, &mut Steps::new())
+    }
+}

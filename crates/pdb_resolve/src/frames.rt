@@ -1,0 +1,146 @@
+//! The frames of a place.
+
+ghost use Rattle.std.specs.Prelude.{◌≡◌, ◌++◌, [], ◌∷◌, map, reverse, Some, None, option_copied, IfErr, OnOk};
+ghost use Rattle.std.specs.Option.{option_map};
+ghost use Rattle.pdb.specs.FileViews.{shown_file};
+ghost use Rattle.pdb.specs.Qualified.{shown_qualified};
+ghost use Rattle.pdb.specs.Text.{name_bytes};
+ghost use Rattle.pdb_resolve.specs.ModuleCode.{program_in, line_at};
+ghost use Rattle.pdb_resolve.specs.Frames.{plain, file_name as file_name_of, frame_of, inlined_frame};
+ghost use Rattle.pdb_resolve.specs.Kept.{shown_call};
+ghost use Rattle.pdb_resolve.specs.KeptFrames.{shown_frame, names_of};
+
+use crate::calls::InlinedCall;
+use crate::module_code::ModuleCode;
+use pdb::{
+    Error, FileInfo, ItemFinder, LineInfo, PdbInternalSectionOffset, QualifiedName, RawString,
+    Result, StringTable, qualified_name,
+};
+
+/// A function whose code stands at a place, and the line there. Names are bytes as the file has them.
+#[derive(Clone, Copy, Debug, PartialEq)]
+pub struct Frame<'a> {
+    /// The function's name; none where the file tells none.
+    pub name: Option<QualifiedName<'a>>,
+    /// The name of the source file; none where no line is told, or the name isn't there.
+    pub file: Option<RawString<'a>>,
+    /// The line, counted from 1; 0 where none is told.
+    pub line: u32,
+    /// The column, counted from 1; 0 where none is told.
+    pub column: u32,
+}
+
+/// The tables from which inlined functions have their names.
+#[derive(Drop)]
+pub struct FunctionNames<'a> {
+    pub(crate) ids: ItemFinder<'a>,
+    pub(crate) types: ItemFinder<'a>,
+}
+
+/// The name of a file.
+fn file_name<'a>(
+    strings: Option<&'a StringTable<'a>>,
+    file: Option<FileInfo<'a>>,
+) -> Option<RawString<'a>>
+    ensures { option_map name_bytes result ≡ file_name_of (option_copied strings.entry) (option_map shown_file file.entry) }
+{
+    strings?.get(file?.name).ok()
+}
+
+/// The frame of a line record.
+fn line_frame<'a>(
+    code: &ModuleCode<'a>,
+    strings: Option<&'a StringTable<'a>>,
+    name: Option<QualifiedName<'a>>,
+    line: &LineInfo,
+) -> Frame<'a>
+    ensures { shown_frame result ≡ frame_of (option_copied strings.entry) (program_in code.now) (option_map shown_qualified name.entry) (Some line.now) }
+{
+    Frame {
+        name,
+        file: file_name(strings, code.file(line.file_index)),
+        line: line.line_start,
+        column: line.column_start.unwrap_or(0),
+    }
+}
+
+/// A frame without a line.
+pub(crate) fn frame_without_line<'a>(name: Option<QualifiedName<'a>>) -> Frame<'a>
+    ensures { shown_frame result ≡ frame_of None None (option_map shown_qualified name.entry) None }
+{
+    Frame {
+        name,
+        file: None,
+        line: 0,
+        column: 0,
+    }
+}
+
+/// One more frame.
+pub(crate) fn push_frame<'a>(frames: &mut Vec<Frame<'a>>, frame: Frame<'a>) -> Result<()>
+    ensures pushed { OnOk result (map shown_frame frames.new.items ≡ map shown_frame frames.old.items ++ shown_frame frame.entry ∷ []) }
+    ensures refused { IfErr result (λ e. e ≡ Error.OutOfMemory) }
+{
+    frames.push(frame)?;
+    Ok(())
+}
+
+/// The frames of inlined functions, from the last site to the first.
+pub(crate) fn push_inlined<'a>(
+    frames: &mut Vec<Frame<'a>>,
+    code: &ModuleCode<'a>,
+    names: &FunctionNames<'a>,
+    strings: Option<&'a StringTable<'a>>,
+    calls: &[InlinedCall],
+) -> Result<()>
+    ensures pushed { OnOk result (map shown_frame frames.new.items ≡ map shown_frame frames.old.items ++ map (inlined_frame (names_of names.now (option_copied strings.entry)) (program_in code.now)) (reverse (map shown_call calls.now))) }
+    ensures refused { IfErr result (λ e. e ≡ Error.OutOfMemory) }
+{
+    let mut left = calls;
+    while let Some((call, before)) = left.split_last() {
+        let name = qualified_name(&names.ids, &names.types, call.id);
+        push_frame(frames, line_frame(code, strings, name, &call.line))?;
+        left = before;
+    }
+    Ok(())
+}
+
+/// The frame of a function that has this name, with the line at a place.
+fn outer_frame<'a>(
+    code: &ModuleCode<'a>,
+    strings: Option<&'a StringTable<'a>>,
+    name: Option<QualifiedName<'a>>,
+    place: PdbInternalSectionOffset,
+) -> Frame<'a>
+    ensures { shown_frame result ≡ frame_of (option_copied strings.entry) (program_in code.now) (option_map shown_qualified name.entry) (line_at place code.now) }
+{
+    match code.line(place) {
+        Some(line) => line_frame(code, strings, name, &line),
+        None => frame_without_line(name),
+    }
+}
+
+/// The frame of the function at a place, which has this name.
+pub(crate) fn push_outer<'a>(
+    frames: &mut Vec<Frame<'a>>,
+    code: &ModuleCode<'a>,
+    strings: Option<&'a StringTable<'a>>,
+    name: Option<RawString<'a>>,
+    place: PdbInternalSectionOffset,
+) -> Result<()>
+    ensures pushed { OnOk result (map shown_frame frames.new.items ≡ map shown_frame frames.old.items ++ frame_of (option_copied strings.entry) (program_in code.now) (option_map plain (option_map name_bytes name.entry)) (line_at place code.now) ∷ []) }
+    ensures refused { IfErr result (λ e. e ≡ Error.OutOfMemory) }
+{
+    let frame = outer_frame(code, strings, plain_name(name), place);
+    push_frame(frames, frame)
+}
+
+/// A name that isn't qualified.
+pub(crate) fn plain_name<'a>(name: Option<RawString<'a>>) -> Option<QualifiedName<'a>>
+    ensures { option_map shown_qualified result ≡ option_map plain (option_map name_bytes name.entry) }
+{
+    Some(QualifiedName {
+        scope: None,
+        name: name?,
+    })
+}

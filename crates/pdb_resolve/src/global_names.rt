@@ -1,0 +1,77 @@
+//! The public symbols of a file.
+
+ghost use Rattle.std.specs.Prelude.{◌≡◌, option_copied, IfOk, IfErr, IsSome, None};
+ghost use Rattle.std.specs.Option.{option_map};
+ghost use Rattle.pdb.specs.Text.{name_bytes};
+ghost use Rattle.pdb.specs.Source.{Continues, MayFail};
+ghost use Rattle.pdb.specs.Answers.{global_symbols_in};
+ghost use Rattle.pdb_resolve.specs.AsIfEmpty.{if_read, OnlyFails};
+ghost use Rattle.pdb_resolve.specs.Resolved.{public_of_file};
+ghost use Rattle.pdb_resolve.specs.KeptParts.{IsAskedOf, AreGlobalsOf};
+
+use crate::part::Part;
+use crate::public_names::PublicNames;
+use pdb::{Error, PDB, PdbInternalSectionOffset, RawString, Result, Source, SymbolTable};
+use std::alloc::Global;
+
+/// The stream of global symbols, and what is found by it.
+#[derive(Drop)]
+pub(crate) struct GlobalNames<'a, 's> {
+    pub(crate) globals: Part<'a, SymbolTable<'s>>,
+    pub(crate) publics: Option<PublicNames<'a>>,
+}
+
+/// The stream of global symbols.
+fn globals_asked<'a, 's, S: Source<'s>>(
+    pdb: &mut PDB<'s, S>,
+    part: &mut Part<'a, SymbolTable<'s>>,
+) -> Result<Option<&'a SymbolTable<'s>>>
+    requires { IsAskedOf (if_read (global_symbols_in pdb.old.file)) part.old }
+    ensures continues { Continues pdb.old pdb.new }
+    ensures asked { IsAskedOf (if_read (global_symbols_in pdb.old.file)) part.new }
+    ensures is { IfOk result (λ o. option_copied o ≡ if_read (global_symbols_in pdb.old.file)) }
+    ensures refused { IfErr result (λ e. OnlyFails (MayFail pdb.old pdb.new) e) }
+{
+    if part.asked {
+        return Ok(part.there);
+    }
+    part.keep(pdb.global_symbols())
+}
+
+impl<'a, 's> GlobalNames<'a, 's> {
+    /// Asks for the stream, unless it was asked for.
+    fn make<S: Source<'s>>(&mut self, pdb: &mut PDB<'s, S>) -> Result<()>
+        requires { AreGlobalsOf pdb.old.file self.old }
+        ensures continues { Continues pdb.old pdb.new }
+        ensures kept { AreGlobalsOf pdb.old.file self.new }
+        ensures made { IfOk result (λ _. IsSome self.new.publics) }
+        ensures refused { IfErr result (λ e. OnlyFails (MayFail pdb.old pdb.new) e) }
+    {
+        if self.publics.is_some() {
+            return Ok(());
+        }
+        let globals = globals_asked(pdb, &mut self.globals)?;
+        self.publics = Some(PublicNames::new(globals));
+        Ok(())
+    }
+
+    /// The name of the public symbol before a place.
+    pub(crate) fn find<S: Source<'s>>(
+        &mut self,
+        alloc: Global,
+        pdb: &mut PDB<'s, S>,
+        place: PdbInternalSectionOffset,
+    ) -> Result<Option<RawString<'a>>>
+        requires { AreGlobalsOf pdb.old.file self.old }
+        ensures continues { Continues pdb.old pdb.new }
+        ensures kept { AreGlobalsOf pdb.old.file self.new }
+        ensures found { IfOk result (λ n. option_map name_bytes n ≡ public_of_file pdb.old.file place) }
+        ensures refused { IfErr result (λ e. OnlyFails (MayFail pdb.old pdb.new) e) }
+    {
+        self.make(pdb)?;
+        match &mut self.publics {
+            Some(publics) => publics.find(alloc, place),
+            None => Err(Error::OutOfMemory),
+        }
+    }
+}

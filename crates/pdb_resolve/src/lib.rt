@@ -1,0 +1,46 @@
+//! What code stands at an address.
+#![tactic(auto)]
+
+mod address_places;
+mod calls;
+mod frames;
+mod global_names;
+mod kept_file;
+mod known;
+pub mod laws;
+mod lines;
+mod module_code;
+mod module_places;
+mod modules;
+mod name_tables;
+mod pairs;
+mod part;
+pub mod place_laws;
+mod public_names;
+mod public_place;
+mod public_table;
+mod publics;
+mod range;
+mod ranges;
+mod resolver;
+mod role;
+mod rows;
+mod sections;
+mod streams;
+mod tables;
+mod text;
+
+pub use address_places::AddressPlaces;
+pub use calls::InlinedCall;
+pub use frames::{Frame, FunctionNames};
+pub use module_code::ModuleCode;
+pub use module_places::ModulePlaces;
+pub use public_names::PublicNames;
+pub use range::CodeRange;
+pub use ranges::Ranges;
+pub use resolver::Resolver;
+pub use streams::Streams;
+pub use text::{put_frame, put_frames};
+
+#[cfg(test)]
+mod tests;

@@ -1,0 +1,272 @@
+//! The code of one module.
+
+ghost use Rattle.std.specs.Prelude.{◌≡◌, ◌+◌, ◌≤◌, ◌<◌, ◌^◌, ℕ, length, [], map, filter_map, IfOk, IfErr};
+ghost use Rattle.std.specs.Option.{option_map};
+ghost use Rattle.pdb.specs.PdbInternalSectionOffset.{PdbInternalSectionOffset};
+ghost use Rattle.pdb.specs.ModuleViews.{inlinees_left};
+ghost use Rattle.pdb_resolve.specs.ModuleCode.{symbols_in, inlinees_in, program_in, inlinee_with, function_at, line_at, inlined_at, procedure_of, other_of, procedures_in, others_in, AreCodesApart, says_at, procedure_name_at, name_at};
+ghost use Rattle.pdb.specs.Data.{shown};
+ghost use Rattle.pdb.specs.Text.{name_bytes};
+ghost use Rattle.pdb.specs.FileViews.{shown_file};
+ghost use Rattle.pdb_resolve.specs.Frames.{file_in};
+ghost use Rattle.pdb.specs.Views.{symbols_left};
+ghost use Rattle.pdb_resolve.specs.Kept.{shown_call, AreRangesOf, IsListed, head_says};
+
+use crate::calls::{InlinedCall, calls_from};
+use crate::known::Known;
+use crate::lines::first_line;
+use crate::ranges::Ranges;
+use crate::rows::{Rows, rows_of};
+use pdb::{
+    Error, FallibleIterator, FileIndex, FileInfo, Inlinee, InlineeIterator, LineInfo, LineProgram,
+    ModuleInfo, PdbInternalSectionOffset, RawString, Result, Steps, SymbolData, SymbolIndex,
+    SymbolIter,
+};
+use std::alloc::Global;
+use std::marker::Model;
+
+/// The code of a module, of which what stands at a place is found. A contract sees it as the module's stream.
+#[derive(Drop)]
+pub struct ModuleCode<'a> {
+    info: &'a ModuleInfo<'a>,
+    procedures: Ranges,
+    others: Ranges,
+    program: Option<LineProgram<'a>>,
+    known: Known<'a>,
+}
+
+impl<'a> Model for ModuleCode<'a> {
+    ghost use Rattle.std.specs.Prelude.{◌≡◌};
+    ghost use Rattle.pdb.specs.ModuleStream.{ModuleBytes};
+    ghost use Rattle.pdb_resolve.specs.ModuleCode.{procedures_in, others_in, program_in, inlinees_in, inlinee_with};
+    ghost use Rattle.pdb_resolve.specs.Kept.{IsKeptOf};
+
+    ghost Value = { ModuleBytes };
+
+    ghost view = { λ x. x.info.now };
+
+    ghost invariant = { λ x. IsKeptOf (procedures_in x.info.now) x.procedures × IsKeptOf (others_in x.info.now) x.others × (x.program ≡ program_in x.info.now) × (inlinee_with x.known ≡ inlinee_with (inlinees_in x.info.now)) };
+}
+
+/// The ranges of a module's code; none where its symbols are refused.
+#[tactic(auto, unfolding(crate::specs::ModuleCode::symbols_in))]
+fn read_rows(alloc: Global, info: &ModuleInfo<'_>) -> Result<Rows>
+    ensures procedures { IfOk result (λ rows. AreRangesOf (filter_map procedure_of (symbols_in info.now)) rows.procedures.items) }
+    ensures others { IfOk result (λ rows. AreRangesOf (filter_map other_of (symbols_in info.now)) rows.others.items) }
+    ensures refused { IfErr result (λ e. e ≡ Error.OutOfMemory) }
+{
+    match info.symbols() {
+        Ok(symbols) => rows_of(alloc, symbols),
+        Err(_) => Ok(Rows {
+            procedures: Vec::new(alloc),
+            others: Vec::new(alloc),
+        }),
+    }
+}
+
+/// A module's line program; none where it is refused.
+#[tactic(auto, unfolding(crate::specs::ModuleCode::program_in))]
+fn read_program<'a>(alloc: Global, info: &'a ModuleInfo<'a>) -> Result<Option<LineProgram<'a>>>
+    ensures program { IfOk result (λ p. p ≡ program_in info.entry.now) }
+    ensures refused { IfErr result (λ e. e ≡ Error.OutOfMemory) }
+{
+    match info.line_program(alloc) {
+        Ok(program) => Ok(Some(program)),
+        Err(Error::OutOfMemory) => Err(Error::OutOfMemory),
+        Err(_) => Ok(None),
+    }
+}
+
+/// The inlined functions that an iterator has left, up to its fault.
+fn listed<'a>(alloc: Global, mut inlinees: InlineeIterator<'a>) -> Result<Vec<Inlinee<'a>>>
+    ensures listed { IfOk result (λ v. v.items ≡ (inlinees_left inlinees.entry).items) }
+    ensures refused { IfErr result (λ e. e ≡ Error.OutOfMemory) }
+{
+    let mut listed = Vec::new(alloc);
+    loop {
+        match inlinees.next() {
+            Ok(Some(inlinee)) => {
+                if listed.push(inlinee).is_err() {
+                    return Err(Error::OutOfMemory);
+                }
+            }
+            Ok(None) => return Ok(listed),
+            Err(_) => return Ok(listed),
+        }
+    }
+}
+
+/// What the first symbol says that an iterator has left; none where it can't be read.
+fn first_said<'t>(alloc: Global, mut symbols: SymbolIter<'t>) -> Result<Option<SymbolData<'t>>>
+    ensures says { IfOk result (λ d. option_map shown d ≡ head_says (symbols_left symbols.entry).items) }
+    ensures refused { IfErr result (λ e. e ≡ Error.OutOfMemory) }
+{
+    match symbols.next() {
+        Ok(Some(symbol)) => match symbol.parse(alloc) {
+            Ok(data) => Ok(Some(data)),
+            Err(Error::OutOfMemory) => Err(Error::OutOfMemory),
+            Err(_) => Ok(None),
+        },
+        Ok(None) => Ok(None),
+        Err(_) => Ok(None),
+    }
+}
+
+/// A module's inlined functions by their ids; none where they are refused.
+#[tactic(auto, unfolding(crate::specs::ModuleCode::inlinees_in))]
+fn read_known<'a>(alloc: Global, info: &'a ModuleInfo<'a>) -> Result<Known<'a>>
+    ensures known { IfOk result (λ known. inlinee_with known ≡ inlinee_with (inlinees_in info.entry.now)) }
+    ensures refused { IfErr result (λ e. e ≡ Error.OutOfMemory) }
+{
+    let inlinees = match info.inlinees() {
+        Ok(inlinees) => listed(alloc, inlinees)?,
+        Err(_) => Vec::new(alloc),
+    };
+    match Known::of(inlinees) {
+        Ok(known) => Ok(known),
+        Err(_) => Err(Error::OutOfMemory),
+    }
+}
+
+impl<'a> ModuleCode<'a> {
+    /// The code of a module, whose symbols are read once. A part that is refused is as if it were empty; want of
+    /// memory is passed on.
+    pub fn new(alloc: Global, info: &'a ModuleInfo<'a>) -> Result<Self>
+        ensures is { IfOk result (λ code. code ≡ info.entry.now) }
+        ensures refused { IfErr result (λ e. e ≡ Error.OutOfMemory) }
+    {
+        let rows = read_rows(alloc, info)?;
+        let procedures = Ranges::new(alloc, rows.procedures.as_slice())?;
+        let others = Ranges::new(alloc, rows.others.as_slice())?;
+        let program = read_program(alloc, info)?;
+        let known = read_known(alloc, info)?;
+        Ok(ModuleCode {
+            info,
+            procedures,
+            others,
+            program,
+            known,
+        })
+    }
+
+    /// The symbol of the function at a place, as `function`, with a step for each look at a piece of code. Where the
+    /// procedures don't overlap, nor the thunks and separated code, there are at most as many as the numbers of both
+    /// have binary digits; and never more than both.
+    pub fn function_counted(
+        &self,
+        place: PdbInternalSectionOffset,
+        steps: &mut Steps,
+    ) -> Option<SymbolIndex>
+        ensures found { option_map (λ i. i.0) result ≡ function_at place self.now }
+        ensures halved { AreCodesApart (procedures_in self.now) → AreCodesApart (others_in self.now) → (digits more : ℕ) → length (procedures_in self.now) < 2 ^ digits → length (others_in self.now) < 2 ^ more
+            → steps.new.count ≤ steps.old.count + digits + more }
+        ensures few { steps.new.count ≤ steps.old.count + length (procedures_in self.now) + length (others_in self.now) }
+    {
+        match self.procedures.find_counted(place, steps) {
+            Some(index) => Some(SymbolIndex(index)),
+            None => match self.others.find_counted(place, steps) {
+                Some(index) => Some(SymbolIndex(index)),
+                None => None,
+            },
+        }
+    }
+
+    /// The symbol of the function at a place: the first procedure that covers it, or else the first thunk or separated
+    /// code. It takes no memory.
+    pub fn function(&self, place: PdbInternalSectionOffset) -> Option<SymbolIndex>
+        ensures { option_map (λ i. i.0) result ≡ function_at place self.now }
+    {
+        self.function_counted(place, &mut Steps::new())
+    }
+
+    /// The line at a place: the first record of the last subsection at or before it that covers it. It takes no memory.
+    pub fn line(&self, place: PdbInternalSectionOffset) -> Option<LineInfo>
+        ensures { result ≡ line_at place self.now }
+    {
+        match &self.program {
+            Some(program) => first_line(program.lines_for_symbol(place), place),
+            None => None,
+        }
+    }
+
+    /// The file of an index, which a line record names; none where its record can't be read.
+    pub fn file(&self, index: FileIndex) -> Option<FileInfo<'a>>
+        ensures { option_map shown_file result ≡ file_in (program_in self.now) index.0 }
+    {
+        self.program.as_ref()?.get_file_info(index).ok()
+    }
+
+    /// The functions that were inlined at a place into the procedure there, in the order of their sites, each with the
+    /// first record of its site that covers the place.
+    pub fn inlined(
+        &self,
+        alloc: Global,
+        place: PdbInternalSectionOffset,
+    ) -> Result<Vec<InlinedCall>>
+        ensures calls { IfOk result (λ calls. map shown_call calls.items ≡ inlined_at place self.now) }
+        ensures refused { IfErr result (λ e. e ≡ Error.OutOfMemory) }
+    {
+        let Some(index) = self.procedures.find(place) else {
+            return Ok(Vec::new(alloc));
+        };
+        match self.info.symbols_at(SymbolIndex(index)) {
+            Ok(symbols) => calls_from(alloc, &self.known, symbols, place),
+            Err(_) => Ok(Vec::new(alloc)),
+        }
+    }
+
+    // What the symbol of an index says; none where it can't be read.
+    fn said(&self, alloc: Global, index: u32) -> Result<Option<SymbolData<'a>>>
+        requires { IsListed index (symbols_in self.now) }
+        ensures says { IfOk result (λ d. option_map shown d ≡ says_at self.now index) }
+        ensures refused { IfErr result (λ e. e ≡ Error.OutOfMemory) }
+    {
+        match self.info.symbols_at(SymbolIndex(index)) {
+            Ok(symbols) => first_said(alloc, symbols),
+            Err(_) => Ok(None),
+        }
+    }
+
+    // The name of the first procedure that covers a place.
+    fn procedure_name(
+        &self,
+        alloc: Global,
+        place: PdbInternalSectionOffset,
+    ) -> Result<Option<RawString<'a>>>
+        ensures name { IfOk result (λ n. option_map name_bytes n ≡ procedure_name_at place self.now) }
+        ensures refused { IfErr result (λ e. e ≡ Error.OutOfMemory) }
+    {
+        match self.procedures.find(place) {
+            Some(index) => match self.said(alloc, index) {
+                Ok(Some(SymbolData::Procedure(procedure))) => Ok(Some(procedure.name)),
+                Ok(_) => Ok(None),
+                Err(_) => Err(Error::OutOfMemory),
+            },
+            None => Ok(None),
+        }
+    }
+
+    /// The name of the function at a place; that of separated code is its parent's. It is refused for want of memory
+    /// alone.
+    pub fn function_name(
+        &self,
+        alloc: Global,
+        place: PdbInternalSectionOffset,
+    ) -> Result<Option<RawString<'a>>>
+        ensures name { IfOk result (λ n. option_map name_bytes n ≡ name_at place self.now) }
+        ensures refused { IfErr result (λ e. e ≡ Error.OutOfMemory) }
+    {
+        match self.function(place) {
+            Some(index) => match self.said(alloc, index.0) {
+                Ok(Some(SymbolData::Procedure(procedure))) => Ok(Some(procedure.name)),
+                Ok(Some(SymbolData::Thunk(thunk))) => Ok(Some(thunk.name)),
+                Ok(Some(SymbolData::SeparatedCode(code))) => {
+                    self.procedure_name(alloc, code.parent_offset)
+                }
+                Ok(_) => Ok(None),
+                Err(_) => Err(Error::OutOfMemory),
+            },
+            None => Ok(None),
+        }
+    }
+}

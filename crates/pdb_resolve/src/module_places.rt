@@ -1,0 +1,249 @@
+//! The modules at places.
+
+ghost use Rattle.std.specs.Prelude.{◌≡◌, ◌+◌, ◌++◌, [], ◌∷◌, ◌≤◌, ◌<◌, ◌^◌, ℕ, true, false, length, map, List, IfOk, IfErr, IsOk, OnOk};
+ghost use Rattle.std.specs.Option.{option_map};
+ghost use Rattle.pdb.specs.DBISectionContribution.{DBISectionContribution};
+ghost use Rattle.pdb.specs.DbiViews.{contributions_left, contributions_steps};
+ghost use Rattle.pdb_resolve.specs.ModulePlaces.{contributions_known, contributes, module_of, module_among, module_number_at, AreContributionsApart};
+ghost use Rattle.pdb_resolve.specs.ModuleTable.{pieces_from, IsTableOf};
+ghost use Rattle.pdb_resolve.specs.Kept.{range_parts, AreRangesOf};
+
+use crate::range::CodeRange;
+use crate::ranges::Ranges;
+use pdb::{
+    DBISectionContribution, DBISectionContributionIter, DebugInformation, Error, FallibleIterator,
+    PdbInternalSectionOffset, Result, Steps,
+};
+use std::alloc::Global;
+use std::marker::Model;
+
+/// Whether a contribution has a place.
+fn contributes(place: PdbInternalSectionOffset, contribution: &DBISectionContribution) -> bool
+    ensures { result ≡ contributes place contribution.now }
+{
+    contribution.offset.section == place.section
+        && contribution.offset.offset <= place.offset
+        && u64::from(place.offset)
+            < u64::from(contribution.offset.offset) + u64::from(contribution.size)
+}
+
+/// The module of the first contribution that has a place, of those that an iterator has left. Each look at one takes a
+/// step.
+fn look_through(
+    mut contributions: DBISectionContributionIter<'_>,
+    place: PdbInternalSectionOffset,
+    steps: &mut Steps,
+) -> Option<usize>
+    ensures found { result ≡ module_among place (contributions_left contributions.entry).items }
+    ensures few { steps.new.count ≤ steps.old.count + length (contributions_left contributions.entry).items }
+{
+    loop {
+        match contributions.next() {
+            Ok(Some(contribution)) => {
+                steps.tick();
+                if contributes(place, &contribution) {
+                    return Some(contribution.module);
+                }
+            }
+            Ok(None) => return None,
+            Err(_) => return None,
+        }
+    }
+}
+
+/// The module at a place, by the contributions as they are listed.
+#[tactic(auto, unfolding(crate::specs::ModulePlaces::contributions_known))]
+fn find_listed(
+    information: Option<&DebugInformation<'_>>,
+    place: PdbInternalSectionOffset,
+    steps: &mut Steps,
+) -> Option<usize>
+    ensures found { result ≡ module_number_at place (option_map (λ d. d.now) information.entry) }
+    ensures few { steps.new.count ≤ steps.old.count + length (contributions_known (option_map (λ d. d.now) information.entry)) }
+{
+    match information {
+        Some(information) => match information.section_contributions() {
+            Ok(contributions) => look_through(contributions, place, steps),
+            Err(_) => None,
+        },
+        None => None,
+    }
+}
+
+/// The ranges of contributions, each with its number among them, and the numbers of their modules.
+#[derive(Drop)]
+struct Rows {
+    ranges: Vec<CodeRange>,
+    modules: Vec<usize>,
+}
+
+/// One more contribution.
+fn push(rows: &mut Rows, number: u32, contribution: &DBISectionContribution) -> Result<()>
+    ensures ranges { OnOk result (map range_parts rows.new.ranges.items ≡ map range_parts rows.old.ranges.items ++ (number, (contribution.now.offset, contribution.now.size)) ∷ []) }
+    ensures modules { OnOk result (rows.new.modules.items ≡ rows.old.modules.items ++ module_of contribution.now ∷ []) }
+    ensures refused { IfErr result (λ e. e ≡ Error.OutOfMemory) }
+{
+    let range = CodeRange::new(contribution.offset, contribution.size, number);
+    if rows.ranges.push(range).is_err() {
+        return Err(Error::OutOfMemory);
+    }
+    if rows.modules.push(contribution.module).is_err() {
+        return Err(Error::OutOfMemory);
+    }
+    Ok(())
+}
+
+/// The rows of the contributions that an iterator gives from its start on, up to its fault.
+fn rows_of(alloc: Global, mut contributions: DBISectionContributionIter<'_>) -> Result<Rows>
+    requires { contributions_steps contributions ≡ 0 }
+    ensures ranges { IfOk result (λ rows. AreRangesOf (pieces_from 0 (contributions_left contributions.entry).items) rows.ranges.items) }
+    ensures modules { IfOk result (λ rows. rows.modules.items ≡ map module_of (contributions_left contributions.entry).items) }
+    ensures refused { IfErr result (λ e. e ≡ Error.OutOfMemory) }
+{
+    let mut rows = Rows {
+        ranges: Vec::new(alloc),
+        modules: Vec::new(alloc),
+    };
+    loop {
+        match contributions.next() {
+            Ok(Some(contribution)) => {
+                let number = rows.ranges.len() as u32;
+                push(&mut rows, number, &contribution)?;
+            }
+            Ok(None) => return Ok(rows),
+            Err(_) => return Ok(rows),
+        }
+    }
+}
+
+/// The rows of a DBI stream's contributions.
+#[tactic(auto, unfolding(crate::specs::ModulePlaces::contributions_known))]
+fn rows_listed(alloc: Global, information: Option<&DebugInformation<'_>>) -> Result<Rows>
+    ensures ranges { IfOk result (λ rows. AreRangesOf (pieces_from 0 (contributions_known (option_map (λ d. d.now) information.entry))) rows.ranges.items) }
+    ensures modules { IfOk result (λ rows. rows.modules.items ≡ map module_of (contributions_known (option_map (λ d. d.now) information.entry))) }
+    ensures refused { IfErr result (λ e. e ≡ Error.OutOfMemory) }
+{
+    if let Some(information) = information {
+        if let Ok(contributions) = information.section_contributions() {
+            return rows_of(alloc, contributions);
+        }
+    }
+    Ok(Rows {
+        ranges: Vec::new(alloc),
+        modules: Vec::new(alloc),
+    })
+}
+
+/// The contributions in the order of their places.
+#[derive(Drop)]
+struct ModuleTable {
+    // The payload is the contribution's number.
+    ranges: Ranges,
+    // By the contributions' numbers.
+    modules: Vec<usize>,
+}
+
+/// The table of a DBI stream's contributions.
+fn table_of(alloc: Global, information: Option<&DebugInformation<'_>>) -> Result<ModuleTable>
+    ensures table { IfOk result (λ t. IsTableOf (contributions_known (option_map (λ d. d.now) information.entry)) t.ranges t.modules.items) }
+    ensures refused { IfErr result (λ e. e ≡ Error.OutOfMemory) }
+{
+    let rows = rows_listed(alloc, information)?;
+    let ranges = Ranges::new(alloc, rows.ranges.as_slice())?;
+    Ok(ModuleTable {
+        ranges,
+        modules: rows.modules,
+    })
+}
+
+/// The module at a place, by a table.
+fn find_in(table: &ModuleTable, place: PdbInternalSectionOffset, steps: &mut Steps) -> Option<usize>
+    ensures found { (cs : List DBISectionContribution) → IsTableOf cs table.now.ranges table.now.modules.items → result ≡ module_among place cs }
+    ensures halved { (cs : List DBISectionContribution) → IsTableOf cs table.now.ranges table.now.modules.items → AreContributionsApart cs → (digits : ℕ) → length cs < 2 ^ digits → steps.new.count ≤ steps.old.count + digits }
+    ensures few { (cs : List DBISectionContribution) → IsTableOf cs table.now.ranges table.now.modules.items → steps.new.count ≤ steps.old.count + length cs }
+{
+    match table.ranges.find_counted(place, steps) {
+        Some(number) => table.modules.get(number as usize).copied(),
+        None => None,
+    }
+}
+
+/// The contributions of an image's sections to their bytes, of which the module at a place is found. A contract sees it
+/// as the DBI stream that lists them, if there is one, and whether it was asked for a place.
+#[derive(Drop)]
+pub struct ModulePlaces<'a> {
+    information: Option<&'a DebugInformation<'a>>,
+    asked: bool,
+    // It is made at the second question.
+    table: Option<ModuleTable>,
+}
+
+impl<'a> Model for ModulePlaces<'a> {
+    ghost use Rattle.std.specs.Option.{option_map};
+    ghost use Rattle.pdb_resolve.specs.AskedStream.{AskedStream};
+    ghost use Rattle.pdb_resolve.specs.ModulePlaces.{contributions_known};
+    ghost use Rattle.pdb_resolve.specs.ModuleTable.{IsTableIfMade};
+
+    ghost Value = { AskedStream };
+
+    ghost view = { λ m. record { stream = option_map (λ d. d.now) m.information; asked = m.asked } };
+
+    ghost invariant = { λ m. IsTableIfMade (contributions_known (option_map (λ d. d.now) m.information)) m.table };
+}
+
+impl<'a> ModulePlaces<'a> {
+    /// The contributions that a DBI stream lists; none without one. It takes no memory.
+    pub fn new(information: Option<&'a DebugInformation<'a>>) -> Self
+        ensures { result ≡ record { stream = option_map (λ d. d.now) information.entry; asked = false } }
+    {
+        ModulePlaces {
+            information,
+            asked: false,
+            table: None,
+        }
+    }
+
+    /// The module at a place, as `find`, with a step for each look at a contribution: never more than there are. From
+    /// the second question on, and where the contributions don't overlap, there are at most as many as their number has
+    /// binary digits; those to make the table aren't counted.
+    pub fn find_counted(
+        &mut self,
+        alloc: Global,
+        place: PdbInternalSectionOffset,
+        steps: &mut Steps,
+    ) -> Result<Option<usize>>
+        ensures found { IfOk result (λ m. m ≡ module_number_at place self.old.stream) }
+        ensures kept { self.new ≡ record { stream = self.old.stream; asked = true } }
+        ensures refused { IfErr result (λ e. e ≡ Error.OutOfMemory) }
+        ensures lean { self.old.asked ≡ false → IsOk result }
+        ensures halved { self.old.asked ≡ true → AreContributionsApart (contributions_known self.old.stream) → (digits : ℕ) → length (contributions_known self.old.stream) < 2 ^ digits
+            → steps.new.count ≤ steps.old.count + digits }
+        ensures few { steps.new.count ≤ steps.old.count + length (contributions_known self.old.stream) }
+    {
+        let asked = self.asked;
+        self.asked = true;
+        if let Some(table) = &self.table {
+            return Ok(find_in(table, place, steps));
+        }
+        if !asked {
+            return Ok(find_listed(self.information, place, steps));
+        }
+        let table = table_of(alloc, self.information)?;
+        let found = find_in(&table, place, steps);
+        self.table = Some(table);
+        Ok(found)
+    }
+
+    /// The number of the module at a place: that of the first listed contribution which has it, and none where none
+    /// does, or where the contributions are refused. The first question is one pass over the list, which takes no
+    /// memory; at the second a table is made and kept, and later ones are looked up there. It is refused for want of
+    /// memory alone, and may then be asked again.
+    pub fn find(&mut self, alloc: Global, place: PdbInternalSectionOffset) -> Result<Option<usize>>
+        ensures found { IfOk result (λ m. m ≡ module_number_at place self.old.stream) }
+        ensures kept { self.new ≡ record { stream = self.old.stream; asked = true } }
+        ensures refused { IfErr result (λ e. e ≡ Error.OutOfMemory) }
+        ensures lean { self.old.asked ≡ false → IsOk result }
+    {
+        self.find_counted(alloc, place, &mut Steps::new())
+    }
+}

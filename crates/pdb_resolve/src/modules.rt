@@ -1,0 +1,194 @@
+//! The modules of a file, each of which is read once.
+
+ghost use Rattle.std.specs.Prelude.{◌≡◌, ℕ, List, map, replicate, None, ◌<◌, length, option_copied, slice_get, slice_set, Some, IfOk, IfErr, OnOk};
+ghost use Rattle.pdb.specs.Error.TheVariants.{OutOfMemory};
+ghost use Rattle.pdb.specs.Answers.{module_info_in, debug_information_in};
+ghost use Rattle.pdb.specs.Source.{Continues, MayFail};
+ghost use Rattle.pdb.specs.DbiViews.{modules_left};
+ghost use Rattle.pdb_resolve.specs.AsIfEmpty.{if_found, if_read, OnlyFails};
+ghost use Rattle.pdb_resolve.specs.FileParts.{module_numbered, modules_where};
+ghost use Rattle.pdb_resolve.specs.KeptParts.{AreModulesOf, boxed, code_kept, codes_of};
+
+use crate::module_code::ModuleCode;
+use crate::part::put_down;
+use pdb::{
+    DebugInformation, Error, FallibleIterator, Module, ModuleInfo, ModuleIter, PDB, Result, Source,
+};
+use std::alloc::Global;
+
+/// The list of modules, and the code of those that were read.
+#[derive(Drop)]
+pub(crate) struct Modules<'a, 's> {
+    pub(crate) listed: Vec<Module<'a>>,
+    // Where the streams are put that will be read.
+    pub(crate) rooms: &'a mut [Option<Box<ModuleInfo<'s>>>],
+    pub(crate) codes: Vec<Option<Box<ModuleCode<'a>>>>,
+}
+
+/// The modules that an iterator has left, up to its fault.
+fn listed<'a>(alloc: Global, mut modules: ModuleIter<'a>) -> Result<Vec<Module<'a>>>
+    ensures listed { IfOk result (λ v. v.items ≡ (modules_left modules.entry).items) }
+    ensures refused { IfErr result (λ e. e ≡ Error.OutOfMemory) }
+{
+    let mut listed = Vec::new(alloc);
+    loop {
+        match modules.next() {
+            Ok(Some(module)) => listed.push(module)?,
+            Ok(None) => return Ok(listed),
+            Err(_) => return Ok(listed),
+        }
+    }
+}
+
+/// The list of modules; none where it isn't there.
+fn modules_of<'a>(
+    alloc: Global,
+    information: Option<&'a DebugInformation<'a>>,
+) -> Result<Vec<Module<'a>>>
+    ensures listed { IfOk result (λ v. v.items ≡ modules_where (option_copied information.entry)) }
+    ensures refused { IfErr result (λ e. e ≡ Error.OutOfMemory) }
+{
+    let Some(information) = information else {
+        return Ok(Vec::new(alloc));
+    };
+    match information.modules() {
+        Ok(modules) => listed(alloc, modules),
+        Err(_) => Ok(Vec::new(alloc)),
+    }
+}
+
+/// The code of a module, whose stream is put into the next room.
+fn code_of<'a, 's>(
+    alloc: Global,
+    rooms: &mut &'a mut [Option<Box<ModuleInfo<'s>>>],
+    info: ModuleInfo<'s>,
+) -> Result<Box<ModuleCode<'a>>>
+    ensures code { IfOk result (λ b. b.value ≡ info.entry) }
+    ensures refused { IfErr result (λ e. e ≡ Error.OutOfMemory) }
+{
+    let info: &'a ModuleInfo<'s> = put_down(rooms, Box::new(alloc, info)?)?;
+    Ok(Box::new(alloc, ModuleCode::new(alloc, info)?)?)
+}
+
+/// The stream of a listed module; none where it has none, or where it is refused.
+fn module_info<'s, S: Source<'s>>(
+    pdb: &mut PDB<'s, S>,
+    module: &Module<'_>,
+) -> Result<Option<ModuleInfo<'s>>>
+    ensures continues { Continues pdb.old pdb.new }
+    ensures is { IfOk result (λ i. i ≡ if_found (module_info_in pdb.old.file «module».now)) }
+    ensures refused { IfErr result (λ e. OnlyFails (MayFail pdb.old pdb.new) e) }
+{
+    match pdb.module_info(module) {
+        Ok(info) => Ok(info),
+        Err(Error::OutOfMemory) => Err(Error::OutOfMemory),
+        Err(Error::IoError) => Err(Error::IoError),
+        Err(_) => Ok(None),
+    }
+}
+
+/// So many rooms for modules.
+fn rooms_of<'a, 's>(
+    rooms: &'a mut Vec<Option<Box<ModuleInfo<'s>>>>,
+    count: usize,
+) -> Result<&'a mut [Option<Box<ModuleInfo<'s>>>]>
+    ensures refused { IfErr result (λ e. e ≡ Error.OutOfMemory) }
+{
+    rooms.clear();
+    for _ in 0..count {
+        rooms.push(None)?;
+    }
+    Ok(rooms.as_mut_slice())
+}
+
+/// So many modules whose code wasn't read.
+fn unread<'a>(alloc: Global, count: usize) -> Result<Vec<Option<Box<ModuleCode<'a>>>>>
+    ensures unread { IfOk result (λ v. map boxed v.items ≡ replicate count None) }
+    ensures refused { IfErr result (λ e. e ≡ Error.OutOfMemory) }
+{
+    let mut codes = Vec::new(alloc);
+    for _ in 0..count {
+        codes.push(None)?;
+    }
+    Ok(codes)
+}
+
+/// The modules of a file, of which none was read.
+pub(crate) fn modules_from<'a, 's>(
+    alloc: Global,
+    information: Option<&'a DebugInformation<'a>>,
+    rooms: &'a mut Vec<Option<Box<ModuleInfo<'s>>>>,
+) -> Result<Modules<'a, 's>>
+    ensures modules { (file : List ℕ) → option_copied information.entry ≡ if_read (debug_information_in file) → IfOk result (λ m. AreModulesOf file m) }
+    ensures refused { IfErr result (λ e. e ≡ Error.OutOfMemory) }
+{
+    let listed = modules_of(alloc, information)?;
+    let codes = unread(alloc, listed.len())?;
+    let rooms = rooms_of(rooms, listed.len())?;
+    Ok(Modules {
+        listed,
+        rooms,
+        codes,
+    })
+}
+
+impl<'a, 's> Modules<'a, 's> {
+    /// Reads the module of a number, unless it was read, or isn't there.
+    pub(crate) fn read<S: Source<'s>>(
+        &mut self,
+        alloc: Global,
+        pdb: &mut PDB<'s, S>,
+        number: usize,
+    ) -> Result<()>
+        requires { AreModulesOf pdb.old.file self.old }
+        ensures continues { Continues pdb.old pdb.new }
+        ensures kept { AreModulesOf pdb.old.file self.new }
+        ensures read { IfOk result (λ _. code_kept self.new number ≡ module_numbered pdb.old.file number) }
+        ensures refused { IfErr result (λ e. OnlyFails (MayFail pdb.old pdb.new) e) }
+    {
+        if self.code(number).is_some() {
+            return Ok(());
+        }
+        let Some(module) = self.module_at(number) else {
+            return Ok(());
+        };
+        match module_info(pdb, module)? {
+            Some(info) => self.keep(alloc, number, info),
+            None => Ok(()),
+        }
+    }
+
+    /// The module of a number in the list.
+    fn module_at(&self, number: usize) -> Option<&Module<'a>>
+        ensures { option_copied result ≡ slice_get self.now.listed.items number }
+    {
+        self.listed.get(number)
+    }
+
+    /// Keeps the code of the module of a number, whose stream this is.
+    fn keep(&mut self, alloc: Global, number: usize, info: ModuleInfo<'s>) -> Result<()>
+        ensures listed { self.new.listed ≡ self.old.listed }
+        ensures kept { OnOk result ((number < length (codes_of self.old)) × (codes_of self.new ≡ slice_set (codes_of self.old) number (Some info.entry))) }
+        ensures refused { IfErr result (λ e. (e ≡ OutOfMemory) × (codes_of self.new ≡ codes_of self.old)) }
+    {
+        let code = code_of(alloc, &mut self.rooms, info)?;
+        if number >= self.codes.len() {
+            return Err(Error::OutOfMemory);
+        }
+        self.codes[number] = Some(code);
+        Ok(())
+    }
+
+    /// The code of the module of a number, if it was read.
+    pub(crate) fn code(&self, number: usize) -> Option<&ModuleCode<'a>>
+        ensures { option_copied result ≡ code_kept self.now number }
+    {
+        if number >= self.codes.len() {
+            return None;
+        }
+        match &self.codes[number] {
+            Some(code) => Some(&**code),
+            None => None,
+        }
+    }
+}

@@ -1,0 +1,111 @@
+//! The tables from which inlined functions have their names.
+
+ghost use Rattle.std.specs.Prelude.{◌≡◌, List, Result, option_copied, IfOk, IfErr, IsSome, None};
+ghost use Rattle.pdb.specs.Error.{Error};
+ghost use Rattle.pdb.specs.Items.{ItemEntry};
+ghost use Rattle.pdb.specs.Refusal.{Gives};
+ghost use Rattle.pdb.specs.Source.{Continues, MayFail};
+ghost use Rattle.pdb.specs.Container.{stream_of};
+ghost use Rattle.pdb_resolve.specs.AsIfEmpty.{if_read, OnlyFails};
+ghost use Rattle.pdb_resolve.specs.FileParts.{items_or_none, items_where};
+ghost use Rattle.pdb_resolve.specs.KeptParts.{IsAskedOf, AreTablesOf};
+
+use crate::frames::FunctionNames;
+use crate::part::Part;
+use pdb::{Error, IdInformation, ItemFinder, PDB, Result, Source, TypeInformation};
+use std::alloc::Global;
+
+/// The streams of ids and of types, and the tables of both, each made where the first inlined function is met.
+#[derive(Drop)]
+pub(crate) struct NameTables<'a, 's> {
+    pub(crate) ids: Part<'a, IdInformation<'s>>,
+    pub(crate) types: Part<'a, TypeInformation<'s>>,
+    pub(crate) made: Option<FunctionNames<'a>>,
+}
+
+/// What was answered where a stream's table was made; an empty one where the stream is refused.
+fn or_empty<'a>(alloc: Global, finder: Result<ItemFinder<'a>>) -> Result<ItemFinder<'a>>
+    ensures made { (items : Result (List ItemEntry) Error) → Gives (λ f. f) ⊥ finder.entry items → IfOk result (λ f. f ≡ items_or_none items) }
+    ensures refused { IfErr result (λ e. e ≡ Error.OutOfMemory) }
+{
+    match finder {
+        Ok(finder) => Ok(finder),
+        Err(Error::OutOfMemory) => Err(Error::OutOfMemory),
+        Err(_) => Ok(ItemFinder::empty(alloc)),
+    }
+}
+
+/// The ids of a stream, by their indices.
+fn ids_of<'a>(alloc: Global, ids: Option<&'a IdInformation<'a>>) -> Result<ItemFinder<'a>>
+    ensures made { IfOk result (λ f. f ≡ items_where (option_copied ids.entry)) }
+    ensures refused { IfErr result (λ e. e ≡ Error.OutOfMemory) }
+{
+    match ids {
+        Some(ids) => or_empty(alloc, ids.finder(alloc)),
+        None => Ok(ItemFinder::empty(alloc)),
+    }
+}
+
+/// The types of a stream, by their indices.
+fn types_of<'a>(alloc: Global, types: Option<&'a TypeInformation<'a>>) -> Result<ItemFinder<'a>>
+    ensures made { IfOk result (λ f. f ≡ items_where (option_copied types.entry)) }
+    ensures refused { IfErr result (λ e. e ≡ Error.OutOfMemory) }
+{
+    match types {
+        Some(types) => or_empty(alloc, types.finder(alloc)),
+        None => Ok(ItemFinder::empty(alloc)),
+    }
+}
+
+/// The stream of ids.
+fn ids_asked<'a, 's, S: Source<'s>>(
+    pdb: &mut PDB<'s, S>,
+    part: &mut Part<'a, IdInformation<'s>>,
+) -> Result<Option<&'a IdInformation<'s>>>
+    requires { IsAskedOf (if_read (stream_of pdb.old.file 4 None)) part.old }
+    ensures continues { Continues pdb.old pdb.new }
+    ensures asked { IsAskedOf (if_read (stream_of pdb.old.file 4 None)) part.new }
+    ensures is { IfOk result (λ o. option_copied o ≡ if_read (stream_of pdb.old.file 4 None)) }
+    ensures refused { IfErr result (λ e. OnlyFails (MayFail pdb.old pdb.new) e) }
+{
+    if part.asked {
+        return Ok(part.there);
+    }
+    part.keep(pdb.id_information())
+}
+
+/// The stream of types.
+fn types_asked<'a, 's, S: Source<'s>>(
+    pdb: &mut PDB<'s, S>,
+    part: &mut Part<'a, TypeInformation<'s>>,
+) -> Result<Option<&'a TypeInformation<'s>>>
+    requires { IsAskedOf (if_read (stream_of pdb.old.file 2 None)) part.old }
+    ensures continues { Continues pdb.old pdb.new }
+    ensures asked { IsAskedOf (if_read (stream_of pdb.old.file 2 None)) part.new }
+    ensures is { IfOk result (λ o. option_copied o ≡ if_read (stream_of pdb.old.file 2 None)) }
+    ensures refused { IfErr result (λ e. OnlyFails (MayFail pdb.old pdb.new) e) }
+{
+    if part.asked {
+        return Ok(part.there);
+    }
+    part.keep(pdb.type_information())
+}
+
+impl<'a, 's> NameTables<'a, 's> {
+    /// Makes the tables, unless they are made.
+    pub(crate) fn make<S: Source<'s>>(&mut self, alloc: Global, pdb: &mut PDB<'s, S>) -> Result<()>
+        requires { AreTablesOf pdb.old.file self.old }
+        ensures continues { Continues pdb.old pdb.new }
+        ensures kept { AreTablesOf pdb.old.file self.new }
+        ensures made { IfOk result (λ _. IsSome self.new.made) }
+        ensures refused { IfErr result (λ e. OnlyFails (MayFail pdb.old pdb.new) e) }
+    {
+        if self.made.is_some() {
+            return Ok(());
+        }
+        let ids = ids_of(alloc, ids_asked(pdb, &mut self.ids)?)?;
+        let types = types_of(alloc, types_asked(pdb, &mut self.types)?)?;
+        self.made = Some(FunctionNames { ids, types });
+        Ok(())
+    }
+}

@@ -1,0 +1,156 @@
+//! The names of the public symbols before places.
+
+ghost use Rattle.std.specs.Prelude.{◌≡◌, ◌+◌, ◌≤◌, ◌<◌, ◌^◌, ℕ, true, false, length, IfOk, IfErr, IsOk};
+ghost use Rattle.std.specs.Option.{option_map};
+ghost use Rattle.pdb.specs.Text.{name_bytes};
+ghost use Rattle.pdb.specs.Views.{symbols_left};
+ghost use Rattle.pdb_resolve.specs.PublicNames.{publics_in, public_name_at};
+ghost use Rattle.pdb_resolve.specs.PublicTable.{head_name, IsPublicTable};
+
+use crate::public_table::{PublicTable, find_in, table_of};
+use crate::publics::{nearest, public_of};
+use pdb::{
+    Error, FallibleIterator, PdbInternalSectionOffset, RawString, Result, Steps, SymbolIndex,
+    SymbolIter, SymbolTable,
+};
+use std::alloc::Global;
+use std::marker::Model;
+
+/// The name of the first symbol that an iterator has left, where it is public.
+fn first_name<'t>(alloc: Global, mut symbols: SymbolIter<'t>) -> Option<RawString<'t>>
+    ensures { option_map name_bytes result ≡ head_name (symbols_left symbols.entry).items }
+{
+    match symbols.next() {
+        Ok(Some(symbol)) => match public_of(alloc, &symbol) {
+            Some(public) => Some(public.name),
+            None => None,
+        },
+        Ok(None) => None,
+        Err(_) => None,
+    }
+}
+
+/// The name of the public symbol before a place, by the symbols as they are listed.
+#[tactic(auto, unfolding(crate::specs::PublicNames::publics_in))]
+fn name_listed<'a>(
+    alloc: Global,
+    symbols: &'a SymbolTable<'a>,
+    place: PdbInternalSectionOffset,
+    steps: &mut Steps,
+) -> Option<RawString<'a>>
+    ensures name { option_map name_bytes result ≡ public_name_at place (Some symbols.entry.now) }
+    ensures few { steps.new.count ≤ steps.old.count + length (publics_in (Some symbols.entry.now)) }
+{
+    match nearest(alloc, symbols.iter(), place, steps) {
+        Some(public) => Some(public.name),
+        None => None,
+    }
+}
+
+/// The name of the public symbol before a place, by a table of the symbols.
+fn name_in<'a>(
+    alloc: Global,
+    symbols: &'a SymbolTable<'a>,
+    table: &PublicTable,
+    place: PdbInternalSectionOffset,
+    steps: &mut Steps,
+) -> Option<RawString<'a>>
+    requires { IsPublicTable (publics_in (Some symbols.now)) table.now.sorted.items }
+    ensures name { option_map name_bytes result ≡ public_name_at place (Some symbols.entry.now) }
+    ensures halved { (digits : ℕ) → length (publics_in (Some symbols.entry.now)) < 2 ^ digits → steps.new.count ≤ steps.old.count + digits }
+    ensures few { steps.new.count ≤ steps.old.count + length (publics_in (Some symbols.entry.now)) }
+{
+    match find_in(table, place, steps) {
+        Some(index) => first_name(alloc, symbols.iter_at(SymbolIndex(index))),
+        None => None,
+    }
+}
+
+/// The public symbols of a stream, of which the name before a place is found. A contract sees them as the stream, if
+/// there is one, and whether it was asked for a place.
+#[derive(Drop)]
+pub struct PublicNames<'a> {
+    symbols: Option<&'a SymbolTable<'a>>,
+    asked: bool,
+    // It is made at the second question.
+    table: Option<PublicTable>,
+}
+
+impl<'a> Model for PublicNames<'a> {
+    ghost use Rattle.std.specs.Option.{option_map};
+    ghost use Rattle.pdb_resolve.specs.AskedStream.{AskedStream};
+    ghost use Rattle.pdb_resolve.specs.PublicNames.{publics_in};
+    ghost use Rattle.pdb_resolve.specs.PublicTable.{IsPublicTableIfMade};
+
+    ghost Value = { AskedStream };
+
+    ghost view = { λ n. record { stream = option_map (λ s. s.now) n.symbols; asked = n.asked } };
+
+    ghost invariant = { λ n. IsPublicTableIfMade (publics_in (option_map (λ s. s.now) n.symbols)) n.table };
+}
+
+impl<'a> PublicNames<'a> {
+    /// The public symbols of a stream; none without one. It takes no memory.
+    pub fn new(symbols: Option<&'a SymbolTable<'a>>) -> Self
+        ensures { result ≡ record { stream = option_map (λ s. s.now) symbols.entry; asked = false } }
+    {
+        PublicNames {
+            symbols,
+            asked: false,
+            table: None,
+        }
+    }
+
+    /// The name of the public symbol before a place, as `find`, with a step for each look at a public symbol: never more
+    /// than there are. From the second question on there are at most as many as their number has binary digits; those
+    /// to make the table aren't counted.
+    pub fn find_counted(
+        &mut self,
+        alloc: Global,
+        place: PdbInternalSectionOffset,
+        steps: &mut Steps,
+    ) -> Result<Option<RawString<'a>>>
+        ensures found { IfOk result (λ n. option_map name_bytes n ≡ public_name_at place self.old.stream) }
+        ensures kept { self.new ≡ record { stream = self.old.stream; asked = true } }
+        ensures refused { IfErr result (λ e. e ≡ Error.OutOfMemory) }
+        ensures lean { self.old.asked ≡ false → IsOk result }
+        ensures halved { self.old.asked ≡ true → (digits : ℕ) → length (publics_in self.old.stream) < 2 ^ digits
+            → steps.new.count ≤ steps.old.count + digits }
+        ensures few { steps.new.count ≤ steps.old.count + length (publics_in self.old.stream) }
+    {
+        let asked = self.asked;
+        self.asked = true;
+        let symbols = match self.symbols {
+            Some(symbols) => symbols,
+            None => return Ok(None),
+        };
+        if let Some(table) = &self.table {
+            return Ok(name_in(alloc, symbols, table, place, steps));
+        }
+        if !asked {
+            return Ok(name_listed(alloc, symbols, place, steps));
+        }
+        let table = table_of(alloc, symbols)?;
+        let name = name_in(alloc, symbols, &table, place, steps);
+        self.table = Some(table);
+        Ok(name)
+    }
+
+    /// The name of the public symbol before a place: of those in its section that stand there or before it, the one of
+    /// the greatest offset, and of several at one offset the first listed; none where there is none. A symbol that can't
+    /// be read is as if it weren't there. The first question is one pass over the symbols, which takes no memory; at the
+    /// second a table is made and kept, and later ones are looked up there. It is refused for want of memory alone, and
+    /// may then be asked again.
+    pub fn find(
+        &mut self,
+        alloc: Global,
+        place: PdbInternalSectionOffset,
+    ) -> Result<Option<RawString<'a>>>
+        ensures found { IfOk result (λ n. option_map name_bytes n ≡ public_name_at place self.old.stream) }
+        ensures kept { self.new ≡ record { stream = self.old.stream; asked = true } }
+        ensures refused { IfErr result (λ e. e ≡ Error.OutOfMemory) }
+        ensures lean { self.old.asked ≡ false → IsOk result }
+    {
+        self.find_counted(alloc, place, &mut Steps::new())
+    }
+}

@@ -1,0 +1,205 @@
+//! Ranges of code in the order in which they are listed, and the first that covers a place.
+
+ghost use Rattle.std.specs.Prelude.{◌≡◌, ◌+◌, ◌≤◌, ◌<◌, ◌^◌, ℕ, filter, nat_lt, length, IfOk, IfErr, OnOk, IsTrue, ◌↔◌};
+ghost use Rattle.pdb.specs.PdbInternalSectionOffset.{PdbInternalSectionOffset};
+ghost use Rattle.pdb_resolve.specs.RangeOrder.{Same, Goes, InOrder};
+ghost use Rattle.pdb_resolve.specs.Covering.{payload_upto, covers, first_covering, AreApart};
+ghost use Rattle.pdb_resolve.specs.Sorting.{has_bytes, IsSortOf};
+
+use crate::range::{CodeRange, order_of};
+use pdb::{Error, PdbInternalSectionOffset, Result, Steps};
+use std::alloc::Global;
+use std::marker::Model;
+
+/// Those ranges that have bytes.
+fn with_bytes(alloc: Global, rows: &[CodeRange]) -> Result<Vec<CodeRange>>
+    ensures kept { IfOk result (λ kept. kept.items ≡ filter has_bytes rows.now) }
+    ensures refused { IfErr result (λ e. e ≡ Error.OutOfMemory) }
+{
+    let Ok(mut kept) = Vec::with_capacity(alloc, rows.len()) else {
+        return Err(Error::OutOfMemory);
+    };
+    for row in rows {
+        if row.length > 0 {
+            if kept.push(*row).is_err() {
+                return Err(Error::OutOfMemory);
+            }
+        }
+    }
+    Ok(kept)
+}
+
+/// Sorts ranges by their places; those at one place stay in their order.
+fn sort(ranges: &mut Vec<CodeRange>) -> Result<()>
+    ensures sorted { OnOk result (IsSortOf ranges.old.items ranges.new.items) }
+    ensures refused { IfErr result (λ e. e ≡ Error.OutOfMemory) }
+{
+    match ranges.sort_by_key(|range| range.start()) {
+        Ok(()) => Ok(()),
+        Err(_) => Err(Error::OutOfMemory),
+    }
+}
+
+/// Whether both have the same bytes.
+fn is_same(one: CodeRange, other: CodeRange) -> bool
+    ensures { IsTrue result ↔ Same one other }
+{
+    one.place.section == other.place.section
+        && one.place.offset == other.place.offset
+        && one.length == other.length
+}
+
+/// Whether a range ends before the next one begins, or has the same bytes.
+fn goes_on(one: CodeRange, next: CodeRange) -> bool
+    ensures { IsTrue result ↔ Goes one next }
+{
+    is_same(one, next) || one.end() <= next.start()
+}
+
+/// Whether each range ends before the next ones begin, or has the same bytes.
+fn is_in_order(ranges: &[CodeRange]) -> bool
+    ensures { IsTrue result ↔ InOrder ranges.now }
+{
+    for i in 1..ranges.len() {
+        if !goes_on(ranges[i - 1], ranges[i]) {
+            return false;
+        }
+    }
+    true
+}
+
+/// Whether a range covers a place.
+fn covers(range: CodeRange, place: PdbInternalSectionOffset) -> bool
+    ensures { result ≡ covers place range }
+{
+    range.place.section == place.section
+        && range.place.offset <= place.offset
+        && u64::from(place.offset) < u64::from(range.place.offset) + u64::from(range.length)
+}
+
+/// What stands for a range, where it begins at or before a place.
+fn payload_upto(at: u64, range: CodeRange) -> Option<u32>
+    ensures { result ≡ payload_upto at range }
+{
+    if range.start() <= at {
+        Some(range.payload)
+    } else {
+        None
+    }
+}
+
+/// What stands for the first range that covers a place, where ranges stand in order. They are searched by halving, and
+/// each look at a range takes a step.
+fn halve(ranges: &[CodeRange], place: PdbInternalSectionOffset, steps: &mut Steps) -> Option<u32>
+    requires { InOrder ranges.now }
+    ensures found { result ≡ first_covering place ranges.now }
+    ensures probes { (digits : ℕ) → length ranges.now < 2 ^ digits → steps.new.count ≤ steps.old.count + digits }
+{
+    let at = order_of(place);
+    let mut low = 0;
+    let mut high = ranges.len();
+    let mut found = None;
+    while low < high {
+        let middle = low + (high - low) / 2;
+        steps.tick();
+        let range = ranges[middle];
+        if range.end() <= at {
+            low = middle + 1;
+        } else {
+            high = middle;
+            found = payload_upto(at, range);
+        }
+    }
+    found
+}
+
+/// What stands for the first range that covers a place. They are looked at one by one, and each look takes a step.
+fn look_through(
+    ranges: &[CodeRange],
+    place: PdbInternalSectionOffset,
+    steps: &mut Steps,
+) -> Option<u32>
+    ensures found { result ≡ first_covering place ranges.now }
+    ensures probes { steps.new.count ≤ steps.old.count + length ranges.now }
+{
+    for range in ranges {
+        steps.tick();
+        if covers(*range, place) {
+            return Some(range.payload);
+        }
+    }
+    None
+}
+
+/// Ranges of code, of which the first listed one is found that covers a place. A contract sees them as a list.
+#[derive(Drop)]
+pub struct Ranges {
+    ranges: Vec<CodeRange>,
+    // Whether each ends before the next ones begin, or has the same bytes.
+    in_order: bool,
+}
+
+impl Model for Ranges {
+    ghost use Rattle.std.specs.Prelude.{List, IsTrue, ◌↔◌};
+    ghost use Rattle.pdb_resolve.specs.declared.range.CodeRange.{CodeRange};
+    ghost use Rattle.pdb_resolve.specs.RangeOrder.{InOrder};
+
+    ghost Value = { List CodeRange };
+
+    ghost view = { λ x. x.ranges.items };
+
+    ghost invariant = { λ x. IsTrue x.in_order ↔ InOrder x.ranges.items };
+}
+
+impl Ranges {
+    // These ranges as they are listed.
+    fn of(ranges: Vec<CodeRange>) -> Self
+        ensures { result ≡ ranges.items }
+    {
+        let in_order = is_in_order(ranges.as_slice());
+        Ranges { ranges, in_order }
+    }
+
+    /// The ranges that are listed in `rows`. It is refused for want of memory alone.
+    pub fn new(alloc: Global, rows: &[CodeRange]) -> Result<Self>
+        // What is found at a place is what stands for the first listed range that covers it.
+        ensures same { IfOk result (λ ranges. (q : PdbInternalSectionOffset) → first_covering q ranges ≡ first_covering q rows.now) }
+        // Where any two have the same bytes, or none in common, they are kept in order.
+        ensures apart { IfOk result (λ ranges. AreApart rows.now → InOrder ranges) }
+        ensures few { IfOk result (λ ranges. length ranges ≤ length rows.now) }
+        ensures refused { IfErr result (λ e. e ≡ Error.OutOfMemory) }
+    {
+        let mut sorted = with_bytes(alloc, rows)?;
+        sort(&mut sorted)?;
+        if is_in_order(sorted.as_slice()) {
+            return Ok(Ranges {
+                ranges: sorted,
+                in_order: true,
+            });
+        }
+        Ok(Ranges::of(with_bytes(alloc, rows)?))
+    }
+
+    /// What stands for the first range that covers a place, with a step for each look at a range. Where they are in
+    /// order there are at most as many as the number of ranges has binary digits, and never more than there are
+    /// ranges.
+    pub fn find_counted(&self, place: PdbInternalSectionOffset, steps: &mut Steps) -> Option<u32>
+        ensures found { result ≡ first_covering place self.now }
+        ensures halved { InOrder self.now → (digits : ℕ) → length self.now < 2 ^ digits → steps.new.count ≤ steps.old.count + digits }
+        ensures few { steps.new.count ≤ steps.old.count + length self.now }
+    {
+        let ranges = self.ranges.as_slice();
+        if self.in_order {
+            halve(ranges, place, steps)
+        } else {
+            look_through(ranges, place, steps)
+        }
+    }
+
+    /// What stands for the first range that covers a place. It takes no memory.
+    pub fn find(&self, place: PdbInternalSectionOffset) -> Option<u32>
+        ensures { result ≡ first_covering place self.now }
+    {
+        self.find_counted(place, &mut Steps::new())
+    }
+}

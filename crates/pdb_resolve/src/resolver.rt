@@ -1,0 +1,163 @@
+//! What code stands at the addresses of a file.
+
+ghost use Rattle.std.specs.Prelude.{◌≡◌, ◌++◌, false, map, option_copied, IfOk, IfErr, OnOk};
+ghost use Rattle.pdb.specs.Source.{Continues, MayFail};
+ghost use Rattle.pdb.specs.Answers.{address_map_in, debug_information_in};
+ghost use Rattle.pdb_resolve.specs.AsIfEmpty.{if_read, OnlyFails};
+ghost use Rattle.pdb_resolve.specs.Frames.{frames_text};
+ghost use Rattle.pdb_resolve.specs.Resolved.{place_of_file, frames_of_file};
+ghost use Rattle.pdb_resolve.specs.KeptFrames.{shown_frame};
+
+use crate::address_places::AddressPlaces;
+use crate::frames::{Frame, frame_without_line, push_frame};
+use crate::global_names::GlobalNames;
+use crate::kept_file::KeptFile;
+use crate::module_places::ModulePlaces;
+use crate::modules::modules_from;
+use crate::name_tables::NameTables;
+use crate::part::Part;
+use crate::streams::Streams;
+use crate::tables::Tables;
+use crate::text::put_frames;
+use pdb::{
+    AddressMap, DebugInformation, Error, Meaning, PDB, PdbInternalSectionOffset, Result, Source,
+};
+use std::alloc::Global;
+use std::marker::Model;
+use std::slice;
+
+/// What code stands at the addresses of a file: which functions, inlined ones too, and which lines. What is read of the
+/// file is kept: the list of modules and the address map from the start, all else from where it is first needed. Each
+/// answer is that of the file's bytes, whatever was asked before. A contract sees it as the state of its source.
+#[derive(Drop)]
+pub struct Resolver<'a, 's, S: Meaning> {
+    alloc: Global,
+    pdb: PDB<'s, S>,
+    places: AddressPlaces<'s>,
+    // In a box, so that a caller's resolver is dropped whole.
+    kept: Box<KeptFile<'a, 's>>,
+}
+
+impl<'a, 's, S: Meaning> Model for Resolver<'a, 's, S> {
+    ghost use Rattle.std.specs.Prelude.{◌≡◌};
+    ghost use Rattle.pdb.specs.Source.{State};
+    ghost use Rattle.pdb.specs.Answers.{address_map_in};
+    ghost use Rattle.pdb_resolve.specs.AsIfEmpty.{if_read};
+    ghost use Rattle.pdb_resolve.specs.KeptNames.{IsFileKept};
+
+    ghost Value = { State };
+
+    ghost view = { λ r. r.pdb };
+
+    ghost invariant = { λ r. (r.places ≡ if_read (address_map_in r.pdb.file)) × IsFileKept r.pdb.file r.kept.value };
+}
+
+/// The DBI stream; none where it is refused.
+fn information_of<'a, 's, S: Source<'s>>(
+    pdb: &mut PDB<'s, S>,
+    room: &'a mut Option<DebugInformation<'s>>,
+) -> Result<Option<&'a DebugInformation<'s>>>
+    ensures continues { Continues pdb.old pdb.new }
+    ensures is { IfOk result (λ o. option_copied o ≡ if_read (debug_information_in pdb.old.file)) }
+    ensures refused { IfErr result (λ e. OnlyFails (MayFail pdb.old pdb.new) e) }
+{
+    Part::unasked(slice::from_mut(room)).keep(pdb.debug_information())
+}
+
+/// The address map; none where it is refused.
+fn address_map_of<'s, S: Source<'s>>(pdb: &mut PDB<'s, S>) -> Result<Option<AddressMap<'s>>>
+    ensures continues { Continues pdb.old pdb.new }
+    ensures is { IfOk result (λ o. o ≡ if_read (address_map_in pdb.old.file)) }
+    ensures refused { IfErr result (λ e. OnlyFails (MayFail pdb.old pdb.new) e) }
+{
+    match pdb.address_map() {
+        Ok(map) => Ok(Some(map)),
+        Err(Error::OutOfMemory) => Err(Error::OutOfMemory),
+        Err(Error::IoError) => Err(Error::IoError),
+        Err(_) => Ok(None),
+    }
+}
+
+impl<'a, 's, S: Source<'s>> Resolver<'a, 's, S> {
+    /// Reads the address map and the list of modules of an opened file; a part that is refused is as if it weren't
+    /// there. `OutOfMemory`, and `IoError` where the source failed, are passed on. What `streams` held is dropped.
+    pub fn new(alloc: Global, pdb: PDB<'s, S>, streams: &'a mut Streams<'s>) -> Result<Self>
+        ensures continues { IfOk result (λ r. Continues pdb.entry r) }
+        ensures refused { IfErr result (λ e. OnlyFails (pdb.entry.steady ≡ false) e) }
+    {
+        let mut pdb = pdb;
+        let information = information_of(&mut pdb, &mut streams.information)?;
+        let places = AddressPlaces::new(address_map_of(&mut pdb)?);
+        let modules = modules_from(alloc, information, &mut streams.modules)?;
+        let module_places = ModulePlaces::new(information);
+        let tables = Tables {
+            strings: Part::unasked(slice::from_mut(&mut streams.strings)),
+            names: NameTables {
+                ids: Part::unasked(slice::from_mut(&mut streams.ids)),
+                types: Part::unasked(slice::from_mut(&mut streams.types)),
+                made: None,
+            },
+            globals: GlobalNames {
+                globals: Part::unasked(slice::from_mut(&mut streams.globals)),
+                publics: None,
+            },
+        };
+        let kept = KeptFile {
+            module_places,
+            modules,
+            tables,
+        };
+        Ok(Resolver {
+            alloc,
+            pdb,
+            places,
+            kept: Box::new(alloc, kept)?,
+        })
+    }
+
+    /// The place of a relative virtual address, by the address map and the original sections; none where it has none.
+    /// It takes no memory.
+    pub fn place(&self, address: u32) -> Option<PdbInternalSectionOffset>
+        ensures { result ≡ place_of_file self.now.file address }
+    {
+        self.places.place(address)
+    }
+
+    /// The frames of a place, from the innermost outwards: the functions that were inlined there, and then the function
+    /// itself; where none is known, one frame with the name of the public symbol before the place. Without a place it is
+    /// one frame that tells nothing. `OutOfMemory`, and `IoError` where the source failed, are passed on; the same call
+    /// may then be made again. Where memory ended behind a module's stream, the stream's room isn't given back: once
+    /// no room is left, modules that weren't read are answered with `OutOfMemory`.
+    #[tactic(auto, unfolding(crate::specs::Resolved::frames_of_file))]
+    pub fn frames(&mut self, place: Option<PdbInternalSectionOffset>) -> Result<Vec<Frame<'a>>>
+        ensures continues { Continues self.old self.new }
+        ensures frames { IfOk result (λ fs. map shown_frame fs.items ≡ frames_of_file self.old.file place) }
+        ensures refused { IfErr result (λ e. OnlyFails (MayFail self.old self.new) e) }
+    {
+        match place {
+            Some(place) => self.kept.frames(self.alloc, &mut self.pdb, place),
+            None => {
+                let mut frames = Vec::new(self.alloc);
+                push_frame(&mut frames, frame_without_line(None))?;
+                Ok(frames)
+            }
+        }
+    }
+
+    /// Puts the text of the frames of a place behind what is there: of each frame the function's name on a line, and
+    /// the file, the line and the column on the next, with `:` between them; then an empty line. It is refused as
+    /// `frames` is; then `out` may have a part of the text.
+    pub fn put_text(
+        &mut self,
+        out: &mut Vec<u8>,
+        place: Option<PdbInternalSectionOffset>,
+    ) -> Result<()>
+        ensures continues { Continues self.old self.new }
+        ensures text { OnOk result (out.new.items ≡ out.old.items ++ frames_text (frames_of_file self.old.file place)) }
+        ensures refused { IfErr result (λ e. OnlyFails (MayFail self.old self.new) e) }
+    {
+        let frames = self.frames(place)?;
+        put_frames(out, frames.as_slice())?;
+        Ok(())
+    }
+}

@@ -1,0 +1,123 @@
+//! What the names of frames are found by.
+
+ghost use Rattle.std.specs.Prelude.{◌≡◌, ◌++◌, [], ◌∷◌, map, reverse, option_copied, IfOk, IfErr, IsSome, None};
+ghost use Rattle.std.specs.Option.{option_map};
+ghost use Rattle.pdb.specs.Text.{name_bytes};
+ghost use Rattle.pdb.specs.Source.{Continues, MayFail};
+ghost use Rattle.pdb.specs.Answers.{string_table_in};
+ghost use Rattle.pdb_resolve.specs.AsIfEmpty.{if_read, OnlyFails};
+ghost use Rattle.pdb_resolve.specs.FileParts.{names_in};
+ghost use Rattle.pdb_resolve.specs.Frames.{frames_in, inlined_frame, outer_name};
+ghost use Rattle.pdb_resolve.specs.ModuleCode.{program_in, inlined_at};
+ghost use Rattle.pdb_resolve.specs.Resolved.{public_of_file};
+ghost use Rattle.pdb_resolve.specs.KeptFrames.{shown_frame};
+ghost use Rattle.pdb_resolve.specs.KeptParts.{IsAskedOf, AreTablesOf, AreGlobalsOf};
+
+use crate::frames::{Frame, push_inlined, push_outer};
+use crate::global_names::GlobalNames;
+use crate::module_code::ModuleCode;
+use crate::name_tables::NameTables;
+use crate::part::Part;
+use pdb::{Error, PDB, PdbInternalSectionOffset, RawString, Result, Source, StringTable};
+use std::alloc::Global;
+
+/// The string table, the names of functions, and the public symbols.
+#[derive(Drop)]
+pub(crate) struct Tables<'a, 's> {
+    pub(crate) strings: Part<'a, StringTable<'s>>,
+    pub(crate) names: NameTables<'a, 's>,
+    pub(crate) globals: GlobalNames<'a, 's>,
+}
+
+/// The string table.
+fn strings_asked<'a, 's, S: Source<'s>>(
+    pdb: &mut PDB<'s, S>,
+    part: &mut Part<'a, StringTable<'s>>,
+) -> Result<Option<&'a StringTable<'s>>>
+    requires { IsAskedOf (if_read (string_table_in pdb.old.file)) part.old }
+    ensures continues { Continues pdb.old pdb.new }
+    ensures asked { IsAskedOf (if_read (string_table_in pdb.old.file)) part.new }
+    ensures is { IfOk result (λ o. option_copied o ≡ if_read (string_table_in pdb.old.file)) }
+    ensures refused { IfErr result (λ e. OnlyFails (MayFail pdb.old pdb.new) e) }
+{
+    if part.asked {
+        return Ok(part.there);
+    }
+    part.keep(pdb.string_table())
+}
+
+/// The frames of the functions that were inlined at a place, from the last site to the first.
+#[tactic(auto, unfolding(crate::specs::FileParts::names_in))]
+fn inlined_frames<'a, 's, S: Source<'s>>(
+    alloc: Global,
+    pdb: &mut PDB<'s, S>,
+    names: &mut NameTables<'a, 's>,
+    code: &ModuleCode<'a>,
+    strings: Option<&'a StringTable<'a>>,
+    place: PdbInternalSectionOffset,
+) -> Result<Vec<Frame<'a>>>
+    requires names { AreTablesOf pdb.old.file names.old }
+    requires strings { option_copied strings ≡ if_read (string_table_in pdb.old.file) }
+    ensures continues { Continues pdb.old pdb.new }
+    ensures kept { AreTablesOf pdb.old.file names.new }
+    ensures frames { IfOk result (λ fs. map shown_frame fs.items ≡ map (inlined_frame (names_in pdb.old.file) (program_in code.now)) (reverse (inlined_at place code.now))) }
+    ensures refused { IfErr result (λ e. OnlyFails (MayFail pdb.old pdb.new) e) }
+{
+    let calls = code.inlined(alloc, place)?;
+    let mut frames = Vec::new(alloc);
+    if calls.is_empty() {
+        return Ok(frames);
+    }
+    names.make(alloc, pdb)?;
+    match &names.made {
+        Some(made) => push_inlined(&mut frames, code, made, strings, calls.as_slice())?,
+        None => return Err(Error::OutOfMemory),
+    }
+    Ok(frames)
+}
+
+/// The name of the function at a place, or of the public symbol before it where no function is there.
+fn outer_name<'a, 's, S: Source<'s>>(
+    alloc: Global,
+    pdb: &mut PDB<'s, S>,
+    globals: &mut GlobalNames<'a, 's>,
+    code: &ModuleCode<'a>,
+    place: PdbInternalSectionOffset,
+) -> Result<Option<RawString<'a>>>
+    requires { AreGlobalsOf pdb.old.file globals.old }
+    ensures continues { Continues pdb.old pdb.new }
+    ensures kept { AreGlobalsOf pdb.old.file globals.new }
+    ensures name { IfOk result (λ n. option_map name_bytes n ≡ outer_name (public_of_file pdb.old.file place) place code.now) }
+    ensures refused { IfErr result (λ e. OnlyFails (MayFail pdb.old pdb.new) e) }
+{
+    match code.function(place) {
+        Some(_) => code.function_name(alloc, place),
+        None => globals.find(alloc, pdb, place),
+    }
+}
+
+impl<'a, 's> Tables<'a, 's> {
+    ghost use Rattle.pdb_resolve.specs.KeptNames.{AreNamesOf};
+
+    /// The frames of a place in a module.
+    #[tactic(auto, unfolding(crate::specs::Frames::frames_in, crate::specs::FileParts::names_in))]
+    pub(crate) fn frames<S: Source<'s>>(
+        &mut self,
+        alloc: Global,
+        pdb: &mut PDB<'s, S>,
+        code: &ModuleCode<'a>,
+        place: PdbInternalSectionOffset,
+    ) -> Result<Vec<Frame<'a>>>
+        requires { AreNamesOf pdb.old.file self.old }
+        ensures continues { Continues pdb.old pdb.new }
+        ensures kept { AreNamesOf pdb.old.file self.new }
+        ensures frames { IfOk result (λ fs. map shown_frame fs.items ≡ frames_in (names_in pdb.old.file) (public_of_file pdb.old.file place) place code.now) }
+        ensures refused { IfErr result (λ e. OnlyFails (MayFail pdb.old pdb.new) e) }
+    {
+        let strings = strings_asked(pdb, &mut self.strings)?;
+        let mut frames = inlined_frames(alloc, pdb, &mut self.names, code, strings, place)?;
+        let name = outer_name(alloc, pdb, &mut self.globals, code, place)?;
+        push_outer(&mut frames, code, strings, name, place)?;
+        Ok(frames)
+    }
+}

@@ -1,0 +1,73 @@
+//! The text of frames.
+
+ghost use Rattle.std.specs.Prelude.{◌≡◌, ◌++◌, codes, map, flat_map, OnOk};
+ghost use Rattle.std.specs.Option.{option_map};
+ghost use Rattle.pdb.specs.Qualified.{shown_qualified};
+ghost use Rattle.pdb.specs.Text.{name_bytes};
+ghost use Rattle.pdb_resolve.specs.Frames.{qualified_text, scope_text, file_text, frame_text, frames_text};
+ghost use Rattle.pdb_resolve.specs.KeptFrames.{shown_frame};
+
+use crate::frames::Frame;
+use pdb::{QualifiedName, RawString};
+use pdb_text::{put_decimal, put_line_end};
+use std::alloc::AllocError;
+
+/// What stands before a name.
+fn put_scope(out: &mut Vec<u8>, scope: Option<RawString<'_>>) -> Result<(), AllocError>
+    ensures { OnOk result (out.new.items ≡ out.old.items ++ scope_text (option_map name_bytes scope.entry)) }
+{
+    match scope {
+        Some(scope) => {
+            out.extend_from_slice(scope.as_bytes())?;
+            out.extend_from_slice(b"::")
+        }
+        None => Ok(()),
+    }
+}
+
+/// A function's name, or `??` where there is none.
+fn put_name(out: &mut Vec<u8>, name: Option<QualifiedName<'_>>) -> Result<(), AllocError>
+    ensures { OnOk result (out.new.items ≡ out.old.items ++ qualified_text (option_map shown_qualified name.entry)) }
+{
+    match name {
+        Some(name) => {
+            put_scope(out, name.scope)?;
+            out.extend_from_slice(name.name.as_bytes())
+        }
+        None => out.extend_from_slice(b"??"),
+    }
+}
+
+/// A file's name, or `??` where there is none.
+fn put_file(out: &mut Vec<u8>, file: Option<RawString<'_>>) -> Result<(), AllocError>
+    ensures { OnOk result (out.new.items ≡ out.old.items ++ file_text (option_map name_bytes file.entry)) }
+{
+    match file {
+        Some(file) => out.extend_from_slice(file.as_bytes()),
+        None => out.extend_from_slice(b"??"),
+    }
+}
+
+/// A frame's name on a line, and its file, line and column on the next, with `:` between them.
+pub fn put_frame(out: &mut Vec<u8>, frame: &Frame<'_>) -> Result<(), AllocError>
+    ensures { OnOk result (out.new.items ≡ out.old.items ++ frame_text (shown_frame frame.now)) }
+{
+    put_name(out, frame.name)?;
+    put_line_end(out)?;
+    put_file(out, frame.file)?;
+    out.push(b':')?;
+    put_decimal(out, u64::from(frame.line))?;
+    out.push(b':')?;
+    put_decimal(out, u64::from(frame.column))?;
+    put_line_end(out)
+}
+
+/// The text of the frames of an address: each frame's two lines, and an empty line.
+pub fn put_frames(out: &mut Vec<u8>, frames: &[Frame<'_>]) -> Result<(), AllocError>
+    ensures { OnOk result (out.new.items ≡ out.old.items ++ frames_text (map shown_frame frames.now)) }
+{
+    for frame in frames {
+        put_frame(out, frame)?;
+    }
+    put_line_end(out)
+}

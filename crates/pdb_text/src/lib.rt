@@ -1,0 +1,9 @@
+//! Pieces of text that programs share.
+#![tactic(auto)]
+
+mod digits;
+
+pub use digits::{
+    decimal2, hex4, hex8, hex8_field, put_decimal, put_field, put_hex_bytes, put_hex2, put_hex4,
+    put_hex8, put_line_end,
+};
