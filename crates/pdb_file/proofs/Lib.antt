@@ -1,2 +1,4 @@
 pub mod Parts
 pub mod Files
+pub mod GivenBytes
+pub mod NoneHeld

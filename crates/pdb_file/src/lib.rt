@@ -3,11 +3,14 @@
 #![tactic(auto)]
 
 mod asking;
+#[cfg(test)]
+mod fakes;
 mod held;
 mod missed;
 mod reading;
 mod run;
 mod source;
+mod whole;
 
 pub use asking::{Asks, fetch_asked};
 pub use held::Held;
@@ -15,6 +18,7 @@ pub use missed::Missed;
 pub use reading::{FetchError, Fetched, ReadAt, fetch};
 pub use run::Run;
 pub use source::{AnyFile, HeldSource, KnownFile, Meant};
+pub use whole::{MOST_BYTES, read_all};
 
 #[cfg(test)]
 mod tests;

@@ -1,6 +1,5 @@
-pub mod Reading
 pub mod Refused
-pub mod Written
+pub mod Wrote
 pub mod Spelling
 pub mod Stopped
 pub mod SampleFacts

@@ -1,8 +1,6 @@
 -- What a fault of the program says of the run that stopped.
-use Rattle.std.proofs.Common.{◌≡◌, ℕ, List, [], length, ◌⊎◌, inl, inr, Result, Err, refl}
+use Rattle.std.proofs.Common.{◌≡◌, ℕ, ◌⊎◌, inl, inr, Result, Err, refl}
 use Rattle.std.specs.Prelude.{IsErrOf, IsErrAnd}
-use Rattle.std.proofs.lemmas.List.Elements.{All-nil}
-use Rattle.pdb_file.specs.HeldBytes.{Kept, IsOf, IsRunOf}
 use Rattle.pdb_list.specs.declared.engine.RunError.{RunError}
 use Rattle.pdb_list.specs.declared.engine.RunError.TheVariants as run
 use Rattle.pdb_list.specs.declared.report.Fault.{Fault}
@@ -27,7 +25,3 @@ pub only_open : {T : Type 0} (e : RunError) (f : Fault) (n : ℕ) (r : Result T 
 only_open run.OutOfMemory f n r s h told = absurd cc
 only_open run.Write f n r s h told = absurd cc
 only_open (run.Open x) f n r s h told = rw (told x refl) cc
-
--- a file of which nothing is held
-pub none_held : (file : List ℕ) (k : Kept) (n : ℕ) → k ≡ record { size = n; runs = [] } → length file ≡ n → IsOf file k
-none_held file k n e same = rw e (record { size = same; agrees = All-nil (IsRunOf file) })

@@ -1,4 +1,4 @@
-pub mod Written
+pub mod Wrote
 pub mod Faults
 pub mod Words
 pub mod Texts

@@ -7,7 +7,8 @@ ghost use Rattle.pdb.specs.Error.TheVariants.{OutOfMemory};
 ghost use Rattle.pdb.specs.Source.{State, Continues};
 ghost use Rattle.pdb.specs.Container.{opens};
 ghost use Rattle.pdb_list.specs.Chosen.{IsListOf, KeptOf, listed};
-ghost use Rattle.pdb_list.specs.Written.{Wrote, WroteFirst, WroteFront};
+ghost use Rattle.pdb_text.specs.Written.{WroteFirst, WroteFront};
+ghost use Rattle.pdb_list.specs.Wrote.{Wrote};
 ghost use Rattle.pdb_list.specs.CommandTexts.{command_text, of_module_text, run_error_of, texts};
 ghost use Rattle.pdb_list.specs.ModuleTexts.{module_text, text_of_module};
 ghost use Rattle.pdb_list.specs.Texts.{error_text};
@@ -26,6 +27,7 @@ use crate::sections::put_sections;
 use crate::symbols::{put_globals, put_symbols_of};
 use crate::text::{put_none, put_refusal};
 use pdb::{Error, ModuleInfo, PDB, Source};
+use pdb_text::{WriteFailed, write_out};
 use std::alloc::{AllocError, Global};
 use std::io::Write;
 
@@ -50,10 +52,6 @@ impl From<AllocError> for RunError {
     }
 }
 
-/// The writer failed, or took nothing.
-#[derive(Clone, Copy, Debug, PartialEq, Eq)]
-pub struct WriteFailed;
-
 impl From<WriteFailed> for RunError {
     ghost use Rattle.pdb_list.specs.declared.engine.RunError.TheVariants.{Write};
 
@@ -62,21 +60,6 @@ impl From<WriteFailed> for RunError {
     fn from(_e: WriteFailed) -> RunError {
         RunError::Write
     }
-}
-
-/// Writes all of the bytes. Where the writer fails or takes nothing, a beginning of them was written.
-pub fn write_out<W: Write>(out: &mut W, bytes: &[u8]) -> Result<(), WriteFailed>
-    ensures ok { OnOk result (Appends (W.contents out.old) (W.contents out.new) bytes.now) }
-    ensures err { OnErr result (WroteFront (W.contents out.old) (W.contents out.new) bytes.now) }
-{
-    let mut at = 0;
-    while at < bytes.len() {
-        match out.write(&bytes[at..]) {
-            Ok(0) | Err(_) => return Err(WriteFailed),
-            Ok(n) => at += n,
-        }
-    }
-    Ok(())
 }
 
 /// A file that can't be opened stops a run; want of memory is told as such.
@@ -349,94 +332,4 @@ pub fn run<'s, S: Source<'s>, W: Write>(
 {
     let mut written = 0;
     run_counted(alloc, source, commands, out, &mut written)
-}
-
-#[cfg(test)]
-mod tests {
-    use super::*;
-    use crate::fakes::{FailsOnce, Slow, is};
-
-    #[test]
-    fn writes_all_or_a_beginning(rt: HostRuntime) {
-        let line = b"symbol 00000000";
-        let mut whole = Slow::new(rt.alloc(), 64, 64);
-        is(
-            &rt,
-            "write_out(&mut whole, line)",
-            &write_out(&mut whole, line),
-            &Ok(()),
-        );
-        is(&rt, "whole.taken()", &whole.taken(), &line.as_slice());
-        let mut bytewise = Slow::new(rt.alloc(), 1, 64);
-        is(
-            &rt,
-            "write_out(&mut bytewise, line)",
-            &write_out(&mut bytewise, line),
-            &Ok(()),
-        );
-        is(&rt, "bytewise.taken()", &bytewise.taken(), &line.as_slice());
-        let mut fourth_fails = Slow::new(rt.alloc(), 3, 3);
-        is(
-            &rt,
-            "write_out(&mut fourth_fails, line)",
-            &write_out(&mut fourth_fails, line),
-            &Err(WriteFailed),
-        );
-        is(
-            &rt,
-            "fourth_fails.taken()",
-            &fourth_fails.taken(),
-            &b"symbol 00".as_slice(),
-        );
-        let mut takes_nothing = Slow::new(rt.alloc(), 0, 64);
-        is(
-            &rt,
-            "write_out(&mut takes_nothing, line)",
-            &write_out(&mut takes_nothing, line),
-            &Err(WriteFailed),
-        );
-        assert!(rt; takes_nothing.taken().is_empty());
-        is(
-            &rt,
-            "write_out(&mut takes_nothing, ..)",
-            &write_out(&mut takes_nothing, b""),
-            &Ok(()),
-        );
-    }
-
-    #[test]
-    fn fails_after_each_count_of_calls(rt: HostRuntime) {
-        for calls in 0..7u32 {
-            let mut out = Slow::new(rt.alloc(), 1, calls);
-            let written = write_out(&mut out, b"error\n");
-            is(&rt, "written.is_ok()", &written.is_ok(), &(calls == 6));
-            is(
-                &rt,
-                "out.taken()",
-                &out.taken(),
-                &(b"error\n".split_at(calls.min(6) as usize).0),
-            );
-        }
-    }
-
-    #[test]
-    fn no_failed_write_is_tried_again(rt: HostRuntime) {
-        for call in 0..3u32 {
-            let mut out = FailsOnce::at(rt.alloc(), call);
-            let written = write_out(&mut out, b"error\n");
-            is(&rt, "written", &written, &Err(WriteFailed));
-            let taken = b"error\n".split_at(2 * call as usize).0;
-            is(&rt, "out.taken()", &out.taken(), &taken);
-        }
-    }
-
-    #[test]
-    fn writes_long_texts(rt: HostRuntime) -> std::result::Result<(), AllocError> {
-        let mut text = Vec::new(rt.alloc());
-        text.resize(300_000, b'x')?;
-        let mut out = Slow::new(rt.alloc(), 65_536, 64);
-        is(&rt, "written", &write_out(&mut out, &text), &Ok(()));
-        is(&rt, "out.taken().len()", &out.taken().len(), &300_000);
-        Ok(())
-    }
 }

@@ -7,15 +7,16 @@ ghost use Rattle.pdb.specs.Error.{Error};
 ghost use Rattle.pdb.specs.Container.{opens};
 ghost use Rattle.pdb.specs.Refusal.{number_of};
 ghost use Rattle.pdb_file.specs.HeldBytes.{IsOf};
-ghost use Rattle.pdb_list.specs.Written.{WroteFirst, WroteFront};
+ghost use Rattle.pdb_text.specs.Written.{WroteFirst, WroteFront};
 ghost use Rattle.pdb_list.specs.CommandTexts.{command_text, texts};
 
 use crate::command::Command;
 use crate::engine::{RunError, run_counted};
-use crate::input::MOST_BYTES;
 use crate::report::Fault;
 use crate::streams_asked::StreamsAsked;
-use pdb_file::{Fetched, Held, HeldSource, KnownFile, Meant, Missed, ReadAt, fetch, fetch_asked};
+use pdb_file::{
+    Fetched, Held, HeldSource, KnownFile, MOST_BYTES, Meant, Missed, ReadAt, fetch, fetch_asked,
+};
 use std::alloc::Global;
 use std::io::Write;
 
@@ -87,7 +88,7 @@ pub fn run_in_parts<R: ReadAt, F: Meant, W: Write>(
 }
 
 /// Lists what the commands ask for of a file of this size: asks for the streams that they read, and then runs.
-#[tactic(auto, using(crate::proofs::Written::first_none))]
+#[tactic(auto, using(pdb_text::proofs::Written::first_none))]
 pub fn list_in_parts<R: ReadAt, W: Write>(
     alloc: Global,
     input: &R,

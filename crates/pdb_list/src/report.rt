@@ -3,12 +3,13 @@
 ghost use Rattle.std.specs.Prelude.{◌≡◌, OnOk, OnErr};
 ghost use Rattle.std.specs.Io.KnownBytes.{Appends};
 ghost use Rattle.std.specs.Fmt.{decimal};
-ghost use Rattle.pdb_list.specs.Written.{WroteFront};
+ghost use Rattle.pdb_text.specs.Written.{WroteFront};
 ghost use Rattle.pdb_list.specs.Faults.{fault_line, status_of};
 
 use crate::command::WordsError;
-use crate::engine::{RunError, WriteFailed, write_out};
+use crate::engine::RunError;
 use pdb_file::FetchError;
+use pdb_text::{WriteFailed, write_out};
 use std::alloc::AllocError;
 use std::io::Write;
 
@@ -108,7 +109,7 @@ fn write_line<W: Write>(fault: &Fault, out: &mut W) -> Result<(), WriteFailed>
 
 /// Writes the fault's line and answers the exit status, from 2 to 6. Where `err` fails, a beginning of the line was
 /// written, and the status is the same.
-#[tactic(auto, using(crate::proofs::Written::front_all))]
+#[tactic(auto, using(pdb_text::proofs::Written::front_all))]
 pub fn report<W: Write>(fault: &Fault, err: &mut W) -> u8
     ensures status { result ≡ status_of fault.now }
     ensures line { WroteFront (W.contents err.old) (W.contents err.new) (fault_line fault.now) }

@@ -1,8 +1,9 @@
 use Rattle.std.proofs.Common.{◌≡◌, true}
 use Rattle.std.proofs.lemmas.List.{take-append-drop}
 use Rattle.pdb_list.specs.CommandTexts.{command_text}
-use Rattle.pdb_list.specs.Written.{Wrote}
-use Rattle.pdb_list.proofs.Written.{on_ok, wrote_all, wrote_first, wrote_front, wrote_stopped, wrote_then}
+use Rattle.pdb_list.specs.Wrote.{Wrote}
+use Rattle.pdb_text.proofs.Written.{on_ok}
+use Rattle.pdb_list.proofs.Wrote.{wrote_all, wrote_first, wrote_front, wrote_stopped, wrote_then}
 use Rattle.pdb_list.proofs.engine.run_counted.Given as given
 use Rattle.pdb_list.proofs.engine.run_counted.Goals as goal
 

@@ -2,7 +2,7 @@ use Rattle.std.proofs.Common.{refl, [], ◌∷◌, flat_map}
 use Rattle.std.specs.Io.KnownBytes.{Appends}
 use Rattle.std.proofs.lemmas.List.{append-nil}
 use Rattle.pdb_list.specs.CommandTexts.{command_text}
-use Rattle.pdb_list.proofs.Written.{wrote_then}
+use Rattle.pdb_list.proofs.Wrote.{wrote_then}
 use Rattle.pdb_list.proofs.engine.write_refused.Goals as goal
 
 pub returns-clause-wrote : goal.returns-clause-wrote

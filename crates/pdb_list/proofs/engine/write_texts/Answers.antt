@@ -2,7 +2,8 @@ use Rattle.std.proofs.Common.{◌≡◌, true, ◌∙◌, arith}
 use Rattle.pdb_list.specs.declared.command.Command.TheVariants.{Info}
 use Rattle.pdb_list.specs.Chosen.{KeptOf}
 use Rattle.pdb_list.specs.CommandTexts.{command_text}
-use Rattle.pdb_list.proofs.Written.{texts_front, texts_more, wrote_failed}
+use Rattle.pdb_text.proofs.Written.{texts_front, texts_more}
+use Rattle.pdb_list.proofs.Wrote.{wrote_failed}
 use Rattle.pdb_list.proofs.engine.write_texts.Goals as goal
 
 pub returns-in_err-write_out-clause-wrote : goal.returns-in_err-write_out-clause-wrote

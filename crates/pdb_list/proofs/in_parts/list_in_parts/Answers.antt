@@ -1,6 +1,6 @@
 use Rattle.std.proofs.Common.{ap, ◌∙◌}
 use Rattle.pdb_file.specs.HeldBytes.{known_or_empty}
-use Rattle.pdb_list.proofs.Stopped.{none_held}
+use Rattle.pdb_file.proofs.NoneHeld.{none_held}
 use Rattle.pdb_list.proofs.in_parts.list_in_parts.Goals as goal
 
 pub returns-clause-ok : goal.returns-clause-ok

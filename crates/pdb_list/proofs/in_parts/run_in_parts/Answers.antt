@@ -2,7 +2,7 @@ use Rattle.std.proofs.Common.{◌≡◌, ◌+◌, ap, Err, arith}
 use Rattle.pdb_list.specs.declared.engine.RunError.TheVariants.{OutOfMemory, Write}
 use Rattle.pdb_list.specs.CommandTexts.{command_text}
 use Rattle.pdb_list.proofs.Stopped.{only_memory, only_open, only_write}
-use Rattle.pdb_list.proofs.Written.{first_more, first_front}
+use Rattle.pdb_text.proofs.Written.{first_more, first_front}
 use Rattle.pdb_list.proofs.in_parts.run_in_parts.Goals as goal
 
 pub returns-in-Err-clause-stopped : goal.returns-in-Err-clause-stopped

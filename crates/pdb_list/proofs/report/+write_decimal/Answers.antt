@@ -1,6 +1,6 @@
 use Rattle.std.proofs.Common.{arith}
 use Rattle.std.proofs.lemmas.Fmt.{decimal_step}
-use Rattle.pdb_list.proofs.Written.{any_err, on_ok, on_err, appends_then, front_of, front_then}
+use Rattle.pdb_text.proofs.Written.{any_err, on_ok, on_err, appends_then, front_of, front_then}
 use Rattle.pdb_list.proofs.report.+write_decimal.Goals as goal
 
 pub returns-in_err-write_decimal-clause-err : goal.returns-in_err-write_decimal-clause-err

@@ -1,7 +1,7 @@
 use Rattle.std.proofs.Common.{ap, codes, ◌++◌}
 use Rattle.std.specs.Fmt.{decimal}
 use Rattle.pdb_list.specs.Faults.{fault_line}
-use Rattle.pdb_list.proofs.Written.{any_err, on_ok, on_err, appends_then, front_of, front_then}
+use Rattle.pdb_text.proofs.Written.{any_err, on_ok, on_err, appends_then, front_of, front_then}
 use Rattle.pdb_list.proofs.report.write_line.Goals as goal
 
 pub returns-in_err-write_out-in-Open-clause-err : goal.returns-in_err-write_out-in-Open-clause-err

@@ -1,5 +1,5 @@
 use Rattle.pdb_list.proofs.Refused.{refused_is}
-use Rattle.pdb_list.proofs.Written.{on_ok}
+use Rattle.pdb_text.proofs.Written.{on_ok}
 use Rattle.pdb_list.proofs.symbols.put_record.Goals as goal
 
 pub returns-in-Err : goal.returns-in-Err

@@ -1,0 +1,144 @@
+//! A file, read whole.
+
+ghost use Rattle.std.specs.Prelude.{◌≡◌, ◌≤◌, ◌<◌, ◌⊎◌, ◌+◌, drop, take, length, IfOk, IfErr, OnOk, vec_len};
+ghost use Rattle.std.specs.Io.KnownBytes.{Consumes, IsAtEnd};
+
+use crate::reading::FetchError;
+use std::alloc::{AllocError, Global};
+use std::io::{self, Read};
+
+/// The most bytes that a file may have.
+pub const MOST_BYTES: usize = 1099511627776;
+
+/// How many bytes are asked for at a time.
+const CHUNK: usize = 16384;
+
+/// By how many bytes the room for them grows at a time.
+const PIECE: usize = 2048;
+
+/// Room for the next bytes, behind those that are there.
+fn make_room(bytes: &mut Vec<u8>) -> Result<(), AllocError>
+    ensures front { OnOk result (take (vec_len bytes.old) bytes.new.items ≡ bytes.old.items) }
+    ensures len { OnOk result (vec_len bytes.new ≡ vec_len bytes.old + 16384) }
+{
+    for _ in 0..CHUNK / PIECE {
+        bytes.resize(bytes.len() + PIECE, 0)?;
+    }
+    Ok(())
+}
+
+/// The next bytes that a reader gives, put at a place; answers how many.
+fn read_at<R: Read>(bytes: &mut [u8], at: usize, input: &mut R) -> io::Result<usize>
+    requires { at < length bytes.old }
+    ensures front { take at bytes.new ≡ take at bytes.old }
+    ensures fits { IfOk result (λ n. at + n ≤ length bytes.new) }
+    ensures told { IfOk result (λ n. Consumes (R.remaining input.old) (R.remaining input.new) (take n (drop at bytes.new))) }
+    ensures end { IfOk result (λ n. n ≡ 0 → IsAtEnd (R.remaining input.new)) }
+{
+    input.read(&mut bytes[at..])
+}
+
+/// The next bytes that a reader gives, put behind those that are there; answers how many.
+fn read_more<R: Read>(bytes: &mut Vec<u8>, input: &mut R) -> Result<usize, FetchError>
+    ensures front { OnOk result (take (vec_len bytes.old) bytes.new.items ≡ bytes.old.items) }
+    ensures told { OnOk result (Consumes (R.remaining input.old) (R.remaining input.new) (drop (vec_len bytes.old) bytes.new.items)) }
+    ensures len { IfOk result (λ n. vec_len bytes.new ≡ vec_len bytes.old + n) }
+    ensures end { IfOk result (λ n. n ≡ 0 → IsAtEnd (R.remaining input.new)) }
+    ensures refused { IfErr result (λ e. (e ≡ FetchError.Read) ⊎ (e ≡ FetchError.Memory)) }
+{
+    let at = bytes.len();
+    make_room(bytes)?;
+    let Ok(count) = read_at(bytes.as_mut_slice(), at, input) else {
+        return Err(FetchError::Read);
+    };
+    bytes.truncate(at + count);
+    Ok(count)
+}
+
+/// All bytes that a reader has left, if these are at most `most`.
+fn read_up_to<R: Read>(alloc: Global, most: usize, input: &mut R) -> Result<Vec<u8>, FetchError>
+    ensures all { IfOk result (λ v. Consumes (R.remaining input.old) (R.remaining input.new) v.items × IsAtEnd (R.remaining input.new)) }
+    ensures most { IfOk result (λ v. vec_len v ≤ most) }
+    ensures refused { IfErr result (λ e. (e ≡ FetchError.Read) ⊎ (e ≡ FetchError.Memory)) }
+{
+    let mut bytes = Vec::new(alloc);
+    loop {
+        let count = read_more(&mut bytes, input)?;
+        if count == 0 {
+            return Ok(bytes);
+        }
+        if bytes.len() > most {
+            return Err(FetchError::Read);
+        }
+    }
+}
+
+/// All bytes that a reader has left. `FetchError::Read` where it fails or gives more than `MOST_BYTES`,
+/// `FetchError::Memory` where a growth was refused.
+pub fn read_all<R: Read>(alloc: Global, input: &mut R) -> Result<Vec<u8>, FetchError>
+    ensures all { IfOk result (λ v. Consumes (R.remaining input.old) (R.remaining input.new) v.items × IsAtEnd (R.remaining input.new)) }
+    ensures most { IfOk result (λ v. vec_len v ≤ 1099511627776) }
+    ensures refused { IfErr result (λ e. (e ≡ FetchError.Read) ⊎ (e ≡ FetchError.Memory)) }
+{
+    read_up_to(alloc, MOST_BYTES, input)
+}
+
+#[cfg(test)]
+mod tests {
+    use super::*;
+    use crate::fakes::{FailsOnce, Plenty, ThreeBytes, is};
+
+    #[test]
+    fn reads_to_the_end(rt: HostRuntime) {
+        let alloc = rt.alloc();
+        let read = read_all(alloc, &mut ThreeBytes::ending(1)).expect(&rt, "one read");
+        is(&rt, "read.as_slice()", &read.as_slice(), &b"abc".as_slice());
+        let read = read_all(alloc, &mut ThreeBytes::ending(20)).expect(&rt, "many reads");
+        is(&rt, "read.len()", &read.len(), &60);
+        is(&rt, "read.last()", &read.last(), &Some(&b'c'));
+        let read = read_all(alloc, &mut Plenty::of(210000)).expect(&rt, "full reads");
+        is(&rt, "read.len()", &read.len(), &210000);
+        is(&rt, "read.last()", &read.last(), &Some(&b'p'));
+        let read = read_all(alloc, &mut ThreeBytes::ending(0)).expect(&rt, "no byte");
+        assert!(rt; read.is_empty());
+        is(
+            &rt,
+            "read_all(alloc, &mut ThreeBytes::failing(1))",
+            &read_all(alloc, &mut ThreeBytes::failing(1)).err(),
+            &Some(FetchError::Read),
+        );
+    }
+
+    #[test]
+    fn reads_no_more_than_allowed(rt: HostRuntime) {
+        let alloc = rt.alloc();
+        let read = read_up_to(alloc, 6, &mut ThreeBytes::ending(2)).expect(&rt, "six bytes");
+        is(
+            &rt,
+            "read.as_slice()",
+            &read.as_slice(),
+            &b"abcabc".as_slice(),
+        );
+        let refused = read_up_to(alloc, 5, &mut ThreeBytes::ending(2)).err();
+        is(&rt, "refused", &refused, &Some(FetchError::Read));
+        let refused = read_up_to(alloc, 5, &mut ThreeBytes::ending(2_000_000_000)).err();
+        is(&rt, "refused", &refused, &Some(FetchError::Read));
+    }
+
+    #[test]
+    fn no_failed_read_is_tried_again(rt: HostRuntime) {
+        for call in 0..3u32 {
+            let mut input = FailsOnce::at(call);
+            let refused = read_all(rt.alloc(), &mut input).err();
+            is(&rt, "refused", &refused, &Some(FetchError::Read));
+        }
+    }
+
+    #[test]
+    fn reads_files_of_some_megabytes(rt: HostRuntime) {
+        is(&rt, "most", &MOST_BYTES, &1_099_511_627_776);
+        let mut input = Plenty::of(3_000_001);
+        let read = read_all(rt.alloc(), &mut input).expect(&rt, "all bytes");
+        is(&rt, "read.len()", &read.len(), &3_000_001);
+    }
+}

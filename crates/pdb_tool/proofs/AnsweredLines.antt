@@ -1,0 +1,112 @@
+-- Lines that were read and answered, one after another.
+use Rattle.std.proofs.Common.{◌≡◌, ℕ, ◌<◌, ◌≤◌, ◌+◌, ◌-◌, List, [], ◌∷◌, ◌++◌, length, take, Option, Some, None, Bool, true, false, ◌==◌, if◌then◌else◌, Result, OnErr, refl, sym, ap, ◌∙◌, append_assoc, append-nil, arith, flat_map}
+use Rattle.std.specs.Prelude.{IfSome}
+use Rattle.std.specs.Io.KnownBytes.{Appends, IsAtEnd}
+use Rattle.std.specs.Io.BufRead.{drop_through, ends_with_byte, first_piece, strip_last, take_through}
+use Rattle.std.proofs.lemmas.Grind.{common_steps, flat_map-append}
+use Rattle.pdb_text.specs.Written.{WroteFront}
+use Rattle.pdb_text.proofs.Written.{any_err, appends_then, front_all, front_of, front_then}
+use Rattle.pdb_tool.specs.Asked.{first_longer, lines_of, of_first_line}
+
+-- ---- the first line of some bytes
+
+strip_longer : (b : ℕ) (xs : List ℕ) → 0 < length xs → strip_last 10 (b ∷ xs) ≡ b ∷ strip_last 10 xs
+strip_longer b xs h = grind (arith, common_steps)
+
+strip_end : (b : ℕ) → (b == 10) ≡ true → strip_last 10 (b ∷ []) ≡ []
+strip_end b e = grind (arith, common_steps)
+
+strip_one : (b : ℕ) → (b == 10) ≡ false → strip_last 10 (b ∷ []) ≡ b ∷ []
+strip_one b e = grind (arith, common_steps)
+
+through_some : (c : ℕ) (cs : List ℕ) → 0 < length (take_through 10 (c ∷ cs))
+through_some c cs = grind (arith, common_steps)
+
+line_by : (b : ℕ) (bs : List ℕ) (ends : Bool) → (b == 10) ≡ ends → lines_of (b ∷ bs) ≡ first_piece 10 (b ∷ bs) ∷ lines_of (drop_through 10 (b ∷ bs))
+line_by b bs true e =
+    let piece = strip_end b e in
+    rw (e, piece) refl
+line_by b [] false e =
+    let piece = strip_one b e in
+    rw (e, piece) refl
+line_by b (c ∷ cs) false e =
+    let next = line_by c cs (c == 10) refl in
+    let piece = strip_longer b (take_through 10 (c ∷ cs)) (through_some c cs) in
+    let longer = ap (first_longer b) next in
+    rw (e, piece) longer
+
+pub first_line_of : (b : ℕ) (bs : List ℕ) → lines_of (b ∷ bs) ≡ first_piece 10 (b ∷ bs) ∷ lines_of (drop_through 10 (b ∷ bs))
+first_line_of b bs = line_by b bs (b == 10) refl
+
+-- ---- what was read and answered so far
+
+-- of the bytes that were there some first lines were read, and their texts written
+abbrev pub Answered : (List ℕ → List ℕ) → Option (List ℕ) → Option (List ℕ) → Option (List ℕ) → Option (List ℕ) → Type 0
+Answered text None left a b = Unit {0}
+Answered text (Some xs) left a b = (rest : List ℕ) × (done : List (List ℕ)) × (left ≡ Some rest) × (lines_of xs ≡ done ++ lines_of rest) × Appends a b (flat_map text done)
+
+appends_none : (a : Option (List ℕ)) → Appends a a []
+appends_none None = tt
+appends_none (Some xs) = sym (append-nil xs)
+
+pub answered_none : (text : List ℕ → List ℕ) (old a : Option (List ℕ)) → Answered text old old a a
+answered_none text None a = tt
+answered_none text (Some xs) a = (xs, [], refl, refl, appends_none a)
+
+more_by : (text : List ℕ → List ℕ) (xs rest : List ℕ) (done : List (List ℕ)) (left a b c : Option (List ℕ)) → lines_of xs ≡ done ++ lines_of rest → Appends a b (flat_map text done)
+    → left ≡ Some (drop_through 10 rest) → Appends b c (of_first_line text rest) → Answered text (Some xs) left a c
+more_by text xs [] done left a b c e h r w =
+    let same : flat_map text done ++ [] ≡ flat_map text done = append-nil (flat_map text done) in
+    ([], done, r, e, rw same at (appends_then a b c (flat_map text done) [] h w))
+more_by text xs (x ∷ rest) done left a b c e h r w =
+    let line = first_piece 10 (x ∷ rest) in
+    let all : lines_of xs ≡ (done ++ line ∷ []) ++ lines_of (drop_through 10 (x ∷ rest)) = e ∙ ap (λ ls. done ++ ls) (first_line_of x rest) ∙ sym (append_assoc done (line ∷ []) (lines_of (drop_through 10 (x ∷ rest)))) in
+    let one : flat_map text (line ∷ []) ≡ text line = append-nil (text line) in
+    let texts : flat_map text (done ++ line ∷ []) ≡ flat_map text done ++ text line = flat_map-append text done (line ∷ []) ∙ ap (λ t. flat_map text done ++ t) one in
+    (drop_through 10 (x ∷ rest), done ++ line ∷ [], r, all, rw texts (appends_then a b c (flat_map text done) (text line) h w))
+
+more_of : (text : List ℕ → List ℕ) (xs rest : List ℕ) (done : List (List ℕ)) (mid left a b c : Option (List ℕ)) → mid ≡ Some rest → lines_of xs ≡ done ++ lines_of rest → Appends a b (flat_map text done)
+    → IfSome mid (λ ys. left ≡ Some (drop_through 10 ys)) → IfSome mid (λ ys. Appends b c (of_first_line text ys)) → Answered text (Some xs) left a c
+more_of text xs rest done mid left a b c m e h r w =
+    let r1 = rw m at r in
+    let w1 = rw m at w in
+    more_by text xs rest done left a b c e h r1 w1
+
+-- one more line was read and answered; none, where none is left
+pub answered_more : (text : List ℕ → List ℕ) (old mid left a b c : Option (List ℕ)) → Answered text old mid a b
+    → IfSome mid (λ xs. left ≡ Some (drop_through 10 xs)) → IfSome mid (λ xs. Appends b c (of_first_line text xs)) → Answered text old left a c
+answered_more text None mid left a b c h r w = tt
+answered_more text (Some xs) mid left a b c h r w = more_of text xs h.0 h.1 mid left a b c h.2 h.3 h.4 r w
+
+-- a beginning of the next text was written: a beginning of all
+front_by : (text : List ℕ → List ℕ) (xs rest : List ℕ) (done : List (List ℕ)) (a b c : Option (List ℕ)) → lines_of xs ≡ done ++ lines_of rest → Appends a b (flat_map text done)
+    → WroteFront b c (of_first_line text rest) → WroteFront a c (flat_map text (lines_of xs))
+front_by text xs [] done a b c e h w =
+    let whole = ap (flat_map text) e ∙ flat_map-append text done [] in
+    rw whole (front_then a b c (flat_map text done) [] h w)
+front_by text xs (x ∷ rest) done a b c e h w =
+    let line = first_piece 10 (x ∷ rest) in
+    let others = lines_of (drop_through 10 (x ∷ rest)) in
+    let whole : flat_map text (lines_of xs) ≡ flat_map text done ++ (text line ++ flat_map text others) = ap (flat_map text) (e ∙ ap (λ ls. done ++ ls) (first_line_of x rest)) ∙ flat_map-append text done (line ∷ others) in
+    rw whole (front_then a b c (flat_map text done) (text line ++ flat_map text others) h (front_of b c (text line) (flat_map text others) w))
+
+front_from : (text : List ℕ → List ℕ) (xs rest : List ℕ) (done : List (List ℕ)) (mid a b c : Option (List ℕ)) → mid ≡ Some rest → lines_of xs ≡ done ++ lines_of rest → Appends a b (flat_map text done)
+    → IfSome mid (λ ys. WroteFront b c (of_first_line text ys)) → WroteFront a c (flat_map text (lines_of xs))
+front_from text xs rest done mid a b c m e h w = let w1 = rw m at w in front_by text xs rest done a b c e h w1
+
+pub answered_front : (text : List ℕ → List ℕ) (old mid a b c : Option (List ℕ)) → Answered text old mid a b
+    → IfSome mid (λ xs. WroteFront b c (of_first_line text xs)) → IfSome old (λ xs. WroteFront a c (flat_map text (lines_of xs)))
+answered_front text None mid a b c h w = tt
+answered_front text (Some xs) mid a b c h w = front_from text xs h.0 h.1 mid a b c h.2 h.3 h.4 w
+
+-- what was written so far is a beginning
+pub answered_so_far : (text : List ℕ → List ℕ) (old mid a b : Option (List ℕ)) → Answered text old mid a b → IfSome old (λ xs. WroteFront a b (flat_map text (lines_of xs)))
+answered_so_far text None mid a b h = tt
+answered_so_far text (Some xs) mid a b h =
+    let whole = ap (flat_map text) h.3 ∙ flat_map-append text h.1 (lines_of h.0) in
+    rw whole (front_of a b (flat_map text h.1) (flat_map text (lines_of h.0)) (front_all a b (flat_map text h.1) h.4))
+
+-- the same of a call that failed
+pub if_failed : {A T E : Type 0} (P : A → Type 0) (o : Option A) (r : Result T E) → IfSome o P → IfSome o (λ x. OnErr r (P x))
+if_failed P None r h = tt
+if_failed P (Some x) r h = any_err r h

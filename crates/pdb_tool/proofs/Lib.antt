@@ -1,0 +1,3 @@
+pub mod HexWords
+pub mod AnsweredLines
+pub mod Refused

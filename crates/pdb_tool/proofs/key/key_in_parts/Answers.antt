@@ -1,0 +1,24 @@
+use Rattle.std.proofs.Common.{◌≡◌, ap, ◌∙◌}
+use Rattle.pdb_file.specs.HeldBytes.{known_or_empty}
+use Rattle.pdb_file.proofs.NoneHeld.{none_held}
+use Rattle.pdb_tool.specs.declared.stop.Stop.TheVariants.{Open}
+use Rattle.pdb_tool.proofs.Refused.{refusal_is}
+use Rattle.pdb_tool.proofs.key.key_in_parts.Goals as goal
+
+pub loop-init : goal.loop-init
+loop-init g c = record { told = λ G known size. none_held G _ c.args.size c.new-held.ensures size }
+
+pub returns-in-Ok-clause-key : goal.returns-in-Ok-clause-key
+returns-in-Ok-clause-key g c = λ G known size.
+    let same = c.new-file.ensures ∙ ap known_or_empty known in
+    rw same at (c.in-Ok.ensures (rw same (c.loop.invariant.told G known size)))
+
+pub returns-in-Err-clause-open : goal.returns-in-Err-clause-open
+returns-in-Err-clause-open g c = λ G known size e h.
+    let same = c.new-file.ensures ∙ ap known_or_empty known in
+    let told = rw same at (c.in-Err.ensures (rw same (c.loop.invariant.told G known size))) in
+    let stop : c.stop_of_opening.result ≡ Open e = cc in
+    refusal_is c.in-Err.e e _ (c.stop_of_opening.ensures.opened e stop) told
+
+pub loop-preserved : goal.loop-preserved
+loop-preserved g c = record { told = λ G known size. c.in_ok-fetch.ensures.told G known (c.loop.invariant.told G known size) }

@@ -1,0 +1,12 @@
+use Rattle.std.proofs.Common.{◌≡◌}
+use Rattle.pdb.specs.Source.{Continues}
+use Rattle.pdb_tool.specs.Asked.{line_text}
+use Rattle.pdb_tool.proofs.AnsweredLines.{Answered}
+use Rattle.pdb_tool.proofs.resolve.answer_lines.Given as goal
+
+-- the file is the same, and the lines that were read so far were answered
+abbrev pub invariant-loop : goal.invariant-loop
+invariant-loop g l = record {
+  continues : Continues l.fn.resolver l.resolver;
+  told : Answered (line_text l.fn.resolver.file l.base) (g.R.Read.remaining l.fn.input) (g.R.Read.remaining l.input) (g.W.Write.contents l.fn.out) (g.W.Write.contents l.out);
+}

@@ -1,0 +1,166 @@
+//! Texts of the code at addresses.
+
+ghost use Rattle.std.specs.Prelude.{◌≡◌, ◌≢◌, ◌++◌, ℕ, true, false, flat_map, IfOk, IfSome, OnOk, OnErr, IsErrOf, IsErrAnd, Some, length};
+ghost use Rattle.std.specs.Io.KnownBytes.{Appends, IsAtEnd};
+ghost use Rattle.std.specs.Io.BufRead.{drop_through, strip_last, take_through};
+ghost use Rattle.pdb.specs.Source.{Continues};
+ghost use Rattle.pdb_text.specs.Written.{WroteFirst, WroteFront};
+ghost use Rattle.pdb_tool.specs.Asked.{asked_place, asked_text, line_text, lines_of, of_first_line, without_blanks};
+ghost use Rattle.pdb_tool.specs.declared.stop.Stop.TheVariants.{Write};
+
+use crate::asked::{Asked, asked_in};
+use crate::stop::{Stop, stop_of};
+use pdb::Source;
+use pdb_resolve::Resolver;
+use pdb_text::{put_line_end, write_out};
+use std::alloc::Global;
+use std::io::{self, BufRead, ErrorKind, Write};
+
+/// The text of what is asked for.
+#[tactic(auto, unfolding(crate::specs::Asked::asked_text))]
+fn put_asked<'s, S: Source<'s>>(
+    resolver: &mut Resolver<'_, 's, S>,
+    out: &mut Vec<u8>,
+    asked: Asked,
+) -> Result<(), Stop>
+    ensures continues { Continues resolver.old resolver.new }
+    ensures text { OnOk result (out.new.items ≡ out.old.items ++ asked_text resolver.old.file asked) }
+    ensures unwritten { IsErrOf result Stop.Write → ⊥ }
+{
+    let place = match asked {
+        Asked::Address(address) => resolver.place(address),
+        Asked::Place(place) => Some(place),
+        Asked::Nowhere => None,
+    };
+    resolver.put_text(out, place).map_err(stop_of)
+}
+
+/// Writes the texts of what is asked for, one after another. Each is composed and then written.
+pub fn write_asked<'s, S: Source<'s>, W: Write>(
+    alloc: Global,
+    resolver: &mut Resolver<'_, 's, S>,
+    asked: &[Asked],
+    out: &mut W,
+) -> Result<(), Stop>
+    ensures continues { Continues resolver.old resolver.new }
+    // All texts were written.
+    ensures ok { OnOk result (Appends (W.contents out.old) (W.contents out.new) (flat_map (asked_text resolver.old.file) asked.now)) }
+    // The texts of some first words were written, whole.
+    ensures stopped { IsErrAnd result (λ e. e ≢ Stop.Write) → WroteFirst (asked_text resolver.old.file) (W.contents out.old) (W.contents out.new) asked.now }
+    // A beginning of the texts was written.
+    ensures write { IsErrOf result Stop.Write → WroteFront (W.contents out.old) (W.contents out.new) (flat_map (asked_text resolver.old.file) asked.now) }
+{
+    let mut text = Vec::new(alloc);
+    for it in asked {
+        text.clear();
+        put_asked(resolver, &mut text, *it)?;
+        write_out(out, &text)?;
+    }
+    Ok(())
+}
+
+/// The text that answers a line without its end.
+#[tactic(auto, unfolding(crate::specs::Asked::line_text), using(std::proofs::lemmas::Str::Ascii::trim_ascii_is))]
+fn put_answer<'s, S: Source<'s>>(
+    resolver: &mut Resolver<'_, 's, S>,
+    base: u64,
+    line: &[u8],
+    out: &mut Vec<u8>,
+) -> Result<(), Stop>
+    ensures continues { Continues resolver.old resolver.new }
+    ensures text { OnOk result (out.new.items ≡ out.old.items ++ line_text resolver.old.file base line.now) }
+    ensures unwritten { IsErrOf result Stop.Write → ⊥ }
+{
+    match asked_in(base, trimmed(line)) {
+        Some(asked) => put_asked(resolver, out, asked),
+        None => {
+            out.extend_from_slice(line)?;
+            put_line_end(out)?;
+            Ok(())
+        }
+    }
+}
+
+/// Bytes without the blanks at both ends.
+fn trimmed(line: &[u8]) -> &[u8]
+    ensures { result.now ≡ without_blanks line.now }
+{
+    line.trim_ascii()
+}
+
+/// Why a line couldn't be read.
+fn line_stop(e: &io::Error) -> Stop
+    ensures { result ≢ Stop.Write }
+{
+    match e.kind() {
+        ErrorKind::OutOfMemory => Stop::Memory,
+        _ => Stop::Read,
+    }
+}
+
+/// Reads the next line of a reader, with its end, in place of what is there; answers how many bytes it has.
+fn read_line<R: BufRead>(input: &mut R, line: &mut Vec<u8>) -> Result<usize, Stop>
+    ensures line { IfSome (R.remaining input.old) (λ xs. OnOk result (line.new.items ≡ take_through 10 xs)) }
+    ensures rest { IfSome (R.remaining input.old) (λ xs. OnOk result (R.remaining input.new ≡ Some (drop_through 10 xs))) }
+    ensures end { IfOk result (λ n. n ≡ 0 → IsAtEnd (R.remaining input.old)) }
+    ensures count { IfOk result (λ n. n ≡ length line.new.items) }
+    ensures unwritten { IsErrOf result Stop.Write → ⊥ }
+{
+    line.clear();
+    input.read_until(b'\n', line).map_err(|e| line_stop(&e))
+}
+
+/// A line without its end.
+fn without_end(line: &[u8]) -> &[u8]
+    ensures { result.now ≡ strip_last 10 line.now }
+{
+    line.strip_suffix(b"\n").unwrap_or(line)
+}
+
+/// Reads the next line of a reader, and writes the text that answers it; answers whether there was one.
+pub fn answer_line<'s, S: Source<'s>, R: BufRead, W: Write>(
+    alloc: Global,
+    resolver: &mut Resolver<'_, 's, S>,
+    base: u64,
+    input: &mut R,
+    out: &mut W,
+) -> Result<bool, Stop>
+    ensures continues { Continues resolver.old resolver.new }
+    // The first line that was left, and no more, was read, and the text that answers it was written.
+    ensures read { IfSome (R.remaining input.old) (λ xs. OnOk result (R.remaining input.new ≡ Some (drop_through 10 xs))) }
+    ensures answered { IfSome (R.remaining input.old) (λ xs. OnOk result (Appends (W.contents out.old) (W.contents out.new) (of_first_line (line_text resolver.old.file base) xs))) }
+    ensures end { IfOk result (λ more. more ≡ false → IsAtEnd (R.remaining input.old)) }
+    // A beginning of that text was written.
+    ensures refused { IfSome (R.remaining input.old) (λ xs. OnErr result (WroteFront (W.contents out.old) (W.contents out.new) (of_first_line (line_text resolver.old.file base) xs))) }
+{
+    let mut line = Vec::new(alloc);
+    if read_line(input, &mut line)? == 0 {
+        return Ok(false);
+    }
+    let mut text = Vec::new(alloc);
+    put_answer(resolver, base, without_end(&line), &mut text)?;
+    write_out(out, &text)?;
+    Ok(true)
+}
+
+/// Answers the lines of a reader, one after another: the text of each is written before the next line is read.
+pub fn answer_lines<'s, S: Source<'s>, R: BufRead, W: Write>(
+    alloc: Global,
+    resolver: &mut Resolver<'_, 's, S>,
+    base: u64,
+    input: &mut R,
+    out: &mut W,
+) -> Result<(), Stop>
+    ensures continues { Continues resolver.old resolver.new }
+    // All lines were read and answered.
+    ensures ok { IfSome (R.remaining input.old) (λ xs. OnOk result (Appends (W.contents out.old) (W.contents out.new) (flat_map (line_text resolver.old.file base) (lines_of xs)))) }
+    // A beginning of the texts was written.
+    ensures refused { IfSome (R.remaining input.old) (λ xs. OnErr result (WroteFront (W.contents out.old) (W.contents out.new) (flat_map (line_text resolver.old.file base) (lines_of xs)))) }
+{
+    for _ in 0..u64::MAX {
+        if !answer_line(alloc, resolver, base, input, out)? {
+            return Ok(());
+        }
+    }
+    Err(Stop::Read)
+}

@@ -1,0 +1,78 @@
+//! Why a command stopped.
+
+ghost use Rattle.pdb_tool.specs.Stops.{stop_of_refusal, stop_of_opening};
+ghost use Rattle.std.specs.Prelude.{◌≡◌, ◌≢◌};
+ghost use Rattle.pdb.specs.Error.{Error};
+ghost use Rattle.pdb_tool.specs.declared.stop.Stop.{Stop};
+
+use pdb::Error;
+use pdb_file::FetchError;
+use pdb_text::WriteFailed;
+use std::alloc::AllocError;
+
+/// Why a command stopped before its text was written whole.
+#[derive(Clone, Copy, Debug, PartialEq, Eq)]
+pub enum Stop {
+    /// The file, or standard input, can't be read.
+    Read,
+    /// The file can't be opened as a container.
+    Open(Error),
+    /// Memory was refused.
+    Memory,
+    /// Standard output failed.
+    Write,
+}
+
+impl From<AllocError> for Stop {
+    ghost use Rattle.pdb_tool.specs.declared.stop.Stop.TheVariants.{Memory};
+
+    ghost from_gives = { λ _ e. e ≡ Memory };
+
+    fn from(_e: AllocError) -> Stop {
+        Stop::Memory
+    }
+}
+
+impl From<WriteFailed> for Stop {
+    ghost use Rattle.pdb_tool.specs.declared.stop.Stop.TheVariants.{Write};
+
+    ghost from_gives = { λ _ e. e ≡ Write };
+
+    fn from(_e: WriteFailed) -> Stop {
+        Stop::Write
+    }
+}
+
+impl From<FetchError> for Stop {
+    ghost use Rattle.pdb_tool.specs.Stops.{stop_of_fetch};
+
+    ghost from_gives = { λ e s. s ≡ stop_of_fetch e };
+
+    fn from(e: FetchError) -> Stop {
+        match e {
+            FetchError::Read => Stop::Read,
+            FetchError::Memory => Stop::Memory,
+        }
+    }
+}
+
+/// What a call that reads an opened file was refused for: want of memory, or else that the file can't be read.
+pub fn stop_of(e: Error) -> Stop
+    ensures { result ≡ stop_of_refusal e }
+{
+    match e {
+        Error::OutOfMemory => Stop::Memory,
+        _ => Stop::Read,
+    }
+}
+
+/// What a file that can't be opened was refused for: want of memory is told as such.
+pub fn stop_of_opening(e: Error) -> Stop
+    ensures is { result ≡ stop_of_opening e }
+    ensures opened { (x : Error) → result ≡ Stop.Open x → (e ≡ x) × (e ≢ Error.OutOfMemory) }
+{
+    match e {
+        Error::OutOfMemory => Stop::Memory,
+        e => Stop::Open(e),
+    }
+}
