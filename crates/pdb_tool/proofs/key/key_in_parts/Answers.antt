@@ -18,7 +18,9 @@ returns-in-Err-clause-open g c = λ G known size e h.
     let same = c.new-file.ensures ∙ ap known_or_empty known in
     let told = rw same at (c.in-Err.ensures (rw same (c.loop.invariant.told G known size))) in
     let stop : c.stop_of_opening.result ≡ Open e = cc in
-    refusal_is c.in-Err.e e _ (c.stop_of_opening.ensures.opened e stop) told
+    let opened = c.stop_of_opening.ensures.opened e stop in
+    let was = c.in-Err.e-is in
+    refusal_is c.in-Err.e e _ (cc, λ wanted. opened.1 cc) told
 
 pub loop-preserved : goal.loop-preserved
 loop-preserved g c = record { told = λ G known size. c.in_ok-fetch.ensures.told G known (c.loop.invariant.told G known size) }
