@@ -1,3 +1,4 @@
 pub mod HexWords
 pub mod AnsweredLines
 pub mod Refused
+pub mod AllWords

@@ -47,7 +47,7 @@ pub fn hex_in(word: &[u8]) -> Option<u64>
 }
 
 /// A word without `0x` in front.
-fn without_prefix(word: &[u8]) -> &[u8]
+pub fn without_prefix(word: &[u8]) -> &[u8]
     ensures { result.now ≡ without_prefix word.now }
 {
     word.strip_prefix(b"0x").unwrap_or(word)

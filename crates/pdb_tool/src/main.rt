@@ -5,6 +5,7 @@ mod asked;
 mod key;
 mod resolve;
 mod stop;
+mod words;
 
 use std::process::ExitCode;
 
