@@ -1,6 +1,6 @@
 -- Lines that were read and answered, one after another.
-use Rattle.std.proofs.Common.{◌≡◌, ℕ, ◌<◌, ◌≤◌, ◌+◌, ◌-◌, List, [], ◌∷◌, ◌++◌, length, take, Option, Some, None, Bool, true, false, ◌==◌, if◌then◌else◌, Result, OnErr, refl, sym, ap, ◌∙◌, append_assoc, append-nil, arith, flat_map}
-use Rattle.std.specs.Prelude.{IfSome}
+use Rattle.std.proofs.Common.{◌≡◌, ℕ, ◌<◌, ◌≤◌, ◌+◌, ◌-◌, List, [], ◌∷◌, ◌++◌, length, take, Option, Some, None, Bool, true, false, ◌==◌, if◌then◌else◌, Result, Ok, Err, OnOk, OnErr, refl, sym, ap, ◌∙◌, append_assoc, append-nil, arith, flat_map}
+use Rattle.std.specs.Prelude.{IfSome, IsErrAnd}
 use Rattle.std.specs.Io.KnownBytes.{Appends, IsAtEnd}
 use Rattle.std.specs.Io.BufRead.{drop_through, ends_with_byte, first_piece, strip_last, take_through}
 use Rattle.std.proofs.lemmas.Grind.{common_steps, flat_map-append}
@@ -110,3 +110,19 @@ answered_so_far text (Some xs) mid a b h =
 pub if_failed : {A T E : Type 0} (P : A → Type 0) (o : Option A) (r : Result T E) → IfSome o P → IfSome o (λ x. OnErr r (P x))
 if_failed P None r h = tt
 if_failed P (Some x) r h = any_err r h
+
+-- a call that failed before it wrote
+pub if_any : {A : Type 0} (P : A → Type 0) (o : Option A) → ((x : A) → P x) → IfSome o P
+if_any P None h = tt
+if_any P (Some x) h = h x
+
+pub front_none : (a : Option (List ℕ)) (xs : List ℕ) → WroteFront a a xs
+front_none a xs = (0, omega arith, appends_none a)
+
+pub on_ok_of : {T E P : Type 0} (r : Result T E) → P → OnOk r P
+on_ok_of (Ok x) h = h
+on_ok_of (Err e) h = tt
+
+pub on_ok_failed : {T E : Type 0} (P : Type 0) (Q : E → Type 0) (r : Result T E) → IsErrAnd r Q → OnOk r P
+on_ok_failed P Q (Ok x) h = absurd h
+on_ok_failed P Q (Err e) h = tt

@@ -1,17 +1,19 @@
 //! Texts of the code at addresses.
 
-ghost use Rattle.std.specs.Prelude.{◌≡◌, ◌≢◌, ◌++◌, ℕ, true, false, flat_map, IfOk, IfSome, OnOk, OnErr, IsErrOf, IsErrAnd, Some, length};
+ghost use Rattle.std.specs.Prelude.{◌≡◌, ◌≢◌, ◌++◌, ◌⊎◌, ℕ, true, false, flat_map, IfOk, IfErr, IfSome, OnOk, OnErr, IsErrOf, IsErrAnd, Some, Ok, Err, length};
 ghost use Rattle.std.specs.Io.KnownBytes.{Appends, IsAtEnd};
 ghost use Rattle.std.specs.Io.BufRead.{drop_through, strip_last, take_through};
+ghost use Rattle.pdb.specs.Container.{opens};
+ghost use Rattle.pdb.specs.Error.{Error};
 ghost use Rattle.pdb.specs.Source.{Continues};
 ghost use Rattle.pdb_text.specs.Written.{WroteFirst, WroteFront};
 ghost use Rattle.pdb_tool.specs.Asked.{asked_place, asked_text, line_text, lines_of, of_first_line, without_blanks};
-ghost use Rattle.pdb_tool.specs.declared.stop.Stop.TheVariants.{Write};
+ghost use Rattle.pdb_tool.specs.declared.stop.Stop.{Stop};
 
 use crate::asked::{Asked, asked_in};
-use crate::stop::{Stop, stop_of};
-use pdb::Source;
-use pdb_resolve::Resolver;
+use crate::stop::{Stop, stop_of, stop_of_opening};
+use pdb::{MemorySource, PDB, Source};
+use pdb_resolve::{Resolver, Streams};
 use pdb_text::{put_line_end, write_out};
 use std::alloc::Global;
 use std::io::{self, BufRead, ErrorKind, Write};
@@ -25,7 +27,7 @@ fn put_asked<'s, S: Source<'s>>(
 ) -> Result<(), Stop>
     ensures continues { Continues resolver.old resolver.new }
     ensures text { OnOk result (out.new.items ≡ out.old.items ++ asked_text resolver.old.file asked) }
-    ensures unwritten { IsErrOf result Stop.Write → ⊥ }
+    ensures unwritten { IfErr result (λ e. (e ≡ Stop.Memory) ⊎ (e ≡ Stop.Read)) }
 {
     let place = match asked {
         Asked::Address(address) => resolver.place(address),
@@ -43,6 +45,7 @@ pub fn write_asked<'s, S: Source<'s>, W: Write>(
     out: &mut W,
 ) -> Result<(), Stop>
     ensures continues { Continues resolver.old resolver.new }
+    ensures opened { (e : Error) → IsErrOf result (Stop.Open e) → ⊥ }
     // All texts were written.
     ensures ok { OnOk result (Appends (W.contents out.old) (W.contents out.new) (flat_map (asked_text resolver.old.file) asked.now)) }
     // The texts of some first words were written, whole.
@@ -69,7 +72,7 @@ fn put_answer<'s, S: Source<'s>>(
 ) -> Result<(), Stop>
     ensures continues { Continues resolver.old resolver.new }
     ensures text { OnOk result (out.new.items ≡ out.old.items ++ line_text resolver.old.file base line.now) }
-    ensures unwritten { IsErrOf result Stop.Write → ⊥ }
+    ensures unwritten { IfErr result (λ e. (e ≡ Stop.Memory) ⊎ (e ≡ Stop.Read)) }
 {
     match asked_in(base, trimmed(line)) {
         Some(asked) => put_asked(resolver, out, asked),
@@ -90,7 +93,7 @@ fn trimmed(line: &[u8]) -> &[u8]
 
 /// Why a line couldn't be read.
 fn line_stop(e: &io::Error) -> Stop
-    ensures { result ≢ Stop.Write }
+    ensures { (result ≡ Stop.Memory) ⊎ (result ≡ Stop.Read) }
 {
     match e.kind() {
         ErrorKind::OutOfMemory => Stop::Memory,
@@ -104,7 +107,7 @@ fn read_line<R: BufRead>(input: &mut R, line: &mut Vec<u8>) -> Result<usize, Sto
     ensures rest { IfSome (R.remaining input.old) (λ xs. OnOk result (R.remaining input.new ≡ Some (drop_through 10 xs))) }
     ensures end { IfOk result (λ n. n ≡ 0 → IsAtEnd (R.remaining input.old)) }
     ensures count { IfOk result (λ n. n ≡ length line.new.items) }
-    ensures unwritten { IsErrOf result Stop.Write → ⊥ }
+    ensures unwritten { IfErr result (λ e. (e ≡ Stop.Memory) ⊎ (e ≡ Stop.Read)) }
 {
     line.clear();
     input.read_until(b'\n', line).map_err(|e| line_stop(&e))
@@ -126,6 +129,7 @@ pub fn answer_line<'s, S: Source<'s>, R: BufRead, W: Write>(
     out: &mut W,
 ) -> Result<bool, Stop>
     ensures continues { Continues resolver.old resolver.new }
+    ensures opened { (e : Error) → IsErrOf result (Stop.Open e) → ⊥ }
     // The first line that was left, and no more, was read, and the text that answers it was written.
     ensures read { IfSome (R.remaining input.old) (λ xs. OnOk result (R.remaining input.new ≡ Some (drop_through 10 xs))) }
     ensures answered { IfSome (R.remaining input.old) (λ xs. OnOk result (Appends (W.contents out.old) (W.contents out.new) (of_first_line (line_text resolver.old.file base) xs))) }
@@ -152,6 +156,7 @@ pub fn answer_lines<'s, S: Source<'s>, R: BufRead, W: Write>(
     out: &mut W,
 ) -> Result<(), Stop>
     ensures continues { Continues resolver.old resolver.new }
+    ensures opened { (e : Error) → IsErrOf result (Stop.Open e) → ⊥ }
     // All lines were read and answered.
     ensures ok { IfSome (R.remaining input.old) (λ xs. OnOk result (Appends (W.contents out.old) (W.contents out.new) (flat_map (line_text resolver.old.file base) (lines_of xs)))) }
     // A beginning of the texts was written.
@@ -163,4 +168,58 @@ pub fn answer_lines<'s, S: Source<'s>, R: BufRead, W: Write>(
         }
     }
     Err(Stop::Read)
+}
+
+/// A resolver over a file's bytes.
+fn resolver_over<'a, 's>(
+    alloc: Global,
+    bytes: &'s [u8],
+    streams: &'a mut Streams<'s>,
+) -> Result<Resolver<'a, 's, MemorySource<'s>>, Stop>
+    ensures file { IfOk result (λ r. r.file ≡ bytes.now) }
+    ensures opened { OnOk result (opens bytes.now ≡ Ok tt) }
+    ensures refused { (e : Error) → IsErrOf result (Stop.Open e) → opens bytes.now ≡ Err e }
+    ensures unwritten { IsErrOf result Stop.Write → ⊥ }
+{
+    let pdb = PDB::open(alloc, MemorySource::new(bytes)).map_err(stop_of_opening)?;
+    Resolver::new(alloc, pdb, streams).map_err(stop_of)
+}
+
+/// Writes the texts of what is asked for in a file, one after another.
+#[tactic(auto, using(pdb_text::proofs::Written::first_none, crate::proofs::AnsweredLines::on_ok_of))]
+pub fn resolve_words<W: Write>(
+    alloc: Global,
+    bytes: &[u8],
+    asked: &[Asked],
+    out: &mut W,
+) -> Result<(), Stop>
+    ensures opened { OnOk result (opens bytes.now ≡ Ok tt) }
+    ensures ok { OnOk result (Appends (W.contents out.old) (W.contents out.new) (flat_map (asked_text bytes.now) asked.now)) }
+    ensures refused { (e : Error) → IsErrOf result (Stop.Open e) → opens bytes.now ≡ Err e }
+    // The texts of some first words were written, whole.
+    ensures stopped { IsErrAnd result (λ e. e ≢ Stop.Write) → WroteFirst (asked_text bytes.now) (W.contents out.old) (W.contents out.new) asked.now }
+    // A beginning of the texts was written.
+    ensures write { IsErrOf result Stop.Write → WroteFront (W.contents out.old) (W.contents out.new) (flat_map (asked_text bytes.now) asked.now) }
+{
+    let mut streams = Streams::new(alloc);
+    let mut resolver = resolver_over(alloc, bytes, &mut streams)?;
+    write_asked(alloc, &mut resolver, asked, out)
+}
+
+/// Answers the lines of a reader over a file, each before the next is read.
+pub fn resolve_lines<R: BufRead, W: Write>(
+    alloc: Global,
+    bytes: &[u8],
+    base: u64,
+    input: &mut R,
+    out: &mut W,
+) -> Result<(), Stop>
+    ensures opened { OnOk result (opens bytes.now ≡ Ok tt) }
+    ensures ok { IfSome (R.remaining input.old) (λ xs. OnOk result (Appends (W.contents out.old) (W.contents out.new) (flat_map (line_text bytes.now base) (lines_of xs)))) }
+    ensures refused { (e : Error) → IsErrOf result (Stop.Open e) → opens bytes.now ≡ Err e }
+    ensures front { IfSome (R.remaining input.old) (λ xs. OnErr result (WroteFront (W.contents out.old) (W.contents out.new) (flat_map (line_text bytes.now base) (lines_of xs)))) }
+{
+    let mut streams = Streams::new(alloc);
+    let mut resolver = resolver_over(alloc, bytes, &mut streams)?;
+    answer_lines(alloc, &mut resolver, base, input, out)
 }
