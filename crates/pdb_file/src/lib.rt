@@ -18,7 +18,7 @@ pub use missed::Missed;
 pub use reading::{FetchError, Fetched, ReadAt, fetch};
 pub use run::Run;
 pub use source::{AnyFile, HeldSource, KnownFile, Meant};
-pub use whole::{MOST_BYTES, read_all};
+pub use whole::{MOST_BYTES, read_all, size_of};
 
 #[cfg(test)]
 mod tests;

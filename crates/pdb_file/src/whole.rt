@@ -5,6 +5,7 @@ ghost use Rattle.std.specs.Io.KnownBytes.{Consumes, IsAtEnd};
 
 use crate::reading::FetchError;
 use std::alloc::{AllocError, Global};
+use std::fs::File;
 use std::io::{self, Read};
 
 /// The most bytes that a file may have.
@@ -71,6 +72,15 @@ fn read_up_to<R: Read>(alloc: Global, most: usize, input: &mut R) -> Result<Vec<
             return Err(FetchError::Read);
         }
     }
+}
+
+/// How many bytes a file has that can be read at a place; none for a pipe and the like.
+pub fn size_of(file: &File) -> Option<u64> {
+    let it = file.metadata().ok()?;
+    if !it.is_file() {
+        return None;
+    }
+    Some(it.len())
 }
 
 /// All bytes that a reader has left. `FetchError::Read` where it fails or gives more than `MOST_BYTES`,

@@ -32,10 +32,10 @@ use command::{Command, asks_for_sample, parse_commands};
 use engine::run;
 use in_parts::list_in_parts;
 use pdb::MemorySource;
-use pdb_file::{Fetched, read_all};
+use pdb_file::{Fetched, read_all, size_of};
+use pdb_text::words_of;
 use report::{Fault, report};
-use std::alloc::{AllocError, Global};
-use std::env;
+use std::alloc::Global;
 use std::fs::{self, File};
 use std::io::{self, ErrorKind};
 use std::process::ExitCode;
@@ -65,16 +65,6 @@ fn words_fault(e: &io::Error) -> Fault {
     }
 }
 
-/// The program's words, without its own name.
-fn words_of(rt: &(impl Env + AllocGlobal)) -> Result<Vec<String>, Fault> {
-    let args = env::args(rt).map_err(|e| words_fault(&e))?;
-    let mut words = Vec::new(rt.alloc());
-    for word in args.skip(1) {
-        words.push(word).map_err(AllocError::from)?;
-    }
-    Ok(words)
-}
-
 /// Lists the sample.
 fn list_sample<W: io::Write>(alloc: Global, out: &mut W) -> Result<(), Fault> {
     let bytes = sample::file(alloc).map_err(|_| Fault::Memory)?;
@@ -82,19 +72,10 @@ fn list_sample<W: io::Write>(alloc: Global, out: &mut W) -> Result<(), Fault> {
     Ok(())
 }
 
-/// How many bytes a file has that can be read at a place; none for a pipe and the like.
-fn size_of(file: &File) -> Option<u64> {
-    let it = file.metadata().ok()?;
-    if !it.is_file() {
-        return None;
-    }
-    Some(it.len())
-}
-
 /// Lists what the words ask for: their commands are taken first, then the file is read, as far as they ask for it where
 /// it can be read at a place, and else whole.
 fn list(rt: &(impl Env + Files<File = File> + Print + AllocGlobal)) -> Result<(), Fault> {
-    let words = words_of(rt)?;
+    let words = words_of(rt).map_err(|e| words_fault(&e))?;
     let mut out = io::writer(rt);
     if asks_for_sample(&words) {
         return list_sample(rt.alloc(), &mut out);

@@ -1,4 +1,4 @@
 pub mod HexWords
 pub mod AnsweredLines
-pub mod Refused
+pub mod RefusalIs
 pub mod AllWords

@@ -1,10 +1,13 @@
 -- What stops a command.
+use Rattle.std.specs.Prelude.{ℕ}
 use Rattle.pdb.specs.Error.{Error}
 use Rattle.pdb.specs.Error.TheVariants as refusal
 use Rattle.pdb_file.specs.declared.reading.FetchError.{FetchError}
 use Rattle.pdb_file.specs.declared.reading.FetchError.TheVariants as fetch
 use Rattle.pdb_tool.specs.declared.stop.Stop.{Stop}
 use Rattle.pdb_tool.specs.declared.stop.Stop.TheVariants.{Read, Open, Memory, Write}
+use Rattle.pdb_tool.specs.declared.report.Fault.{Fault}
+use Rattle.pdb_tool.specs.declared.report.Fault.TheVariants.{BadWord, NoText, Stopped}
 
 -- a read that failed
 abbrev pub stop_of_fetch : FetchError → Stop
@@ -20,3 +23,16 @@ stop_of_refusal e = Read
 abbrev pub stop_of_opening : Error → Stop
 stop_of_opening refusal.OutOfMemory = Memory
 stop_of_opening e = Open e
+
+-- the exit status of a command that stopped
+abbrev pub status_of_stop : Stop → ℕ
+status_of_stop Read = 3
+status_of_stop (Open e) = 4
+status_of_stop Memory = 5
+status_of_stop Write = 6
+
+-- and of a fault of the program
+abbrev pub status_of : Fault → ℕ
+status_of (BadWord place) = 2
+status_of NoText = 2
+status_of (Stopped stop place) = status_of_stop stop

@@ -2,7 +2,7 @@ use Rattle.std.proofs.Common.{◌≡◌, ap, ◌∙◌}
 use Rattle.pdb_file.specs.HeldBytes.{known_or_empty}
 use Rattle.pdb_file.proofs.NoneHeld.{none_held}
 use Rattle.pdb_tool.specs.declared.stop.Stop.TheVariants.{Open}
-use Rattle.pdb_tool.proofs.Refused.{refusal_is}
+use Rattle.pdb_tool.proofs.RefusalIs.{refusal_is}
 use Rattle.pdb_tool.proofs.key.key_in_parts.Goals as goal
 
 pub loop-init : goal.loop-init
