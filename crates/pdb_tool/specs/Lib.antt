@@ -3,3 +3,8 @@ pub mod Values
 pub mod Depth
 pub mod LineTexts
 pub mod ScopeTexts
+pub mod KindNames
+pub mod Flags
+pub mod ValueTexts
+pub mod FieldTexts
+pub mod SymbolTexts

@@ -5,8 +5,15 @@ mod depth;
 mod error_line;
 #[cfg(test)]
 mod fakes;
+mod fields;
+mod fields_code;
+mod fields_data;
+mod fields_references;
+mod flags;
+mod kind_names;
 mod line_texts;
 mod scope_texts;
 mod values;
+mod values_forms;
 
 fn main(_rt: HostRuntime) {}
