@@ -2,15 +2,21 @@
 -- record's layout, and those that the kind tells last.
 use Rattle.std.specs.Prelude.{ℕ, Bool, List, [], ◌++◌, Option, codes}
 use Rattle.std.specs.Fmt.{decimal, signed_decimal}
+use Rattle.pdb_base.specs.declared.index.IdIndex.{IdIndex}
 use Rattle.pdb_base.specs.declared.index.PdbInternalSectionOffset.{PdbInternalSectionOffset}
 use Rattle.pdb_base.specs.declared.index.SymbolIndex.{SymbolIndex}
 use Rattle.pdb_base.specs.declared.index.TypeIndex.{TypeIndex}
-use Rattle.pdb_symbols.specs.Data.{Data, CompilerSays}
+use Rattle.pdb_symbols.specs.declared.compilers.CompilerVersion.{CompilerVersion}
+use Rattle.pdb_symbols.specs.declared.flags.CompileFlags.{CompileFlags}
+use Rattle.pdb_symbols.specs.declared.flags.ProcedureFlags.{ProcedureFlags}
+use Rattle.pdb_symbols.specs.declared.language.SourceLanguage.{SourceLanguage}
+use Rattle.pdb_symbols.specs.declared.processor.CPUType.{CPUType}
+use Rattle.pdb_symbols.specs.Data.{Data}
 use Rattle.pdb_symbols.specs.Data.Data.{ScopeEnd, ObjName, RegisterVariable, Constant, UserDefinedType, MultiRegisterVariable, DataItem, Public, Procedure, ThreadStorage, Compiler, UsingNamespace, ProcedureReference, DataReference, AnnotationReference, Trampoline, Export, Local, BuildInfo, InlineSite, InlineSiteEnd, ProcedureEnd, Label, Block, RegisterRelative, Thunk, SeparatedCode}
 use Rattle.pdb_symbols.specs.Languages.{language_text}
 use Rattle.pdb_symbols.specs.Processors.{cpu_text}
 use Rattle.pdb_text.specs.Digits.{hex}
-use Rattle.pdb_tool.specs.Flags.{flags_text, procedure_flags, compile_flags, local_flags, export_flags, separated_code_flags}
+use Rattle.pdb_tool.specs.Flags.{procedure_flags, compile_flags, local_flags, export_flags, separated_code_flags}
 use Rattle.pdb_tool.specs.Values.{place_text, optional_text}
 use Rattle.pdb_tool.specs.ValueTexts.{bool_text, optional_index_text, variant_text, version_text, trampoline_text, thunk_text, registers_text, bytes_text}
 
@@ -18,7 +24,7 @@ use Rattle.pdb_tool.specs.ValueTexts.{bool_text, optional_index_text, variant_te
 unfoldable pub label : List ℕ → List ℕ
 label name = codes " " ++ name ++ codes "="
 
-abbrev pub field : List ℕ → List ℕ → List ℕ
+unfoldable pub field : List ℕ → List ℕ → List ℕ
 field name value = label name ++ value
 
 -- ---- fields that several forms have
@@ -35,23 +41,29 @@ global_field global = field (codes "global") (bool_text global)
 abbrev pub managed_field : Bool → List ℕ
 managed_field managed = field (codes "managed") (bool_text managed)
 
-abbrev pub scope_fields : Option SymbolIndex → SymbolIndex → Option SymbolIndex → List ℕ
+unfoldable pub scope_fields : Option SymbolIndex → SymbolIndex → Option SymbolIndex → List ℕ
 scope_fields parent end next = field (codes "parent") (optional_index_text parent) ++ field (codes "end") (hex 8 end.0) ++ field (codes "next") (optional_index_text next)
 
-abbrev pub span_fields : SymbolIndex → SymbolIndex → ℕ → List ℕ
+unfoldable pub span_fields : SymbolIndex → SymbolIndex → ℕ → List ℕ
 span_fields parent end len = field (codes "parent") (hex 8 parent.0) ++ field (codes "end") (hex 8 end.0) ++ field (codes "len") (decimal len)
 
-abbrev pub body_fields : ℕ → ℕ → ℕ → List ℕ
+unfoldable pub body_fields : ℕ → ℕ → ℕ → List ℕ
 body_fields len start stop = field (codes "len") (decimal len) ++ field (codes "dbg_start_offset") (decimal start) ++ field (codes "dbg_end_offset") (decimal stop)
 
-abbrev pub reference_fields : ℕ → SymbolIndex → Option ℕ → List ℕ
+unfoldable pub reference_fields : ℕ → SymbolIndex → Option ℕ → List ℕ
 reference_fields sum_name symbol_index of_module = field (codes "sum_name") (decimal sum_name) ++ field (codes "symbol_index") (hex 8 symbol_index.0) ++ field (codes "module") (optional_text of_module)
 
-abbrev pub compiled_fields : CompilerSays → List ℕ
-compiled_fields s = field (codes "language") (language_text s.language) ++ field (codes "flags") (flags_text (compile_flags s.flags)) ++ field (codes "cpu_type") (cpu_text s.cpu_type)
+unfoldable pub typed_fields : TypeIndex → PdbInternalSectionOffset → ProcedureFlags → List ℕ
+typed_fields type_index offset flags = type_field type_index ++ place_field offset ++ field (codes "flags") (procedure_flags flags)
 
-abbrev pub version_fields : CompilerSays → List ℕ
-version_fields s = field (codes "frontend_version") (version_text s.frontend_version) ++ field (codes "backend_version") (version_text s.backend_version) ++ field (codes "version_string") s.version_string
+unfoldable pub site_fields : Option SymbolIndex → SymbolIndex → IdIndex → List ℕ
+site_fields parent end inlinee = field (codes "parent") (optional_index_text parent) ++ field (codes "end") (hex 8 end.0) ++ field (codes "inlinee") (hex 8 inlinee.0)
+
+unfoldable pub compiled_fields : SourceLanguage → CompileFlags → CPUType → List ℕ
+compiled_fields language flags cpu_type = field (codes "language") (language_text language) ++ field (codes "flags") (compile_flags flags) ++ field (codes "cpu_type") (cpu_text cpu_type)
+
+unfoldable pub version_fields : CompilerVersion → CompilerVersion → List ℕ → List ℕ
+version_fields frontend backend version_string = field (codes "frontend_version") (version_text frontend) ++ field (codes "backend_version") (version_text backend) ++ field (codes "version_string") version_string
 
 -- ---- the fields of each form
 
@@ -65,25 +77,24 @@ fields_text (MultiRegisterVariable type_index registers) = type_field type_index
 fields_text (DataItem global managed type_index offset name) = type_field type_index ++ place_field offset ++ global_field global ++ managed_field managed
 fields_text (Public code function managed msil offset name) = field (codes "code") (bool_text code) ++ field (codes "function") (bool_text function) ++ managed_field managed ++ field (codes "msil") (bool_text msil) ++ place_field offset
 fields_text (Procedure s) =
-    scope_fields s.parent s.end s.next ++ body_fields s.len s.dbg_start_offset s.dbg_end_offset ++ type_field s.type_index ++ place_field s.offset
-    ++ field (codes "flags") (flags_text (procedure_flags s.flags)) ++ global_field s.global ++ field (codes "dpc") (bool_text s.dpc)
+    scope_fields s.parent s.end s.next ++ body_fields s.len s.dbg_start_offset s.dbg_end_offset ++ typed_fields s.type_index s.offset s.flags
+    ++ global_field s.global ++ field (codes "dpc") (bool_text s.dpc)
 fields_text (ThreadStorage global type_index offset name) = type_field type_index ++ place_field offset ++ global_field global
-fields_text (Compiler s) = compiled_fields s ++ version_fields s
+fields_text (Compiler s) = compiled_fields s.language s.flags s.cpu_type ++ version_fields s.frontend_version s.backend_version s.version_string
 fields_text (UsingNamespace name) = []
 fields_text (ProcedureReference global sum_name symbol_index of_module name) = reference_fields sum_name symbol_index of_module ++ global_field global
 fields_text (DataReference sum_name symbol_index of_module name) = reference_fields sum_name symbol_index of_module
 fields_text (AnnotationReference sum_name symbol_index of_module name) = reference_fields sum_name symbol_index of_module
 fields_text (Trampoline s) = field (codes "tramp_type") (trampoline_text s.tramp_type) ++ field (codes "size") (decimal s.size) ++ field (codes "thunk") (place_text s.thunk) ++ field (codes "target") (place_text s.target)
-fields_text (Export ordinal flags name) = field (codes "ordinal") (decimal ordinal) ++ field (codes "flags") (flags_text (export_flags flags))
-fields_text (Local type_index flags name) = type_field type_index ++ field (codes "flags") (flags_text (local_flags flags))
+fields_text (Export ordinal flags name) = field (codes "ordinal") (decimal ordinal) ++ field (codes "flags") (export_flags flags)
+fields_text (Local type_index flags name) = type_field type_index ++ field (codes "flags") (local_flags flags)
 fields_text (BuildInfo s) = field (codes "id") (hex 8 s.id.0)
 fields_text (InlineSite s) =
-    field (codes "parent") (optional_index_text s.parent) ++ field (codes "end") (hex 8 s.end.0) ++ field (codes "inlinee") (hex 8 s.inlinee.0)
-    ++ field (codes "invocations") (optional_text s.invocations) ++ field (codes "annotations") (bytes_text s.annotations)
+    site_fields s.parent s.end s.inlinee ++ field (codes "invocations") (optional_text s.invocations) ++ field (codes "annotations") (bytes_text s.annotations)
 fields_text InlineSiteEnd = []
 fields_text ProcedureEnd = []
-fields_text (Label offset flags name) = place_field offset ++ field (codes "flags") (flags_text (procedure_flags flags))
+fields_text (Label offset flags name) = place_field offset ++ field (codes "flags") (procedure_flags flags)
 fields_text (Block parent end len offset name) = span_fields parent end len ++ place_field offset
 fields_text (RegisterRelative offset type_index register name) = field (codes "offset") (signed_decimal offset) ++ type_field type_index ++ field (codes "register") (hex 4 register.0)
 fields_text (Thunk s) = scope_fields s.parent s.end s.next ++ place_field s.offset ++ field (codes "len") (decimal s.len) ++ field (codes "kind") (thunk_text s.does)
-fields_text (SeparatedCode s) = span_fields s.parent s.end s.len ++ field (codes "flags") (flags_text (separated_code_flags s.flags)) ++ place_field s.offset ++ field (codes "parent_offset") (place_text s.parent_offset)
+fields_text (SeparatedCode s) = span_fields s.parent s.end s.len ++ field (codes "flags") (separated_code_flags s.flags) ++ place_field s.offset ++ field (codes "parent_offset") (place_text s.parent_offset)

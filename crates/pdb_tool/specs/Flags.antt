@@ -18,20 +18,20 @@ flags_text [] = codes "-"
 flags_text ((true, name) ∷ flags) = name ++ more_flags flags
 flags_text ((false, name) ∷ flags) = flags_text flags
 
--- ---- each struct's flags by their names, from the lowest bit upwards
+-- ---- each struct's flags, from the lowest bit upwards
 
-abbrev pub procedure_flags : ProcedureFlags → List (Bool × List ℕ)
-procedure_flags f = (f.nofpo, codes "nofpo") ∷ (f.int, codes "int") ∷ (f.far, codes "far") ∷ (f.never, codes "never") ∷ (f.notreached, codes "notreached") ∷ (f.cust_call, codes "cust_call") ∷ (f.noinline, codes "noinline") ∷ (f.optdbginfo, codes "optdbginfo") ∷ []
+unfoldable pub procedure_flags : ProcedureFlags → List ℕ
+procedure_flags f = flags_text ((f.nofpo, codes "nofpo") ∷ (f.int, codes "int") ∷ (f.far, codes "far") ∷ (f.never, codes "never") ∷ (f.notreached, codes "notreached") ∷ (f.cust_call, codes "cust_call") ∷ (f.noinline, codes "noinline") ∷ (f.optdbginfo, codes "optdbginfo") ∷ [])
 
-abbrev pub compile_flags : CompileFlags → List (Bool × List ℕ)
-compile_flags f = (f.edit_and_continue, codes "edit_and_continue") ∷ (f.no_debug_info, codes "no_debug_info") ∷ (f.link_time_codegen, codes "link_time_codegen") ∷ (f.no_data_align, codes "no_data_align") ∷ (f.managed, codes "managed") ∷ (f.security_checks, codes "security_checks") ∷ (f.hot_patch, codes "hot_patch") ∷ (f.cvtcil, codes "cvtcil") ∷ (f.msil_module, codes "msil_module") ∷ (f.sdl, codes "sdl") ∷ (f.pgo, codes "pgo") ∷ (f.exp_module, codes "exp_module") ∷ []
+unfoldable pub compile_flags : CompileFlags → List ℕ
+compile_flags f = flags_text ((f.edit_and_continue, codes "edit_and_continue") ∷ (f.no_debug_info, codes "no_debug_info") ∷ (f.link_time_codegen, codes "link_time_codegen") ∷ (f.no_data_align, codes "no_data_align") ∷ (f.managed, codes "managed") ∷ (f.security_checks, codes "security_checks") ∷ (f.hot_patch, codes "hot_patch") ∷ (f.cvtcil, codes "cvtcil") ∷ (f.msil_module, codes "msil_module") ∷ (f.sdl, codes "sdl") ∷ (f.pgo, codes "pgo") ∷ (f.exp_module, codes "exp_module") ∷ [])
 
 -- a bit's name is that of `CV_LVARFLAGS` in `cvinfo.h`: from the fifth bit on the field's name is another
-abbrev pub local_flags : LocalVariableFlags → List (Bool × List ℕ)
-local_flags f = (f.isparam, codes "param") ∷ (f.addrtaken, codes "addrtaken") ∷ (f.compgenx, codes "compgenx") ∷ (f.isaggregate, codes "aggregate") ∷ (f.isaliased, codes "aggregated") ∷ (f.isalias, codes "aliased") ∷ (f.isretvalue, codes "alias") ∷ (f.isoptimizedout, codes "retvalue") ∷ (f.isenreg_glob, codes "optimizedout") ∷ (f.isenreg_stat, codes "enreg_glob") ∷ []
+unfoldable pub local_flags : LocalVariableFlags → List ℕ
+local_flags f = flags_text ((f.isparam, codes "param") ∷ (f.addrtaken, codes "addrtaken") ∷ (f.compgenx, codes "compgenx") ∷ (f.isaggregate, codes "aggregate") ∷ (f.isaliased, codes "aggregated") ∷ (f.isalias, codes "aliased") ∷ (f.isretvalue, codes "alias") ∷ (f.isoptimizedout, codes "retvalue") ∷ (f.isenreg_glob, codes "optimizedout") ∷ (f.isenreg_stat, codes "enreg_glob") ∷ [])
 
-abbrev pub export_flags : ExportSymbolFlags → List (Bool × List ℕ)
-export_flags f = (f.constant, codes "constant") ∷ (f.«data», codes "data") ∷ (f.private, codes "private") ∷ (f.no_name, codes "no_name") ∷ (f.ordinal, codes "ordinal") ∷ (f.forwarder, codes "forwarder") ∷ []
+unfoldable pub export_flags : ExportSymbolFlags → List ℕ
+export_flags f = flags_text ((f.constant, codes "constant") ∷ (f.«data», codes "data") ∷ (f.private, codes "private") ∷ (f.no_name, codes "no_name") ∷ (f.ordinal, codes "ordinal") ∷ (f.forwarder, codes "forwarder") ∷ [])
 
-abbrev pub separated_code_flags : SeparatedCodeFlags → List (Bool × List ℕ)
-separated_code_flags f = (f.islexicalscope, codes "islexicalscope") ∷ (f.returnstoparent, codes "returnstoparent") ∷ []
+unfoldable pub separated_code_flags : SeparatedCodeFlags → List ℕ
+separated_code_flags f = flags_text ((f.islexicalscope, codes "islexicalscope") ∷ (f.returnstoparent, codes "returnstoparent") ∷ [])

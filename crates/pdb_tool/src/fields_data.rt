@@ -26,6 +26,7 @@ pub fn put_public(out: &mut Vec<u8>, symbol: &PublicSymbol<'_>) -> Result<(), Al
 }
 
 /// The fields of a constant.
+#[tactic(auto, unfolding(crate::specs::FieldTexts::field))]
 pub fn put_constant(out: &mut Vec<u8>, symbol: &ConstantSymbol<'_>) -> Result<(), AllocError>
     ensures { OnOk result (out.new.items ≡ out.old.items ++ fields_text (shown (says.Constant symbol.now))) }
 {
@@ -69,6 +70,7 @@ pub fn put_register_variable(
 }
 
 /// The fields of a variable in several registers.
+#[tactic(auto, unfolding(crate::specs::FieldTexts::field))]
 pub fn put_multi_register_variable(
     out: &mut Vec<u8>,
     symbol: &MultiRegisterVariableSymbol<'_>,
@@ -81,6 +83,7 @@ pub fn put_multi_register_variable(
 }
 
 /// The fields of a variable at an offset from a register.
+#[tactic(auto, unfolding(crate::specs::FieldTexts::field))]
 pub fn put_register_relative(
     out: &mut Vec<u8>,
     symbol: &RegisterRelativeSymbol<'_>,
@@ -98,6 +101,5 @@ pub fn put_local(out: &mut Vec<u8>, symbol: &LocalSymbol<'_>) -> Result<(), Allo
     ensures { OnOk result (out.new.items ≡ out.old.items ++ fields_text (shown (says.Local symbol.now))) }
 {
     put_type(out, symbol.type_index)?;
-    put_label(out, b"flags")?;
     put_local_flags(out, symbol.flags)
 }

@@ -1,8 +1,10 @@
 //! The names of flags.
 
 ghost use Rattle.std.specs.Prelude.{◌≡◌, ◌++◌, codes, map, OnOk};
+ghost use Rattle.pdb_tool.specs.FieldTexts.{field};
 ghost use Rattle.pdb_tool.specs.Flags.{compile_flags, export_flags, flags_text, local_flags, more_flags, procedure_flags, separated_code_flags};
 
+use crate::fields::put_label;
 use pdb::{
     CompileFlags, ExportSymbolFlags, LocalVariableFlags, ProcedureFlags, SeparatedCodeFlags,
 };
@@ -37,9 +39,11 @@ fn put_flags(out: &mut Vec<u8>, flags: &[(bool, &'static str)]) -> Result<(), Al
 }
 
 /// A procedure's flags, or a label's.
+#[tactic(auto, unfolding(crate::specs::FieldTexts::field, crate::specs::Flags::procedure_flags))]
 pub fn put_procedure_flags(out: &mut Vec<u8>, flags: ProcedureFlags) -> Result<(), AllocError>
-    ensures { OnOk result (out.new.items ≡ out.old.items ++ flags_text (procedure_flags flags)) }
+    ensures { OnOk result (out.new.items ≡ out.old.items ++ field (codes "flags") (procedure_flags flags)) }
 {
+    put_label(out, b"flags")?;
     put_flags(
         out,
         &[
@@ -56,9 +60,11 @@ pub fn put_procedure_flags(out: &mut Vec<u8>, flags: ProcedureFlags) -> Result<(
 }
 
 /// How a module was compiled.
+#[tactic(auto, unfolding(crate::specs::FieldTexts::field, crate::specs::Flags::compile_flags))]
 pub fn put_compile_flags(out: &mut Vec<u8>, flags: CompileFlags) -> Result<(), AllocError>
-    ensures { OnOk result (out.new.items ≡ out.old.items ++ flags_text (compile_flags flags)) }
+    ensures { OnOk result (out.new.items ≡ out.old.items ++ field (codes "flags") (compile_flags flags)) }
 {
+    put_label(out, b"flags")?;
     put_flags(
         out,
         &[
@@ -80,9 +86,11 @@ pub fn put_compile_flags(out: &mut Vec<u8>, flags: CompileFlags) -> Result<(), A
 
 /// A local variable's flags, by the names of the bits in `cvinfo.h`, which from the fifth on aren't those of the
 /// fields.
+#[tactic(auto, unfolding(crate::specs::FieldTexts::field, crate::specs::Flags::local_flags))]
 pub fn put_local_flags(out: &mut Vec<u8>, flags: LocalVariableFlags) -> Result<(), AllocError>
-    ensures { OnOk result (out.new.items ≡ out.old.items ++ flags_text (local_flags flags)) }
+    ensures { OnOk result (out.new.items ≡ out.old.items ++ field (codes "flags") (local_flags flags)) }
 {
+    put_label(out, b"flags")?;
     put_flags(
         out,
         &[
@@ -101,9 +109,11 @@ pub fn put_local_flags(out: &mut Vec<u8>, flags: LocalVariableFlags) -> Result<(
 }
 
 /// An export's flags.
+#[tactic(auto, unfolding(crate::specs::FieldTexts::field, crate::specs::Flags::export_flags))]
 pub fn put_export_flags(out: &mut Vec<u8>, flags: ExportSymbolFlags) -> Result<(), AllocError>
-    ensures { OnOk result (out.new.items ≡ out.old.items ++ flags_text (export_flags flags)) }
+    ensures { OnOk result (out.new.items ≡ out.old.items ++ field (codes "flags") (export_flags flags)) }
 {
+    put_label(out, b"flags")?;
     put_flags(
         out,
         &[
@@ -118,12 +128,14 @@ pub fn put_export_flags(out: &mut Vec<u8>, flags: ExportSymbolFlags) -> Result<(
 }
 
 /// The flags of separated code.
+#[tactic(auto, unfolding(crate::specs::FieldTexts::field, crate::specs::Flags::separated_code_flags))]
 pub fn put_separated_code_flags(
     out: &mut Vec<u8>,
     flags: SeparatedCodeFlags,
 ) -> Result<(), AllocError>
-    ensures { OnOk result (out.new.items ≡ out.old.items ++ flags_text (separated_code_flags flags)) }
+    ensures { OnOk result (out.new.items ≡ out.old.items ++ field (codes "flags") (separated_code_flags flags)) }
 {
+    put_label(out, b"flags")?;
     put_flags(
         out,
         &[

@@ -13,6 +13,7 @@ mod flags;
 mod kind_names;
 mod line_texts;
 mod scope_texts;
+mod symbol_texts;
 mod values;
 mod values_forms;
 

@@ -133,7 +133,19 @@ fn put_register(out: &mut Vec<u8>, register: &(Register, RawString<'_>)) -> Resu
     out.extend_from_slice(register.1.as_bytes())
 }
 
+/// A register and its name behind a comma.
+fn put_behind_comma(
+    out: &mut Vec<u8>,
+    register: &(Register, RawString<'_>),
+) -> Result<(), AllocError>
+    ensures { OnOk result (out.new.items ≡ out.old.items ++ (codes "," ++ register_text (shown_register register.now))) }
+{
+    out.push(b',')?;
+    put_register(out, register)
+}
+
 /// The registers, each behind a comma.
+#[tactic(auto, using(crate::proofs::Registers::registers_more))]
 fn put_more_registers(
     out: &mut Vec<u8>,
     registers: &[(Register, RawString<'_>)],
@@ -141,8 +153,7 @@ fn put_more_registers(
     ensures { OnOk result (out.new.items ≡ out.old.items ++ more_registers (shown_registers registers.now)) }
 {
     for register in registers {
-        out.push(b',')?;
-        put_register(out, register)?;
+        put_behind_comma(out, register)?;
     }
     Ok(())
 }
