@@ -145,7 +145,6 @@ fn put_behind_comma(
 }
 
 /// The registers, each behind a comma.
-#[tactic(auto, using(crate::proofs::Registers::registers_more))]
 fn put_more_registers(
     out: &mut Vec<u8>,
     registers: &[(Register, RawString<'_>)],
