@@ -14,6 +14,8 @@ mod kind_names;
 mod line_texts;
 mod scope_texts;
 mod symbol_texts;
+#[cfg(test)]
+mod tests;
 mod values;
 mod values_forms;
 
