@@ -14,6 +14,21 @@ short_hex n = codes "0x" ++ digits 16 false n
 abbrev pub long_hex : ℕ → List ℕ
 long_hex n = codes "0x" ++ hex 4 n
 
+-- what the Display of a refusal writes that is for what stands in a symbol, in a part of a module, or for no file
+abbrev pub later_message : Error → List ℕ
+later_message (UnimplementedSymbolKind n) = codes "symbols of kind " ++ long_hex n ++ codes " are not supported"
+later_message (UnimplementedDebugSubsection n) = codes "debug subsections of kind " ++ short_hex n ++ codes " are not supported"
+later_message (UnimplementedFileChecksumKind n) = codes "file checksums of kind " ++ decimal n ++ codes " are not supported"
+later_message (InvalidFileChecksumOffset n) = codes "there is no file checksum at " ++ short_hex n
+later_message (UnknownBinaryAnnotation n) = codes "binary annotation " ++ decimal n ++ codes " is unknown"
+later_message InvalidCompressedAnnotation = codes "a number in a binary annotation is not spelled as it must be"
+later_message (NotACrossModuleRef n) = codes "index " ++ short_hex n ++ codes " refers to no other module"
+later_message (CrossModuleRefNotFound n) = codes "index " ++ short_hex n ++ codes " is not among the imports of the module"
+later_message (UnexpectedNumericPrefix n) = codes "the prefix " ++ long_hex n ++ codes " says no known kind of number"
+later_message IoError = codes "the file could not be read"
+later_message OutOfMemory = codes "out of memory"
+later_message e = []
+
 -- what a refusal's Display writes
 abbrev pub message_of : Error → List ℕ
 message_of UnexpectedEof = codes "the data ends before a record does"
@@ -27,17 +42,7 @@ message_of GlobalSymbolsNotFound = codes "the file has no global symbols"
 message_of AddressMapNotFound = codes "the file has no complete address map"
 message_of (InvalidStreamLength part) = codes "invalid length: " ++ part_text part
 message_of SymbolTooShort = codes "a symbol record is shorter than two bytes"
-message_of (UnimplementedSymbolKind n) = codes "symbols of kind " ++ long_hex n ++ codes " are not supported"
-message_of (UnimplementedDebugSubsection n) = codes "debug subsections of kind " ++ short_hex n ++ codes " are not supported"
-message_of (UnimplementedFileChecksumKind n) = codes "file checksums of kind " ++ decimal n ++ codes " are not supported"
-message_of (InvalidFileChecksumOffset n) = codes "there is no file checksum at " ++ short_hex n
-message_of (UnknownBinaryAnnotation n) = codes "binary annotation " ++ decimal n ++ codes " is unknown"
-message_of InvalidCompressedAnnotation = codes "a number in a binary annotation is not spelled as it must be"
-message_of (NotACrossModuleRef n) = codes "index " ++ short_hex n ++ codes " refers to no other module"
-message_of (CrossModuleRefNotFound n) = codes "index " ++ short_hex n ++ codes " is not among the imports of the module"
-message_of (UnexpectedNumericPrefix n) = codes "the prefix " ++ long_hex n ++ codes " says no known kind of number"
-message_of IoError = codes "the file could not be read"
-message_of OutOfMemory = codes "out of memory"
+message_of e = later_message e
 
 -- `error`, the refusal's number, and what its Display writes
 abbrev pub error_line : Error → List ℕ

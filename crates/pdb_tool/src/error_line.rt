@@ -4,18 +4,18 @@ ghost use Rattle.std.specs.Prelude.{◌≡◌, ◌≢◌, ◌++◌, codes, OnOk}
 ghost use Rattle.std.specs.Fmt.{decimal, digits};
 ghost use Rattle.pdb.specs.Error.TheVariants.{OutOfMemory};
 ghost use Rattle.pdb_text.specs.Digits.{hex};
-ghost use Rattle.pdb_tool.specs.ErrorLine.{error_line, long_hex, message_of, short_hex};
+ghost use Rattle.pdb_tool.specs.ErrorLine.{error_line, later_message, long_hex, message_of, short_hex};
 
 use pdb::Error;
 use pdb_text::{put_decimal, put_hex4, put_line_end};
 use std::alloc::AllocError;
 
 /// Text, a number in decimal digits, and text.
-fn put_numbered(out: &mut Vec<u8>, before: &[u8], n: u64, behind: &[u8]) -> Result<(), AllocError>
+fn put_numbered(out: &mut Vec<u8>, before: &[u8], n: u32, behind: &[u8]) -> Result<(), AllocError>
     ensures { OnOk result (out.new.items ≡ out.old.items ++ (before.now ++ decimal n ++ behind.now)) }
 {
     out.extend_from_slice(before)?;
-    put_decimal(out, n)?;
+    put_decimal(out, u64::from(n))?;
     out.extend_from_slice(behind)
 }
 
@@ -49,57 +49,24 @@ fn put_two(out: &mut Vec<u8>, first: &[u8], second: &[u8]) -> Result<(), AllocEr
     out.extend_from_slice(second)
 }
 
-/// What the refusal's Display writes.
-fn put_message(out: &mut Vec<u8>, e: Error) -> Result<(), AllocError>
-    ensures { OnOk result (out.new.items ≡ out.old.items ++ message_of e) }
+/// What the Display of a later refusal writes: one for what stands in a symbol, in a part of a module, or for no file.
+fn put_later_message(out: &mut Vec<u8>, e: Error) -> Result<(), AllocError>
+    ensures { OnOk result (out.new.items ≡ out.old.items ++ later_message e) }
 {
     let supported = b" are not supported";
     match e {
-        Error::UnexpectedEof => out.extend_from_slice(b"the data ends before a record does"),
-        Error::UnimplementedFeature(feature) => {
-            put_two(out, b"not supported: ", feature.as_str().as_bytes())
-        }
-        Error::UnrecognizedFileFormat => {
-            out.extend_from_slice(b"this is no PDB file of the format MSF 7.00")
-        }
-        Error::InvalidPageSize(n) => {
-            put_numbered(
-                out,
-                b"the container has an invalid page size: ",
-                u64::from(n),
-                b"",
-            )
-        }
-        Error::PageReferenceOutOfRange(n) => {
-            put_numbered(
-                out,
-                b"page ",
-                u64::from(n),
-                b" is not among the pages of the file",
-            )
-        }
-        Error::StreamNotFound(n) => put_numbered(out, b"there is no stream ", u64::from(n), b""),
-        Error::StreamNameNotFound => out.extend_from_slice(b"there is no stream of this name"),
-        Error::GlobalSymbolsNotFound => out.extend_from_slice(b"the file has no global symbols"),
-        Error::AddressMapNotFound => out.extend_from_slice(b"the file has no complete address map"),
-        Error::InvalidStreamLength(part) => {
-            put_two(out, b"invalid length: ", part.as_str().as_bytes())
-        }
-        Error::SymbolTooShort => {
-            out.extend_from_slice(b"a symbol record is shorter than two bytes")
-        }
         Error::UnimplementedSymbolKind(n) => put_kind(out, b"symbols of kind ", n, supported),
         Error::UnimplementedDebugSubsection(n) => {
             put_index(out, b"debug subsections of kind ", n, supported)
         }
         Error::UnimplementedFileChecksumKind(n) => {
-            put_numbered(out, b"file checksums of kind ", u64::from(n), supported)
+            put_numbered(out, b"file checksums of kind ", u32::from(n), supported)
         }
         Error::InvalidFileChecksumOffset(n) => {
             put_index(out, b"there is no file checksum at ", n, b"")
         }
         Error::UnknownBinaryAnnotation(n) => {
-            put_numbered(out, b"binary annotation ", u64::from(n), b" is unknown")
+            put_numbered(out, b"binary annotation ", n, b" is unknown")
         }
         Error::InvalidCompressedAnnotation => {
             out.extend_from_slice(b"a number in a binary annotation is not spelled as it must be")
@@ -120,6 +87,39 @@ fn put_message(out: &mut Vec<u8>, e: Error) -> Result<(), AllocError>
         }
         Error::IoError => out.extend_from_slice(b"the file could not be read"),
         Error::OutOfMemory => out.extend_from_slice(b"out of memory"),
+        _ => Ok(()),
+    }
+}
+
+/// What the refusal's Display writes.
+fn put_message(out: &mut Vec<u8>, e: Error) -> Result<(), AllocError>
+    ensures { OnOk result (out.new.items ≡ out.old.items ++ message_of e) }
+{
+    match e {
+        Error::UnexpectedEof => out.extend_from_slice(b"the data ends before a record does"),
+        Error::UnimplementedFeature(feature) => {
+            put_two(out, b"not supported: ", feature.as_str().as_bytes())
+        }
+        Error::UnrecognizedFileFormat => {
+            out.extend_from_slice(b"this is no PDB file of the format MSF 7.00")
+        }
+        Error::InvalidPageSize(n) => {
+            put_numbered(out, b"the container has an invalid page size: ", n, b"")
+        }
+        Error::PageReferenceOutOfRange(n) => {
+            put_numbered(out, b"page ", n, b" is not among the pages of the file")
+        }
+        Error::StreamNotFound(n) => put_numbered(out, b"there is no stream ", n, b""),
+        Error::StreamNameNotFound => out.extend_from_slice(b"there is no stream of this name"),
+        Error::GlobalSymbolsNotFound => out.extend_from_slice(b"the file has no global symbols"),
+        Error::AddressMapNotFound => out.extend_from_slice(b"the file has no complete address map"),
+        Error::InvalidStreamLength(part) => {
+            put_two(out, b"invalid length: ", part.as_str().as_bytes())
+        }
+        Error::SymbolTooShort => {
+            out.extend_from_slice(b"a symbol record is shorter than two bytes")
+        }
+        e => put_later_message(out, e),
     }
 }
 
@@ -127,7 +127,7 @@ fn put_message(out: &mut Vec<u8>, e: Error) -> Result<(), AllocError>
 pub fn put_error_line(out: &mut Vec<u8>, e: Error) -> Result<(), AllocError>
     ensures { OnOk result (out.new.items ≡ out.old.items ++ error_line e) }
 {
-    put_numbered(out, b"error ", u64::from(e.number()), b" ")?;
+    put_numbered(out, b"error ", u32::from(e.number()), b" ")?;
     put_message(out, e)?;
     put_line_end(out)
 }

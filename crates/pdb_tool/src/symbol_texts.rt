@@ -55,7 +55,7 @@ fn put_fields(
     ensures { OnOk result (out.new.items ≡ out.old.items ++ fields_text (shown parsed.now)) }
 {
     match parsed {
-        SymbolData::ScopeEnd => Ok(()),
+        SymbolData::ScopeEnd | SymbolData::InlineSiteEnd | SymbolData::ProcedureEnd => Ok(()),
         SymbolData::ObjName(s) => put_number(out, b"signature", s.signature),
         SymbolData::RegisterVariable(s) => put_register_variable(out, s),
         SymbolData::Constant(s) => put_constant(out, s),
@@ -77,8 +77,6 @@ fn put_fields(
         SymbolData::Local(s) => put_local(out, s),
         SymbolData::BuildInfo(s) => put_index(out, b"id", s.id.0),
         SymbolData::InlineSite(s) => put_inline_site(out, symbol, s),
-        SymbolData::InlineSiteEnd => Ok(()),
-        SymbolData::ProcedureEnd => Ok(()),
         SymbolData::Label(s) => put_label_symbol(out, s),
         SymbolData::Block(s) => put_block(out, s),
         SymbolData::RegisterRelative(s) => put_register_relative(out, s),
