@@ -2,3 +2,8 @@ pub mod HexWords
 pub mod AnsweredLines
 pub mod RefusalIs
 pub mod AllWords
+pub mod Blanks
+pub mod Annotations
+pub mod Results
+pub mod Refused
+pub mod Registers

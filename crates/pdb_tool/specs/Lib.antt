@@ -2,3 +2,13 @@ pub mod Asked
 pub mod Stops
 pub mod Keys
 pub mod Words
+pub mod ErrorLine
+pub mod Values
+pub mod Depth
+pub mod LineTexts
+pub mod ScopeTexts
+pub mod KindNames
+pub mod Flags
+pub mod ValueTexts
+pub mod FieldTexts
+pub mod SymbolTexts

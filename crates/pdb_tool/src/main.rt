@@ -2,11 +2,28 @@
 #![tactic(auto)]
 
 mod asked;
+mod depth;
+mod error_line;
+#[cfg(test)]
+mod fakes;
+mod fields;
+mod fields_code;
+mod fields_data;
+mod fields_references;
+mod flags;
 mod help;
 mod key;
+mod kind_names;
+mod line_texts;
 mod report;
 mod resolve;
+mod scope_texts;
 mod stop;
+mod symbol_texts;
+#[cfg(test)]
+mod tests;
+mod values;
+mod values_forms;
 mod words;
 
 use help::{VERSION, help_of};

@@ -1,0 +1,13 @@
+-- What is put piece after piece, by calls of which the last may want memory.
+use Rattle.std.proofs.Common.{◌≡◌, ℕ, List, ◌++◌, Result, Ok, Err, OnOk, ap, ◌∙◌, append_assoc}
+
+pub on_ok : {A E : Type 0} {P Q : Type 0} (r : Result A E) → (P → Q) → OnOk r P → OnOk r Q
+on_ok (Ok x) f h = f h
+on_ok (Err e) f h = tt
+
+-- one more piece behind those before it
+pub more : {A E : Type 0} (r : Result A E) (o m n a b : List ℕ) → OnOk r (n ≡ m ++ b) → m ≡ o ++ a → OnOk r (n ≡ o ++ (a ++ b))
+more r o m n a b h first = on_ok r (λ e. e ∙ ap (λ (xs : List ℕ). xs ++ b) first ∙ append_assoc o a b) h
+
+pub joined : (o m n a b : List ℕ) → n ≡ m ++ b → m ≡ o ++ a → n ≡ o ++ (a ++ b)
+joined o m n a b e first = e ∙ ap (λ (xs : List ℕ). xs ++ b) first ∙ append_assoc o a b

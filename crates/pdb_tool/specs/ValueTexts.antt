@@ -1,0 +1,86 @@
+-- How the values of fields are told.
+use Rattle.std.specs.Prelude.{ℕ, ℤ, Bool, true, false, List, [], ◌∷◌, ◌++◌, Option, Some, None, codes, flat_map, ◌==◌, if◌then◌else◌}
+use Rattle.std.specs.Fmt.{decimal, signed_decimal}
+use Rattle.pdb_base.specs.declared.index.Register.{Register}
+use Rattle.pdb_base.specs.declared.index.SymbolIndex.{SymbolIndex}
+use Rattle.pdb_base.specs.declared.variant.Variant.{Variant}
+use Rattle.pdb_base.specs.declared.variant.Variant.TheVariants.{U8, U16, U32, U64, I8, I16, I32, I64}
+use Rattle.pdb_symbols.specs.declared.compilers.CompilerVersion.{CompilerVersion}
+use Rattle.pdb_symbols.specs.declared.thunks.TrampolineType.{TrampolineType}
+use Rattle.pdb_symbols.specs.declared.thunks.TrampolineType.TheVariants as trampoline
+use Rattle.pdb_symbols.specs.Data.{ThunkDoes}
+use Rattle.pdb_symbols.specs.Data.ThunkDoes.{NoType, Adjustor, VCall, PCode, Load, Unknown}
+use Rattle.pdb_text.specs.Digits.{hex}
+use Rattle.pdb_tool.specs.KindNames.{kind_name}
+
+-- a kind's name, or its number in four hex digits where it has none
+abbrev pub name_or_number : ℕ → Option (List ℕ) → List ℕ
+name_or_number kind None = hex 4 kind
+name_or_number kind (Some name) = name
+
+abbrev pub kind_text : ℕ → List ℕ
+kind_text kind = name_or_number kind (kind_name kind)
+
+abbrev pub bool_text : Bool → List ℕ
+bool_text true = codes "true"
+bool_text false = codes "false"
+
+-- a symbol's index, `-` where there is none
+abbrev pub optional_index_text : Option SymbolIndex → List ℕ
+optional_index_text None = codes "-"
+optional_index_text (Some i) = hex 8 i.0
+
+abbrev pub variant_text : Variant → List ℕ
+variant_text (U8 n) = decimal n
+variant_text (U16 n) = decimal n
+variant_text (U32 n) = decimal n
+variant_text (U64 n) = decimal n
+variant_text (I8 z) = signed_decimal z
+variant_text (I16 z) = signed_decimal z
+variant_text (I32 z) = signed_decimal z
+variant_text (I64 z) = signed_decimal z
+
+-- the number of a quick fix behind a point, where there is one
+abbrev pub qfe_text : Option ℕ → List ℕ
+qfe_text None = []
+qfe_text (Some n) = codes "." ++ decimal n
+
+abbrev pub version_text : CompilerVersion → List ℕ
+version_text v = decimal v.major ++ codes "." ++ decimal v.minor ++ codes "." ++ decimal v.build ++ qfe_text v.qfe
+
+abbrev pub trampoline_text : TrampolineType → List ℕ
+trampoline_text trampoline.Incremental = codes "Incremental"
+trampoline_text trampoline.BranchIsland = codes "BranchIsland"
+trampoline_text trampoline.Unknown = codes "Unknown"
+
+-- what a thunk does
+abbrev pub thunk_text : ThunkDoes → List ℕ
+thunk_text NoType = codes "no_type"
+thunk_text (Adjustor delta target) = codes "adjustor:" ++ decimal delta ++ codes ":" ++ target
+thunk_text (VCall offset) = codes "v_call:" ++ decimal offset
+thunk_text PCode = codes "p_code"
+thunk_text Load = codes "load"
+thunk_text (Unknown ordinal) = codes "unknown:" ++ decimal ordinal
+
+-- a register and its name
+abbrev pub register_text : Register × List ℕ → List ℕ
+register_text r = hex 4 r.0.0 ++ codes ":" ++ r.1
+
+-- the registers, each behind a comma
+abbrev pub more_registers : List (Register × List ℕ) → List ℕ
+more_registers [] = []
+more_registers (r ∷ rs) = codes "," ++ (register_text r ++ more_registers rs)
+
+-- the registers joined by commas, `-` where there is none
+abbrev pub registers_text : List (Register × List ℕ) → List ℕ
+registers_text [] = codes "-"
+registers_text (r ∷ rs) = register_text r ++ more_registers rs
+
+-- bytes in two hex digits each, `-` where there is none
+abbrev pub bytes_text : List ℕ → List ℕ
+bytes_text [] = codes "-"
+bytes_text (b ∷ bs) = flat_map (hex 2) (b ∷ bs)
+
+-- where the annotations begin in the record of an inlined call: behind its kind and three indices, and in kind 0x115d a number
+abbrev pub annotations_place : ℕ → ℕ
+annotations_place kind = if kind == 0x115d then 18 else 14

@@ -1,0 +1,19 @@
+-- How values are told.
+use Rattle.std.specs.Prelude.{ℕ, List, [], ◌∷◌, ◌++◌, Option, Some, None, codes}
+use Rattle.std.specs.Fmt.{decimal}
+use Rattle.pdb.specs.PdbInternalSectionOffset.{PdbInternalSectionOffset}
+use Rattle.pdb_text.specs.Digits.{hex}
+
+-- a place: a section and an offset in it
+abbrev pub place_text : PdbInternalSectionOffset → List ℕ
+place_text o = hex 4 o.section ++ codes ":" ++ hex 8 o.offset
+
+-- a number, `-` where there is none
+abbrev pub optional_text : Option ℕ → List ℕ
+optional_text None = codes "-"
+optional_text (Some n) = decimal n
+
+-- a name behind a blank, nothing where it is empty
+abbrev pub behind_blank : List ℕ → List ℕ
+behind_blank [] = []
+behind_blank (b ∷ name) = codes " " ++ b ∷ name

@@ -1,0 +1,31 @@
+//! How deep symbols stand in scopes.
+
+ghost use Rattle.std.specs.Prelude.{◌≡◌, ◌++◌, ◌-◌, ◌≤◌, OnOk};
+ghost use Rattle.pdb.specs.Views.{symbol_of};
+ghost use Rattle.pdb.specs.Forms.{kind_at};
+ghost use Rattle.pdb_tool.specs.Depth.{blanks, depth_at};
+
+use pdb::Symbol;
+use std::alloc::AllocError;
+
+/// Two blanks for each depth.
+pub fn put_blanks(out: &mut Vec<u8>, depth: usize) -> Result<(), AllocError>
+    ensures { OnOk result (out.new.items ≡ out.old.items ++ blanks depth) }
+{
+    for _ in 0..depth {
+        out.extend_from_slice(b"  ")?;
+    }
+    Ok(())
+}
+
+/// The depth of a symbol: one less than that before it where it ends a scope.
+pub fn depth_of(depth: usize, symbol: &Symbol<'_>) -> usize
+    ensures is { result ≡ depth_at depth (kind_at (symbol_of symbol.now).bytes) }
+    ensures shallow { result ≤ depth }
+{
+    if symbol.ends_scope() {
+        depth.saturating_sub(1)
+    } else {
+        depth
+    }
+}

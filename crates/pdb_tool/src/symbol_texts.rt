@@ -1,0 +1,203 @@
+//! The text of `symbols`.
+
+ghost use Rattle.std.specs.Prelude.{◌≡◌, ◌≢◌, ◌++◌, drop, flat_map, OnOk, codes, Err};
+ghost use Rattle.std.specs.Option.{option_map};
+ghost use Rattle.std.specs.Fmt.{decimal};
+ghost use Rattle.pdb.specs.Error.TheVariants.{OutOfMemory};
+ghost use Rattle.pdb.specs.Data.{name_of, shown};
+ghost use Rattle.pdb.specs.Forms.{Is, kind_at, record_at};
+ghost use Rattle.pdb.specs.Text.{name_bytes};
+ghost use Rattle.pdb.specs.Views.{symbol_of, symbols_left};
+ghost use Rattle.pdb_text.specs.Digits.{hex};
+ghost use Rattle.pdb_tool.specs.Depth.{blanks, depth_at};
+ghost use Rattle.pdb_tool.specs.FieldTexts.{field, fields_text};
+ghost use Rattle.pdb_tool.specs.SymbolTexts.{global_symbols_text, name_text, record_text, symbol_line, symbol_list_text, symbols_text};
+ghost use Rattle.pdb_tool.specs.Values.{behind_blank};
+ghost use Rattle.pdb_tool.specs.ValueTexts.{kind_text};
+
+use crate::depth::{depth_of, put_blanks};
+use crate::error_line::{put_error_line, put_refusal_line};
+use crate::fields::{put_index, put_number, put_reference, put_type};
+use crate::fields_code::{
+    put_block, put_inline_site, put_label_symbol, put_procedure, put_separated_code, put_thunk,
+    put_trampoline_symbol,
+};
+use crate::fields_data::{
+    put_constant, put_data, put_local, put_multi_register_variable, put_public,
+    put_register_relative, put_register_variable, put_thread_storage,
+};
+use crate::fields_references::{put_compile_flags_symbol, put_export, put_procedure_reference};
+use crate::kind_names::kind_name;
+use crate::values::put_behind_blank;
+use pdb::{
+    Error, FallibleIterator, ModuleInfo, RawString, Symbol, SymbolData, SymbolIter, SymbolTable,
+};
+use pdb_text::{put_decimal, put_hex_bytes, put_hex4, put_hex8, put_line_end};
+use std::alloc::{AllocError, Global};
+
+/// A kind's name, or its number in four hex digits where it has none.
+fn put_kind(out: &mut Vec<u8>, kind: u16) -> Result<(), AllocError>
+    ensures { OnOk result (out.new.items ≡ out.old.items ++ kind_text kind) }
+{
+    match kind_name(kind) {
+        Some(name) => out.extend_from_slice(name.as_bytes()),
+        None => put_hex4(out, kind),
+    }
+}
+
+/// The fields of what the record of a symbol says.
+fn put_fields(
+    out: &mut Vec<u8>,
+    symbol: &Symbol<'_>,
+    parsed: &SymbolData<'_>,
+) -> Result<(), AllocError>
+    requires { Is (symbol_of symbol.now).bytes (shown parsed.now) }
+    ensures { OnOk result (out.new.items ≡ out.old.items ++ fields_text (shown parsed.now)) }
+{
+    match parsed {
+        SymbolData::ScopeEnd | SymbolData::InlineSiteEnd | SymbolData::ProcedureEnd => Ok(()),
+        SymbolData::ObjName(s) => put_number(out, b"signature", s.signature),
+        SymbolData::RegisterVariable(s) => put_register_variable(out, s),
+        SymbolData::Constant(s) => put_constant(out, s),
+        SymbolData::UserDefinedType(s) => put_type(out, s.type_index),
+        SymbolData::MultiRegisterVariable(s) => put_multi_register_variable(out, s),
+        SymbolData::Data(s) => put_data(out, s),
+        SymbolData::Public(s) => put_public(out, s),
+        SymbolData::Procedure(s) => put_procedure(out, s),
+        SymbolData::ThreadStorage(s) => put_thread_storage(out, s),
+        SymbolData::CompileFlags(s) => put_compile_flags_symbol(out, s),
+        SymbolData::UsingNamespace(_) => Ok(()),
+        SymbolData::ProcedureReference(s) => put_procedure_reference(out, s),
+        SymbolData::DataReference(s) => put_reference(out, s.sum_name, s.symbol_index, s.module),
+        SymbolData::AnnotationReference(s) => {
+            put_reference(out, s.sum_name, s.symbol_index, s.module)
+        }
+        SymbolData::Trampoline(s) => put_trampoline_symbol(out, s),
+        SymbolData::Export(s) => put_export(out, s),
+        SymbolData::Local(s) => put_local(out, s),
+        SymbolData::BuildInfo(s) => put_index(out, b"id", s.id.0),
+        SymbolData::InlineSite(s) => put_inline_site(out, symbol, s),
+        SymbolData::Label(s) => put_label_symbol(out, s),
+        SymbolData::Block(s) => put_block(out, s),
+        SymbolData::RegisterRelative(s) => put_register_relative(out, s),
+        SymbolData::Thunk(s) => put_thunk(out, s),
+        SymbolData::SeparatedCode(s) => put_separated_code(out, s),
+    }
+}
+
+/// A name behind a blank, where there is one that isn't empty.
+fn put_name(out: &mut Vec<u8>, name: Option<RawString<'_>>) -> Result<(), AllocError>
+    ensures { OnOk result (out.new.items ≡ out.old.items ++ name_text (option_map name_bytes name.entry)) }
+{
+    match name {
+        Some(name) => put_behind_blank(out, name.as_bytes()),
+        None => Ok(()),
+    }
+}
+
+/// What the record of a symbol says: its fields and its name.
+fn put_says(
+    out: &mut Vec<u8>,
+    symbol: &Symbol<'_>,
+    parsed: &SymbolData<'_>,
+) -> Result<(), AllocError>
+    requires { Is (symbol_of symbol.now).bytes (shown parsed.now) }
+    ensures { OnOk result (out.new.items ≡ out.old.items ++ (fields_text (shown parsed.now) ++ name_text (name_of (shown parsed.now)))) }
+{
+    put_fields(out, symbol, parsed)?;
+    put_name(out, parsed.name())
+}
+
+/// A refusal in a symbol's line, and the record's bytes behind the kind; want of memory is passed on.
+fn put_refused(out: &mut Vec<u8>, e: Error, bytes: &[u8]) -> Result<(), AllocError>
+    ensures { OnOk result ((e ≢ OutOfMemory) × (out.new.items ≡ out.old.items ++ record_text bytes.now (Err e))) }
+{
+    match e {
+        Error::OutOfMemory => Err(AllocError),
+        e => {
+            out.extend_from_slice(b" error ")?;
+            put_decimal(out, u64::from(e.number()))?;
+            out.extend_from_slice(b" bytes=")?;
+            put_hex_bytes(out, bytes.get(2..).unwrap_or(&[]))
+        }
+    }
+}
+
+/// What the record of a symbol says, or its refusal.
+fn put_record(alloc: Global, out: &mut Vec<u8>, symbol: &Symbol<'_>) -> Result<(), AllocError>
+    ensures { OnOk result (out.new.items ≡ out.old.items ++ record_text (symbol_of symbol.now).bytes (record_at (symbol_of symbol.now).bytes)) }
+{
+    match symbol.parse(alloc) {
+        Ok(parsed) => put_says(out, symbol, &parsed),
+        Err(e) => put_refused(out, e, symbol.raw_bytes()),
+    }
+}
+
+/// The line of a symbol at a depth.
+#[tactic(auto, unfolding(crate::specs::SymbolTexts::symbol_line))]
+fn put_symbol(
+    alloc: Global,
+    out: &mut Vec<u8>,
+    depth: usize,
+    symbol: &Symbol<'_>,
+) -> Result<(), AllocError>
+    ensures { OnOk result (out.new.items ≡ out.old.items ++ symbol_line depth (symbol_of symbol.now)) }
+{
+    put_blanks(out, depth)?;
+    put_hex8(out, symbol.index().0)?;
+    out.push(b' ')?;
+    put_kind(out, symbol.raw_kind())?;
+    put_record(alloc, out, symbol)?;
+    put_line_end(out)
+}
+
+/// The lines of the symbols that an iterator has left, and then that of its fault.
+pub fn put_symbol_list(
+    alloc: Global,
+    out: &mut Vec<u8>,
+    mut symbols: SymbolIter<'_>,
+) -> Result<(), AllocError>
+    ensures { OnOk result (out.new.items ≡ out.old.items ++ symbol_list_text 0 (symbols_left symbols.entry)) }
+{
+    let mut depth = 0usize;
+    loop {
+        match symbols.next() {
+            Ok(Some(symbol)) => {
+                depth = depth_of(depth, &symbol);
+                put_symbol(alloc, out, depth, &symbol)?;
+                if symbol.starts_scope() {
+                    depth += 1;
+                }
+            }
+            Ok(None) => return Ok(()),
+            Err(e) => return put_error_line(out, e),
+        }
+    }
+}
+
+/// The text of `symbols` of a module: its symbols, or their refusal.
+#[tactic(auto, unfolding(crate::specs::SymbolTexts::symbols_text))]
+pub fn put_symbols_of(
+    alloc: Global,
+    out: &mut Vec<u8>,
+    info: &ModuleInfo<'_>,
+) -> Result<(), AllocError>
+    ensures { OnOk result (out.new.items ≡ out.old.items ++ symbols_text info.now) }
+{
+    match info.symbols() {
+        Ok(symbols) => put_symbol_list(alloc, out, symbols),
+        Err(e) => put_refusal_line(out, e),
+    }
+}
+
+/// The text of `symbols` of the stream of global symbols.
+#[tactic(auto, unfolding(crate::specs::SymbolTexts::global_symbols_text))]
+pub fn put_global_symbols(
+    alloc: Global,
+    out: &mut Vec<u8>,
+    symbols: &SymbolTable<'_>,
+) -> Result<(), AllocError>
+    ensures { OnOk result (out.new.items ≡ out.old.items ++ global_symbols_text symbols.now) }
+{
+    put_symbol_list(alloc, out, symbols.iter())
+}

@@ -1,0 +1,182 @@
+//! Values of single forms, each put behind what is there already.
+
+ghost use Rattle.std.specs.Prelude.{◌≡◌, ◌++◌, codes, flat_map, OnOk};
+ghost use Rattle.std.specs.Fmt.{decimal, signed_decimal};
+ghost use Rattle.pdb.specs.Data.{shown_register, shown_registers, shown_thunk_kind};
+ghost use Rattle.pdb_symbols.specs.declared.thunks.ThunkKind.TheVariants as does;
+ghost use Rattle.pdb.specs.Languages.{language_text};
+ghost use Rattle.pdb.specs.Processors.{cpu_text};
+ghost use Rattle.pdb_text.specs.Digits.{hex};
+ghost use Rattle.pdb_tool.specs.ValueTexts.{bytes_text, more_registers, qfe_text, register_text, registers_text, thunk_text, trampoline_text, variant_text, version_text};
+
+use pdb::{
+    CPUType, CompilerVersion, RawString, Register, SourceLanguage, ThunkAdjustor, ThunkKind,
+    TrampolineType, Variant,
+};
+use pdb_text::{put_decimal, put_hex_bytes, put_hex4};
+use std::alloc::AllocError;
+
+/// A signed number in decimal digits.
+pub fn put_signed(out: &mut Vec<u8>, n: i64) -> Result<(), AllocError>
+    ensures { OnOk result (out.new.items ≡ out.old.items ++ signed_decimal n) }
+{
+    let alloc = *out.allocator();
+    let text = format!(in alloc; "{n}")?;
+    out.extend_from_slice(text.as_bytes())
+}
+
+/// A number of any width, in decimal digits.
+pub fn put_variant(out: &mut Vec<u8>, value: Variant) -> Result<(), AllocError>
+    ensures { OnOk result (out.new.items ≡ out.old.items ++ variant_text value) }
+{
+    match value {
+        Variant::U8(n) => put_decimal(out, u64::from(n)),
+        Variant::U16(n) => put_decimal(out, u64::from(n)),
+        Variant::U32(n) => put_decimal(out, u64::from(n)),
+        Variant::U64(n) => put_decimal(out, n),
+        Variant::I8(n) => put_signed(out, i64::from(n)),
+        Variant::I16(n) => put_signed(out, i64::from(n)),
+        Variant::I32(n) => put_signed(out, i64::from(n)),
+        Variant::I64(n) => put_signed(out, n),
+    }
+}
+
+/// A language's name.
+pub fn put_language(out: &mut Vec<u8>, language: SourceLanguage) -> Result<(), AllocError>
+    ensures { OnOk result (out.new.items ≡ out.old.items ++ language_text language) }
+{
+    let name = language.to_string(*out.allocator())?;
+    out.extend_from_slice(name.as_bytes())
+}
+
+/// A processor's name.
+pub fn put_cpu(out: &mut Vec<u8>, cpu: CPUType) -> Result<(), AllocError>
+    ensures { OnOk result (out.new.items ≡ out.old.items ++ cpu_text cpu) }
+{
+    let name = cpu.to_string(*out.allocator())?;
+    out.extend_from_slice(name.as_bytes())
+}
+
+/// The number of a quick fix behind a point, where there is one.
+fn put_qfe(out: &mut Vec<u8>, qfe: Option<u16>) -> Result<(), AllocError>
+    ensures { OnOk result (out.new.items ≡ out.old.items ++ qfe_text qfe) }
+{
+    match qfe {
+        Some(number) => {
+            out.push(b'.')?;
+            put_decimal(out, u64::from(number))
+        }
+        None => Ok(()),
+    }
+}
+
+/// A version's numbers with points between them.
+pub fn put_version(out: &mut Vec<u8>, version: CompilerVersion) -> Result<(), AllocError>
+    ensures { OnOk result (out.new.items ≡ out.old.items ++ version_text version) }
+{
+    put_decimal(out, u64::from(version.major))?;
+    out.push(b'.')?;
+    put_decimal(out, u64::from(version.minor))?;
+    out.push(b'.')?;
+    put_decimal(out, u64::from(version.build))?;
+    put_qfe(out, version.qfe)
+}
+
+/// What a trampoline is for.
+pub fn put_trampoline(out: &mut Vec<u8>, tramp_type: TrampolineType) -> Result<(), AllocError>
+    ensures { OnOk result (out.new.items ≡ out.old.items ++ trampoline_text tramp_type) }
+{
+    match tramp_type {
+        TrampolineType::Incremental => out.extend_from_slice(b"Incremental"),
+        TrampolineType::BranchIsland => out.extend_from_slice(b"BranchIsland"),
+        TrampolineType::Unknown => out.extend_from_slice(b"Unknown"),
+    }
+}
+
+/// A text, and a number in decimal digits.
+fn put_counted(out: &mut Vec<u8>, word: &[u8], n: u64) -> Result<(), AllocError>
+    ensures { OnOk result (out.new.items ≡ out.old.items ++ (word.now ++ decimal n)) }
+{
+    out.extend_from_slice(word)?;
+    put_decimal(out, n)
+}
+
+/// What a thunk adjusts, and the name of the function to which it leads.
+fn put_adjustor(out: &mut Vec<u8>, adjustor: ThunkAdjustor<'_>) -> Result<(), AllocError>
+    ensures { OnOk result (out.new.items ≡ out.old.items ++ thunk_text (shown_thunk_kind (does.Adjustor adjustor.entry))) }
+{
+    put_counted(out, b"adjustor:", u64::from(adjustor.delta()))?;
+    out.push(b':')?;
+    out.extend_from_slice(adjustor.target().as_bytes())
+}
+
+/// What a thunk does.
+pub fn put_thunk_kind(out: &mut Vec<u8>, kind: ThunkKind<'_>) -> Result<(), AllocError>
+    ensures { OnOk result (out.new.items ≡ out.old.items ++ thunk_text (shown_thunk_kind kind.entry)) }
+{
+    match kind {
+        ThunkKind::NoType => out.extend_from_slice(b"no_type"),
+        ThunkKind::Adjustor(adjustor) => put_adjustor(out, adjustor),
+        ThunkKind::VCall(offset) => put_counted(out, b"v_call:", u64::from(offset)),
+        ThunkKind::PCode => out.extend_from_slice(b"p_code"),
+        ThunkKind::Load => out.extend_from_slice(b"load"),
+        ThunkKind::Unknown(ordinal) => put_counted(out, b"unknown:", u64::from(ordinal)),
+    }
+}
+
+/// A register's number in hex digits, `:` and its name.
+fn put_register(out: &mut Vec<u8>, register: &(Register, RawString<'_>)) -> Result<(), AllocError>
+    ensures { OnOk result (out.new.items ≡ out.old.items ++ register_text (shown_register register.now)) }
+{
+    put_hex4(out, register.0.0)?;
+    out.push(b':')?;
+    out.extend_from_slice(register.1.as_bytes())
+}
+
+/// A register and its name behind a comma.
+fn put_behind_comma(
+    out: &mut Vec<u8>,
+    register: &(Register, RawString<'_>),
+) -> Result<(), AllocError>
+    ensures { OnOk result (out.new.items ≡ out.old.items ++ (codes "," ++ register_text (shown_register register.now))) }
+{
+    out.push(b',')?;
+    put_register(out, register)
+}
+
+/// The registers, each behind a comma.
+fn put_more_registers(
+    out: &mut Vec<u8>,
+    registers: &[(Register, RawString<'_>)],
+) -> Result<(), AllocError>
+    ensures { OnOk result (out.new.items ≡ out.old.items ++ more_registers (shown_registers registers.now)) }
+{
+    for register in registers {
+        put_behind_comma(out, register)?;
+    }
+    Ok(())
+}
+
+/// The registers joined by commas, or `-` where there is none.
+pub fn put_registers(
+    out: &mut Vec<u8>,
+    registers: &[(Register, RawString<'_>)],
+) -> Result<(), AllocError>
+    ensures { OnOk result (out.new.items ≡ out.old.items ++ registers_text (shown_registers registers.now)) }
+{
+    let Some((register, behind)) = registers.split_first() else {
+        return out.extend_from_slice(b"-");
+    };
+    put_register(out, register)?;
+    put_more_registers(out, behind)
+}
+
+/// The bytes in two hex digits each, or `-` where there is none.
+pub fn put_bytes(out: &mut Vec<u8>, bytes: &[u8]) -> Result<(), AllocError>
+    ensures { OnOk result (out.new.items ≡ out.old.items ++ bytes_text bytes.now) }
+{
+    if bytes.is_empty() {
+        return out.extend_from_slice(b"-");
+    }
+    put_hex_bytes(out, bytes)
+}
