@@ -117,3 +117,7 @@ first_front f a b c xs i h k = rw (both f xs i) (front_then a b c _ _ h k)
 pub first_none : {X : Type 0} (text : X → List ℕ) (a : Option (List ℕ)) (xs : List X) → WroteFirst text a a xs
 first_none text None xs = (0, omega arith, tt)
 first_none text (Some a) xs = (0, omega arith, grind (arith, common_steps))
+
+-- the texts of the first i are a beginning of all
+pub so_far_front : {X : Type 0} (f : X → List ℕ) (a b : Option (List ℕ)) (xs : List X) (i : ℕ) → Appends a b (flat_map f (take i xs)) → WroteFront a b (flat_map f xs)
+so_far_front f a b xs i h = rw (both f xs i) (front_of a b (flat_map f (take i xs)) (flat_map f (drop i xs)) (front_all a b (flat_map f (take i xs)) h))

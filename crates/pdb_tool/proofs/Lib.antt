@@ -7,3 +7,4 @@ pub mod Annotations
 pub mod Results
 pub mod Refused
 pub mod Registers
+pub mod WrittenSoFar

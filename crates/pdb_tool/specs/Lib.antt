@@ -12,3 +12,4 @@ pub mod Flags
 pub mod ValueTexts
 pub mod FieldTexts
 pub mod SymbolTexts
+pub mod ModuleTexts

@@ -15,6 +15,7 @@ mod help;
 mod key;
 mod kind_names;
 mod line_texts;
+mod module_texts;
 mod report;
 mod resolve;
 mod scope_texts;

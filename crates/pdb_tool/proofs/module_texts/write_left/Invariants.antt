@@ -1,0 +1,16 @@
+use Rattle.std.proofs.Common.{length}
+use Rattle.pdb.specs.DbiViews.{modules_left}
+use Rattle.pdb.specs.Source.{Continues}
+use Rattle.pdb_tool.specs.ModuleTexts.{list_text}
+use Rattle.pdb_tool.proofs.WrittenSoFar.{Before}
+use Rattle.pdb_tool.proofs.module_texts.write_left.Given as goal
+
+-- the file is the same; what was written, and the texts of the modules that are left, are those of all
+abbrev pub invariant-loop-module : goal.invariant-loop-module
+invariant-loop-module g l = record {
+  continues : Continues l.fn.pdb l.pdb;
+  told : Before (g.W.Write.contents l.fn.out) (g.W.Write.contents l.out) (list_text (g.T.ModuleText.text l.texts) l.fn.pdb.file (modules_left l.modules)) (list_text (g.T.ModuleText.text l.texts) l.fn.pdb.file (modules_left l.fn.modules));
+}
+
+abbrev pub decreases-loop-module : goal.decreases-loop-module
+decreases-loop-module g l = length (modules_left l.modules).items
