@@ -1,5 +1,5 @@
 -- The names of kinds of symbols in `cvinfo.h`.
-use Rattle.std.specs.Prelude.{ℕ, ◌-◌, List, Option, Some, None, nat_lt, map, if◌then◌else◌}
+use Rattle.std.specs.Prelude.{ℕ, ◌-◌, List, Option, None, nat_lt, map, if◌then◌else◌}
 use Rattle.std.specs.List.{slice_get}
 use Rattle.pdb_tool.specs.declared.kind_names.TheConstants.{OLDEST_NAMES, SHORT_OFFSET_NAMES, SHORT_TYPE_NAMES, MIPS_NAMES, REFERENCE_NAMES, LENGTH_BYTE_NAMES, ZERO_ENDED_NAMES, LATEST_NAMES}
 

@@ -10,6 +10,8 @@ use pdb::Error;
 use pdb_text::{put_decimal, put_hex4, put_line_end};
 use std::alloc::AllocError;
 
+const NOT_READ: &[u8] = b" are not supported";
+
 /// Text, a number in decimal digits, and text.
 fn put_numbered(out: &mut Vec<u8>, before: &[u8], n: u32, behind: &[u8]) -> Result<(), AllocError>
     ensures { OnOk result (out.new.items ≡ out.old.items ++ (before.now ++ decimal n ++ behind.now)) }
@@ -53,14 +55,13 @@ fn put_two(out: &mut Vec<u8>, first: &[u8], second: &[u8]) -> Result<(), AllocEr
 fn put_later_message(out: &mut Vec<u8>, e: Error) -> Result<(), AllocError>
     ensures { OnOk result (out.new.items ≡ out.old.items ++ later_message e) }
 {
-    let supported = b" are not supported";
     match e {
-        Error::UnimplementedSymbolKind(n) => put_kind(out, b"symbols of kind ", n, supported),
+        Error::UnimplementedSymbolKind(n) => put_kind(out, b"symbols of kind ", n, NOT_READ),
         Error::UnimplementedDebugSubsection(n) => {
-            put_index(out, b"debug subsections of kind ", n, supported)
+            put_index(out, b"debug subsections of kind ", n, NOT_READ)
         }
         Error::UnimplementedFileChecksumKind(n) => {
-            put_numbered(out, b"file checksums of kind ", u32::from(n), supported)
+            put_numbered(out, b"file checksums of kind ", u32::from(n), NOT_READ)
         }
         Error::InvalidFileChecksumOffset(n) => {
             put_index(out, b"there is no file checksum at ", n, b"")

@@ -67,6 +67,24 @@ fn lines_without_names(rt: HostRuntime) -> Result<(), Fail> {
 }
 
 #[test]
+fn records_before_a_fault(rt: HostRuntime) -> Result<(), Fail> {
+    let sizes = Sizes {
+        symbols: 0,
+        older_lines: 0,
+    };
+    // A block of two records, and one that has no room for its two.
+    let lines =
+        b"\xf2\x00\x00\x00\x3c\x00\x00\x00\x10\x00\x00\x00\x01\x00\x00\x00\x20\x00\x00\x00\x00\x00\x00\x00\x02\x00\x00\x00\x1c\x00\x00\x00\x00\x00\x00\x00\x03\x00\x00\x80\x08\x00\x00\x00\x04\x00\x00\x80\x00\x00\x00\x00\x02\x00\x00\x00\x14\x00\x00\x00\x10\x00\x00\x00\x05\x00\x00\x80";
+    let info = module_of(&rt, lines, &sizes)?;
+    let mut out = Vec::new(rt.alloc());
+    put_lines(rt.alloc(), &mut out, None, &info)?;
+    let wanted: &[u8] = b"0001:00000010 8 ??:3:0\n\
+        error 10 invalid length: DebugLinesBlock\n";
+    is(&rt, "out.as_slice()", &out.as_slice(), &wanted);
+    Ok(())
+}
+
+#[test]
 fn refused_lines(rt: HostRuntime) -> Result<(), Fail> {
     let sizes = Sizes {
         symbols: 0,

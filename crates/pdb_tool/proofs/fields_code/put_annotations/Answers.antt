@@ -1,4 +1,4 @@
-use Rattle.std.proofs.Common.{ap, sym, subst, ◌∙◌, ◌≡◌, ◌++◌, ℕ, List, OnOk, codes}
+use Rattle.std.proofs.Common.{sym, subst, ◌∙◌, ◌≡◌, ◌++◌, ℕ, List, OnOk, codes}
 use Rattle.pdb_tool.specs.FieldTexts.{field, label}
 use Rattle.pdb_tool.specs.ValueTexts.{bytes_text}
 use Rattle.pdb_tool.proofs.Annotations.{annotations_are}

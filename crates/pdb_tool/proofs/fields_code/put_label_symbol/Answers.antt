@@ -1,4 +1,4 @@
-use Rattle.pdb_tool.proofs.Results.{joined, more}
+use Rattle.pdb_tool.proofs.Results.{more}
 use Rattle.pdb_tool.proofs.fields_code.put_label_symbol.Goals as goal
 
 pub returns : goal.returns

@@ -1,4 +1,4 @@
-use Rattle.std.proofs.Common.{List, ℕ, ◌++◌, ap, sym, ◌∙◌, append_assoc}
+use Rattle.std.proofs.Common.{List, ℕ, ◌++◌, ap, sym, ◌∙◌}
 use Rattle.pdb_tool.proofs.Results.{joined}
 use Rattle.pdb_tool.proofs.Registers.{registers_more}
 use Rattle.pdb_tool.proofs.values_forms.put_more_registers.Goals as goal
