@@ -25,3 +25,5 @@ pub mod InlinedSteps
 pub mod InlinedSums
 pub mod LookupLaws
 pub mod CoverLemmas
+pub mod LineSearches
+pub mod BlockSearches

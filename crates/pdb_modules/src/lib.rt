@@ -13,6 +13,7 @@ mod line;
 mod line_info;
 mod line_program;
 mod line_records;
+mod line_search;
 mod line_subsection;
 mod lines;
 mod module_info;
