@@ -1,7 +1,7 @@
 -- The first record of a subsection that covers a place, while its blocks are read.
-use Rattle.std.proofs.Common.{◌≡◌, ℕ, ◌+◌, ◌%◌, ◌^◌, ◌<◌, ◌≤◌, Bool, List, [], ◌∷◌, ◌++◌, map, length, Option, Some, None, option_map, Ok, Err, refl, sym, ap, subst, ◌∙◌, arith, append_assoc}
+use Rattle.std.proofs.Common.{◌≡◌, ℕ, ◌+◌, ◌%◌, ◌^◌, ◌<◌, ◌≤◌, Bool, List, [], ◌∷◌, ◌++◌, map, length, get_or, Option, Some, None, option_map, Ok, Err, refl, sym, ap, subst, ◌∙◌, arith, append_assoc}
 use Rattle.std.specs.Option.{option_or}
-use Rattle.std.proofs.lemmas.List.{append-nil, map-append}
+use Rattle.std.proofs.lemmas.List.{append-nil, map-append, get_or-map}
 use Rattle.pdb_base.specs.declared.error.Error.{Error}
 use Rattle.pdb_base.specs.declared.index.PdbInternalSectionOffset.{PdbInternalSectionOffset}
 use Rattle.pdb_base.specs.Cursor.{Cursor, Reads}
@@ -11,11 +11,13 @@ use Rattle.pdb_base.proofs.Readings.{read_item, read_fault, read_end, read_moves
 use Rattle.pdb_modules.specs.declared.blocks.Block.{Block}
 use Rattle.pdb_modules.specs.declared.line_info.LineInfo.{LineInfo}
 use Rattle.pdb_modules.specs.declared.line_subsection.LineSubsection.{LineSubsection}
+use Rattle.pdb_modules.specs.declared.line_program.Listed.{Listed}
 use Rattle.pdb_modules.specs.declared.line_search.Begun.{Begun}
 use Rattle.pdb_modules.specs.Lines.{Mark, stands, Subsection, entry_mark, end_mark, marks, records, behind, unless_fault, first_of, all_but_last, given, lines_of}
 use Rattle.pdb_modules.specs.Blocks.{LineBlock, block_at, block_length, blocks, blocks_from, entries_of}
 use Rattle.pdb_modules.specs.BlockViews.{block_of}
 use Rattle.pdb_modules.specs.KeptRows.{nearer, stepped, after, all_entries, subsection_of}
+use Rattle.pdb_modules.specs.LineProgram.{listed_subsections}
 use Rattle.pdb_modules.specs.LineSearch.{first_covering, begun_line, last_of, if_covers, IsSearched}
 use Rattle.pdb_modules.proofs.Reaching.{after_append, after_records}
 use Rattle.pdb_modules.proofs.BlockLemmas.{blocks_within}
@@ -161,3 +163,10 @@ module _ (q p : PdbInternalSectionOffset) (columns : Bool) (b : List ℕ) where
         ∙ (ap (first_covering q) (sym (after_records [] (marks_from 0 ++ stands end ∷ [])))
         ∙ (ap (first_covering q) (after_append [] (marks_from 0) (stands end ∷ []))
         ∙ at_end q (after [] (marks_from 0)) last (all_searched None ends) end next is))))
+
+-- ---- the subsection that is searched
+
+pub part_at : (ls : List Listed) (ss : List Subsection) (k : ℕ) (l : Listed) → listed_subsections ls ≡ ss → k < length ls → l ≡ get_or ls k l → (d : Subsection) → subsection_of l.part ≡ get_or ss k d
+part_at ls ss k l seen there l_is d =
+    ap (λ (l : Listed). subsection_of l.part) l_is
+    ∙ (sym (get_or-map (λ (l : Listed). subsection_of l.part) ls k l d there) ∙ ap (λ (ss : List Subsection). get_or ss k d) seen)
