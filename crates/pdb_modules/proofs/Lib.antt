@@ -27,3 +27,4 @@ pub mod LookupLaws
 pub mod CoverLemmas
 pub mod LineSearches
 pub mod BlockSearches
+pub mod PassedEntries

@@ -1,12 +1,14 @@
 -- Words of private functions: the search for the first record that covers a place, while marks come one after another.
-use Rattle.std.specs.Prelude.{◌≡◌, if◌then◌else◌, find, List, [], ◌∷◌, Option, Some, None, option_map}
+use Rattle.std.specs.Prelude.{◌≡◌, ℕ, ◌<◌, ◌≤◌, Bool, true, false, is_none, if◌then◌else◌, find, List, [], ◌∷◌, Option, Some, None, option_map}
 use Rattle.pdb_base.specs.declared.index.PdbInternalSectionOffset.{PdbInternalSectionOffset}
 use Rattle.pdb_modules.specs.declared.line_info.LineInfo.{LineInfo}
+use Rattle.pdb_modules.specs.declared.line.Entry.{Entry}
 use Rattle.pdb_modules.specs.declared.line_search.Begun.{Begun}
 use Rattle.pdb_modules.specs.declared.line_search.Search.{Search}
 use Rattle.pdb_modules.specs.declared.line_search.Search.TheVariants.{Found, On}
 use Rattle.pdb_modules.specs.LineCover.{line_covers}
-use Rattle.pdb_modules.specs.Lines.{line_info, all_but_last}
+use Rattle.pdb_modules.specs.Blocks.{LineBlock, entry_of}
+use Rattle.pdb_modules.specs.Lines.{line_info, all_but_last, behind, is_marker}
 
 -- the first record of a list that covers a place
 abbrev pub first_covering : PdbInternalSectionOffset → List LineInfo → Option LineInfo
@@ -35,3 +37,23 @@ pub record IsSearched (q : PdbInternalSectionOffset) (rs : List LineInfo) (last 
 abbrev pub IsTurned : PdbInternalSectionOffset → List LineInfo → Search → Type 0
 IsTurned q rs (On last) = IsSearched q rs last
 IsTurned q rs (Found b) = first_covering q (all_but_last rs) ≡ Some (begun_line b)
+
+-- ---- entries that are passed
+
+-- no mark came behind the last record, if there is one
+abbrev pub is_open : Option Begun → Bool
+is_open None = true
+is_open (Some b) = is_none b.length
+
+-- the record that an entry of a subsection at p begins
+abbrev pub begun_of : PdbInternalSectionOffset → Entry → Begun
+begun_of p entry = record { place = behind p entry.offset; line = entry.line; length = None }
+
+-- an entry is no marker, and stands at or before the place
+pub record IsPassed (q p : PdbInternalSectionOffset) (entry : Entry) : Type 0 where
+  pub begins : is_marker entry.line.flags ≡ false
+  pub upto : (behind p entry.offset).offset ≤ q.offset
+
+-- the first n entries of a block are
+abbrev pub ArePassed : PdbInternalSectionOffset → PdbInternalSectionOffset → Bool → LineBlock → ℕ → Type 0
+ArePassed q p columns block n = (k : ℕ) → k < n → IsPassed q p (entry_of columns block k)

@@ -1,13 +1,13 @@
 //! The search for the record that covers a place, among the entries of a subsection as they stand.
 
-ghost use Rattle.std.specs.Prelude.{◌≡◌, ◌*◌, ◌≤◌, [], ◌∷◌, List, map, length, option_map, false};
+ghost use Rattle.std.specs.Prelude.{◌≡◌, ◌*◌, ◌≤◌, ◌<◌, [], ◌∷◌, List, map, take, length, option_map, false};
 ghost use Rattle.pdb_modules.specs.declared.line_info.LineInfo.{LineInfo};
-ghost use Rattle.pdb_modules.specs.Blocks.{entry_width, entries_of};
+ghost use Rattle.pdb_modules.specs.Blocks.{entry_width, entry_of, entries_of};
 ghost use Rattle.pdb_modules.specs.BlockViews.{block_of};
 ghost use Rattle.pdb_modules.specs.LineCover.{line_covers};
 ghost use Rattle.pdb_modules.specs.Lines.{distance, lesser, is_marker, mark_at, entry_mark, lines_of};
 ghost use Rattle.pdb_modules.specs.KeptRows.{nearer, stepped, after, subsection_of};
-ghost use Rattle.pdb_modules.specs.LineSearch.{first_covering, begun_line, if_covers, IsSearched, IsTurned};
+ghost use Rattle.pdb_modules.specs.LineSearch.{first_covering, begun_line, begun_of, if_covers, is_open, ArePassed, IsSearched, IsTurned};
 
 use crate::blocks::{Block, entry, read_block};
 use crate::line::Line;
@@ -156,6 +156,87 @@ fn turn(
     }
 }
 
+/// Whether no mark came behind the last record, if there is one.
+#[inline]
+fn is_open(last: Option<Begun>) -> bool
+    ensures { result ≡ is_open last }
+{
+    match last {
+        Some(begun) => begun.length.is_none(),
+        None => true,
+    }
+}
+
+/// How many of a block's first entries are no markers and stand at or before a place.
+#[inline(always)]
+fn count_passed(
+    place: PdbInternalSectionOffset,
+    from: PdbInternalSectionOffset,
+    block: Block<'_>,
+    has_columns: bool,
+) -> usize
+    requires { block.count * entry_width has_columns ≤ length block.body.now }
+    ensures inside { result ≤ block.entry.count }
+    ensures passed { ArePassed place from has_columns (block_of block.entry) result }
+{
+    for i in 0..block.count {
+        let entry = entry(block, has_columns, i);
+        if from.wrapping_add(entry.offset).offset > place.offset || is_marker(entry.line.flags) {
+            return i;
+        }
+    }
+    block.count
+}
+
+/// The record that an entry begins.
+fn begun_at(
+    from: PdbInternalSectionOffset,
+    block: Block<'_>,
+    has_columns: bool,
+    i: usize,
+) -> Begun
+    requires inside { i < block.count }
+    requires fits { block.count * entry_width has_columns ≤ length block.body.now }
+    ensures { result ≡ begun_of from (entry_of has_columns (block_of block.entry) i) }
+{
+    let entry = entry(block, has_columns, i);
+    Begun {
+        place: from.wrapping_add(entry.offset),
+        line: entry.line,
+        length: None,
+    }
+}
+
+/// How many of a block's first entries came, and the last record.
+#[derive(Clone, Copy)]
+pub struct Came {
+    count: usize,
+    last: Option<Begun>,
+}
+
+/// Those of a block's first entries come that can only end a record before the place.
+#[inline(always)]
+fn pass(
+    last: Option<Begun>,
+    place: PdbInternalSectionOffset,
+    from: PdbInternalSectionOffset,
+    block: Block<'_>,
+    has_columns: bool,
+) -> Came
+    requires { block.count * entry_width has_columns ≤ length block.body.now }
+    ensures inside { result.count ≤ block.entry.count }
+    ensures searched { (rs : List LineInfo) → IsSearched place rs last → IsSearched place (after rs (map (entry_mark from) (take result.count (entries_of has_columns (block_of block.entry))))) result.last }
+{
+    if is_open(last) {
+        let count = count_passed(place, from, block, has_columns);
+        if count > 0 {
+            let last = Some(begun_at(from, block, has_columns, count - 1));
+            return Came { count, last };
+        }
+    }
+    Came { count: 0, last }
+}
+
 /// The entries of a block come; `has_columns` is a constant wherever it is called.
 #[inline(always)]
 fn search_entries(
@@ -168,8 +249,9 @@ fn search_entries(
     requires { block.count * entry_width has_columns ≤ length block.body.now }
     ensures { (rs : List LineInfo) → IsSearched place rs last → IsTurned place (after rs (map (entry_mark from) (entries_of has_columns (block_of block.entry)))) result }
 {
-    let mut last = last;
-    for i in 0..block.count {
+    let came = pass(last, place, from, block, has_columns);
+    let mut last = came.last;
+    for i in came.count..block.count {
         let entry = entry(block, has_columns, i);
         match turn(last, place, from.wrapping_add(entry.offset), entry.line) {
             Search::Found(begun) => return Search::Found(begun),
