@@ -189,12 +189,7 @@ fn count_passed(
 }
 
 /// The record that an entry begins.
-fn begun_at(
-    from: PdbInternalSectionOffset,
-    block: Block<'_>,
-    has_columns: bool,
-    i: usize,
-) -> Begun
+fn begun_at(from: PdbInternalSectionOffset, block: Block<'_>, has_columns: bool, i: usize) -> Begun
     requires inside { i < block.count }
     requires fits { block.count * entry_width has_columns ≤ length block.body.now }
     ensures { result ≡ begun_of from (entry_of has_columns (block_of block.entry) i) }

@@ -150,10 +150,10 @@ impl<'s> ModuleInfo<'s> {
     pub fn line_places(&self, alloc: Global) -> Result<LinePlaces<'_>>
         ensures { Gives (λ p. p) ⊥ result (line_program_of self.now) }
     {
-        if self.lines_size > 0 {
-            return Err(Error::UnimplementedFeature(Feature::C11LinePrograms));
+        if self.lines_size == 0 {
+            return LinePlaces::parse(alloc, self.lines_data()?);
         }
-        LinePlaces::parse(alloc, self.lines_data()?)
+        Err(Error::UnimplementedFeature(Feature::C11LinePrograms))
     }
 
     /// The module's inlined functions. It is `UnexpectedEof` where the lines data isn't all there, or its first part
