@@ -1,6 +1,6 @@
 //! What code stands at the addresses of a file.
 
-ghost use Rattle.std.specs.Prelude.{◌≡◌, ◌++◌, false, map, option_copied, IfOk, IfErr, OnOk};
+ghost use Rattle.std.specs.Prelude.{◌≡◌, ◌++◌, false, map, option_copied, IfOk, IfErr, OnOk, OnErr};
 ghost use Rattle.pdb.specs.Source.{Continues, MayFail};
 ghost use Rattle.pdb.specs.Answers.{address_map_in, debug_information_in};
 ghost use Rattle.pdb_resolve.specs.AsIfEmpty.{if_read, OnlyFails};
@@ -36,6 +36,8 @@ pub struct Resolver<'a, 's, S: Meaning> {
     places: AddressPlaces<'s>,
     // In a box, so that a caller's resolver is dropped whole.
     kept: Box<KeptFile<'a, 's>>,
+    // The text that is put down next; what it had before counts for nothing.
+    text: Vec<u8>,
 }
 
 impl<'a, 's, S: Meaning> Model for Resolver<'a, 's, S> {
@@ -112,6 +114,7 @@ impl<'a, 's, S: Source<'s>> Resolver<'a, 's, S> {
             pdb,
             places,
             kept: Box::new(alloc, kept)?,
+            text: Vec::new(alloc),
         })
     }
 
@@ -146,7 +149,7 @@ impl<'a, 's, S: Source<'s>> Resolver<'a, 's, S> {
 
     /// Puts the text of the frames of a place behind what is there: of each frame the function's name on a line, and
     /// the file, the line and the column on the next, with `:` between them; then an empty line. It is refused as
-    /// `frames` is; then `out` may have a part of the text.
+    /// `frames` is; then `out` has what it had.
     pub fn put_text(
         &mut self,
         out: &mut Vec<u8>,
@@ -154,10 +157,13 @@ impl<'a, 's, S: Source<'s>> Resolver<'a, 's, S> {
     ) -> Result<()>
         ensures continues { Continues self.old self.new }
         ensures text { OnOk result (out.new.items ≡ out.old.items ++ frames_text (frames_of_file self.old.file place)) }
+        ensures unchanged { OnErr result (out.new.items ≡ out.old.items) }
         ensures refused { IfErr result (λ e. OnlyFails (MayFail self.old self.new) e) }
     {
         let frames = self.frames(place)?;
-        put_frames(out, frames.as_slice())?;
+        self.text.clear();
+        put_frames(&mut self.text, frames.as_slice())?;
+        out.extend_from_slice(self.text.as_slice())?;
         Ok(())
     }
 }
