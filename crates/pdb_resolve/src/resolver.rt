@@ -129,8 +129,7 @@ impl<'a, 's, S: Source<'s>> Resolver<'a, 's, S> {
     /// The frames of a place, from the innermost outwards: the functions that were inlined there, and then the function
     /// itself; where none is known, one frame with the name of the public symbol before the place. Without a place it is
     /// one frame that tells nothing. `OutOfMemory`, and `IoError` where the source failed, are passed on; the same call
-    /// may then be made again. Where memory ended behind a module's stream, the stream's room isn't given back: once
-    /// no room is left, modules that weren't read are answered with `OutOfMemory`.
+    /// may then be made again.
     #[tactic(auto, unfolding(crate::specs::Resolved::frames_of_file))]
     pub fn frames(&mut self, place: Option<PdbInternalSectionOffset>) -> Result<Vec<Frame<'a>>>
         ensures continues { Continues self.old self.new }
