@@ -1,28 +1,26 @@
 -- The first record of a subsection that covers a place, while its blocks are read.
 use Rattle.std.proofs.Common.{◌≡◌, ℕ, ◌+◌, ◌%◌, ◌^◌, ◌<◌, ◌≤◌, Bool, List, [], ◌∷◌, ◌++◌, map, length, get_or, Option, Some, None, option_map, Ok, Err, refl, sym, ap, subst, ◌∙◌, arith, append_assoc}
-use Rattle.std.specs.Option.{option_or}
 use Rattle.std.proofs.lemmas.List.{append-nil, map-append, get_or-map}
 use Rattle.pdb_base.specs.declared.error.Error.{Error}
 use Rattle.pdb_base.specs.declared.index.PdbInternalSectionOffset.{PdbInternalSectionOffset}
 use Rattle.pdb_base.specs.Cursor.{Cursor, Reads}
-use Rattle.pdb_base.specs.Left.{Left, Follows}
+use Rattle.pdb_base.specs.Left.{Follows}
 use Rattle.pdb_base.specs.Tiling.{listing}
 use Rattle.pdb_base.proofs.Readings.{read_item, read_fault, read_end, read_moves}
 use Rattle.pdb_modules.specs.declared.blocks.Block.{Block}
 use Rattle.pdb_modules.specs.declared.line_info.LineInfo.{LineInfo}
-use Rattle.pdb_modules.specs.declared.line_subsection.LineSubsection.{LineSubsection}
 use Rattle.pdb_modules.specs.declared.line_program.Listed.{Listed}
 use Rattle.pdb_modules.specs.declared.line_search.Begun.{Begun}
-use Rattle.pdb_modules.specs.Lines.{Mark, stands, Subsection, entry_mark, end_mark, marks, records, behind, unless_fault, first_of, all_but_last, given, lines_of}
+use Rattle.pdb_modules.specs.Lines.{Mark, stands, Subsection, entry_mark, end_mark, marks, records, unless_fault, first_of, all_but_last, given, lines_of}
 use Rattle.pdb_modules.specs.Blocks.{LineBlock, block_at, block_length, blocks, blocks_from, entries_of}
 use Rattle.pdb_modules.specs.BlockViews.{block_of}
-use Rattle.pdb_modules.specs.KeptRows.{nearer, stepped, after, all_entries, subsection_of}
+use Rattle.pdb_modules.specs.KeptRows.{nearer, after, all_entries, subsection_of}
 use Rattle.pdb_modules.specs.LineProgram.{listed_subsections}
-use Rattle.pdb_modules.specs.LineSearch.{first_covering, begun_line, last_of, if_covers, IsSearched}
+use Rattle.pdb_modules.specs.LineSearch.{first_covering, begun_line, if_covers, IsSearched}
 use Rattle.pdb_modules.proofs.Reaching.{after_append, after_records}
 use Rattle.pdb_modules.proofs.BlockLemmas.{blocks_within}
 use Rattle.pdb_modules.proofs.PartLemmas.{same_place}
-use Rattle.pdb_modules.proofs.LineSearches.{by_last, stays_after, found_whole, at_end}
+use Rattle.pdb_modules.proofs.LineSearches.{stays_after, found_whole, at_end}
 
 -- ---- what is given of records
 

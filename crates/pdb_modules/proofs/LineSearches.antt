@@ -1,6 +1,5 @@
 -- The first record that covers a place, while marks come one after another.
 use Rattle.std.proofs.Common.{◌≡◌, ℕ, map, take, drop, Bool, true, false, cond, List, [], ◌∷◌, ◌++◌, Option, Some, None, option_map, refl, sym, ap, ◌∙◌}
-use Rattle.std.specs.Prelude.{find}
 use Rattle.std.specs.Option.{option_or}
 use Rattle.std.proofs.lemmas.List.{append-nil, map-append, take-append-drop}
 use Rattle.pdb_base.specs.declared.index.PdbInternalSectionOffset.{PdbInternalSectionOffset}
@@ -10,7 +9,7 @@ use Rattle.pdb_modules.specs.declared.line_info.LineInfo.{LineInfo}
 use Rattle.pdb_modules.specs.declared.line_search.Begun.{Begun}
 use Rattle.pdb_modules.specs.LineCover.{line_covers}
 use Rattle.pdb_modules.specs.Lines.{Mark, begins, stands, is_marker, mark_at, line_info, all_but_last}
-use Rattle.pdb_modules.specs.KeptRows.{nearer, noted, begun, stepped, after}
+use Rattle.pdb_modules.specs.KeptRows.{nearer, noted, stepped, after}
 use Rattle.pdb_modules.specs.LineSearch.{first_covering, begun_line, last_of, if_covers, IsSearched}
 use Rattle.pdb_modules.proofs.Reaching.{after_append}
 

@@ -1,5 +1,5 @@
 -- Entries that can only end a record before a place.
-use Rattle.std.proofs.Common.{◌≡◌, ℕ, zero, suc, ◌+◌, ◌-◌, ◌<◌, ◌≤◌, Bool, true, false, cond, leb, ltb, ◌&&◌, ◌==◌, List, length, map, take, Option, Some, None, option_map, refl, sym, ap, subst, ◌∙◌, arith}
+use Rattle.std.proofs.Common.{◌≡◌, ℕ, zero, suc, ◌+◌, ◌-◌, ◌<◌, ◌≤◌, Bool, true, false, cond, leb, ltb, ◌&&◌, ◌==◌, List, map, take, Option, Some, None, option_map, refl, sym, ap, subst, ◌∙◌, arith}
 use Rattle.std.proofs.lemmas.Bool.{leb-true}
 use Rattle.std.specs.Prelude.{is_none}
 use Rattle.pdb_base.specs.declared.index.PdbInternalSectionOffset.{PdbInternalSectionOffset}
@@ -9,7 +9,7 @@ use Rattle.pdb_modules.specs.Blocks.{LineBlock, entry_of, entries_of}
 use Rattle.pdb_modules.specs.LineCover.{length_covers, line_covers}
 use Rattle.pdb_modules.specs.Lines.{distance, lesser, behind, entry_mark}
 use Rattle.pdb_modules.specs.KeptRows.{nearer, after}
-use Rattle.pdb_modules.specs.LineSearch.{begun_line, begun_of, if_covers, is_open, IsSearched, IsPassed, ArePassed}
+use Rattle.pdb_modules.specs.LineSearch.{begun_line, begun_of, if_covers, is_open, IsSearched, ArePassed}
 use Rattle.pdb_modules.proofs.BlockLemmas.{entry_is, entries_counted}
 use Rattle.pdb_modules.proofs.PartLemmas.{entry_whole}
 use Rattle.pdb_modules.proofs.LineSearches.{at_record}

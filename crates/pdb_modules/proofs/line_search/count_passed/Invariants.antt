@@ -1,4 +1,3 @@
-use Rattle.std.proofs.Common.{◌≡◌, ℕ, ◌<◌}
 use Rattle.pdb_modules.specs.BlockViews.{block_of}
 use Rattle.pdb_modules.specs.LineSearch.{ArePassed}
 use Rattle.pdb_modules.proofs.line_search.count_passed.Given as goal

@@ -1,4 +1,4 @@
-use Rattle.std.proofs.Common.{◌-◌, List, map, take, Some, sym, subst, ◌∙◌, arith}
+use Rattle.std.proofs.Common.{◌-◌, map, take, Some, sym, subst, ◌∙◌, arith}
 use Rattle.pdb_modules.specs.declared.line_search.Begun.{Begun}
 use Rattle.pdb_modules.specs.Blocks.{entries_of}
 use Rattle.pdb_modules.specs.BlockViews.{block_of}

@@ -1,4 +1,4 @@
-use Rattle.std.proofs.Common.{◌+◌, ◌<◌, ◌≤◌, List, length, refl, subst, sym, ap, ◌∙◌, arith}
+use Rattle.std.proofs.Common.{◌+◌, ◌<◌, ◌≤◌, List, length, refl, subst, sym, ◌∙◌, arith}
 use Rattle.std.specs.Prelude.{map, Some, ◌≡◌}
 use Rattle.std.proofs.lemmas.List.{take_all}
 use Rattle.pdb_modules.specs.declared.line.Entry.{Entry}

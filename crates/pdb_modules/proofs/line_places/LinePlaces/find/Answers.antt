@@ -1,4 +1,4 @@
-use Rattle.std.proofs.Common.{◌-◌, ◌<◌, [], ◌∷◌, length, ap, sym, ◌∙◌, refl, arith}
+use Rattle.std.proofs.Common.{◌-◌, ◌<◌, [], ◌∷◌, length, ap, ◌∙◌, refl, arith}
 use Rattle.pdb_base.specs.Left.{ended, Left}
 use Rattle.pdb_modules.specs.declared.line_info.LineInfo.{LineInfo}
 use Rattle.pdb_modules.specs.LineProgram.{ProgramOf, listed_subsections}
