@@ -49,6 +49,7 @@ pub use Rattle.pdb_items.specs.ItemViews
 pub use Rattle.pdb_modules.specs.ModuleStream
 pub use Rattle.pdb_modules.specs.ModuleViews
 pub use Rattle.pdb_modules.specs.LineProgram
+pub use Rattle.pdb_modules.specs.LineSearch
 pub use Rattle.pdb_modules.specs.LineViews
 pub use Rattle.pdb_modules.specs.LineCover
 pub use Rattle.pdb_modules.specs.Lines

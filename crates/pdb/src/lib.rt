@@ -86,6 +86,7 @@ pub use pdb_modules::InlineeLineIterator;
 pub use pdb_modules::LineInfo;
 pub use pdb_modules::LineInfoKind;
 pub use pdb_modules::LineIterator;
+pub use pdb_modules::LinePlaces;
 pub use pdb_modules::LineProgram;
 pub use pdb_modules::LineRecords;
 pub use pdb_modules::ModuleInfo;

@@ -25,3 +25,6 @@ pub mod InlinedSteps
 pub mod InlinedSums
 pub mod LookupLaws
 pub mod CoverLemmas
+pub mod LineSearches
+pub mod BlockSearches
+pub mod PassedEntries

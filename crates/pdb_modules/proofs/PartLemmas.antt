@@ -8,7 +8,7 @@ use Rattle.pdb_modules.specs.Lines.{Mark, stands, behind, mark_at, entry_mark, r
 use Rattle.pdb_modules.specs.KeptRows.{noted, noted_from, stepped, stepped_from, after}
 use Rattle.pdb_modules.proofs.Reaching.{after_more, stepped_behind}
 
-same_place : (p q : PdbInternalSectionOffset) (n : ℕ) → q.section ≡ p.section → q.offset ≡ (p.offset + n) % 2 ^ 32 → q ≡ behind p n
+pub same_place : (p q : PdbInternalSectionOffset) (n : ℕ) → q.section ≡ p.section → q.offset ≡ (p.offset + n) % 2 ^ 32 → q ≡ behind p n
 same_place p q n s e = λ i. record { offset = e i; section = s i }
 
 -- one more entry

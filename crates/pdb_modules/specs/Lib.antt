@@ -10,6 +10,7 @@ pub mod PartViews
 pub mod LineProgram
 pub mod LineViews
 pub mod LineCover
+pub mod LineSearch
 pub mod Inlined
 pub mod InlinedViews
 pub mod InlinedSums

@@ -48,7 +48,11 @@ pub struct LineInfo {
 }
 
 /// Whether so many bytes from a place on have the one at another.
-fn bytes_cover(place: PdbInternalSectionOffset, from: PdbInternalSectionOffset, length: u32) -> bool
+pub(crate) fn bytes_cover(
+    place: PdbInternalSectionOffset,
+    from: PdbInternalSectionOffset,
+    length: u32,
+) -> bool
     ensures { result ≡ bytes_cover place from length }
 {
     from.section == place.section

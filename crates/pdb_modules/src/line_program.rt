@@ -42,6 +42,25 @@ pub struct LineProgram<'a> {
 }
 
 impl<'a> Listed<'a> {
+    /// A subsection of which no rows are kept.
+    pub(crate) fn bare(part: LineSubsection<'a>) -> Self
+        ensures { result.part ≡ part.entry }
+    {
+        Listed {
+            part,
+            from: 0,
+            to: 0,
+            fault: None,
+        }
+    }
+
+    /// The subsection.
+    pub(crate) fn part(&self) -> LineSubsection<'a>
+        ensures { result ≡ self.now.part }
+    {
+        self.part
+    }
+
     /// Where the subsection's code begins.
     pub(crate) fn place(&self) -> PdbInternalSectionOffset
         ensures { result ≡ self.now.part.place }

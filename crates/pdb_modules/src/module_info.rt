@@ -10,6 +10,7 @@ ghost use Rattle.pdb_modules.specs.SubsectionViews.{seen_part};
 use crate::exports::CrossModuleExports;
 use crate::imports::CrossModuleImports;
 use crate::inlinees::InlineeIterator;
+use crate::line_places::LinePlaces;
 use crate::line_program::LineProgram;
 use crate::subsections::{EXPORTS, IMPORTS, INLINEE_LINES, first_of_kind};
 use pdb_base::part::part_of;
@@ -141,6 +142,18 @@ impl<'s> ModuleInfo<'s> {
             return Err(Error::UnimplementedFeature(Feature::C11LinePrograms));
         }
         LineProgram::parse(alloc, self.lines_data()?)
+    }
+
+    /// The module's line subsections, in which the record of a place is found as it stands. It is refused as
+    /// `line_program` is.
+    #[tactic(auto, unfolding(crate::specs::ModuleStream::line_program_of, crate::specs::ModuleStream::line_subsections_of))]
+    pub fn line_places(&self, alloc: Global) -> Result<LinePlaces<'_>>
+        ensures { Gives (λ p. p) ⊥ result (line_program_of self.now) }
+    {
+        if self.lines_size == 0 {
+            return LinePlaces::parse(alloc, self.lines_data()?);
+        }
+        Err(Error::UnimplementedFeature(Feature::C11LinePrograms))
     }
 
     /// The module's inlined functions. It is `UnexpectedEof` where the lines data isn't all there, or its first part

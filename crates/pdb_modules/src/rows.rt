@@ -6,7 +6,7 @@ ghost use Rattle.pdb_modules.specs.declared.line_info.LineInfo.{LineInfo};
 ghost use Rattle.std.specs.Prelude.{List, ◌*◌, nat_le, if◌then◌else◌, ◌^◌, option_map, ◌≡◌, ◌+◌, ◌≤◌, ◌<◌, map, sum_by, length, ◌++◌, vec_len, IfOk, IfErr};
 ghost use Rattle.pdb_modules.specs.LineProgram.{part_bytes};
 ghost use Rattle.pdb_modules.specs.KeptRows.{upto, whole, own, noted, noted_from, stepped, stepped_from, after, subsection_of};
-ghost use Rattle.pdb_modules.specs.Lines.{distance, lesser, is_marker, mark_at, entry_mark, marks, records, Mark};
+ghost use Rattle.pdb_modules.specs.Lines.{distance, lesser, is_marker, mark_at, entry_mark, line_info, marks, records, Mark};
 
 use crate::blocks::{Block, entry, entry_width, read_block};
 use crate::line::{Columns, Line};
@@ -39,7 +39,7 @@ fn is_upto(length: Option<u32>, distance: u32) -> bool
 }
 
 /// Whether the flags of an entry say that it is a marker.
-fn is_marker(flags: u32) -> bool
+pub(crate) fn is_marker(flags: u32) -> bool
     ensures { result ≡ is_marker flags }
 {
     let line = flags % 0x100_0000;
@@ -255,4 +255,24 @@ impl Row {
             self.info(self.length)
         }
     }
+}
+
+/// The record of a line at a place, of this length.
+pub(crate) fn line_info(
+    place: PdbInternalSectionOffset,
+    line: Line,
+    length: Option<u32>,
+) -> LineInfo
+    ensures { result ≡ line_info place line length }
+{
+    let row = Row {
+        offset: place.offset,
+        section: place.section,
+        columns: line.columns,
+        file: line.file,
+        flags: line.flags,
+        length: None,
+        own_length: None,
+    };
+    row.info(length)
 }

@@ -1,11 +1,11 @@
 -- What is kept of a file.
-use Rattle.std.proofs.Common.{◌≡◌, ℕ, inl, inr, subst, ◌<◌, ◌≤◌, List, Option, Some, None, Box, Bor, Bool, true, false, ap, sym, ◌∙◌, refl, map, length, replicate, slice_set, slice_index_or, arith}
+use Rattle.std.proofs.Common.{◌≡◌, ℕ, zero, suc, ◌∷◌, inl, inr, subst, ◌<◌, ◌≤◌, List, Option, Some, None, Box, Bor, Bool, true, false, ap, sym, ◌∙◌, refl, map, length, replicate, slice_set, slice_index_or, arith}
 use Rattle.std.specs.Prelude.{slice_get, option_copied, Result, Ok, Err, OnOk, IfOk, IfErr}
 use Rattle.pdb.specs.Error.{Error}
 use Rattle.pdb.specs.Error.TheVariants.{OutOfMemory}
 use Rattle.std.specs.Option.{is_some}
 use Rattle.std.specs.declared.alloc.Global.{Global}
-use Rattle.std.proofs.lemmas.List.{map-set, get_or-map, get_or_past, get_or-set_same, get_or-set_other, get_or-replicate, length-map, length-replicate}
+use Rattle.std.proofs.lemmas.List.{map-set, get_or-map, get_or_past, get_or-set_same, get_or-set_other, get_or-replicate, length-map, length-replicate, length-set}
 use Rattle.std.proofs.lemmas.Bool.{cases_eq, cases_lt}
 use Rattle.pdb.specs.Modules.{ModuleEntry}
 use Rattle.pdb.specs.ModuleStream.{ModuleBytes}
@@ -13,7 +13,7 @@ use Rattle.pdb.specs.Answers.{module_info_in}
 use Rattle.pdb_resolve.specs.AsIfEmpty.{if_found}
 use Rattle.pdb_resolve.specs.declared.modules.Modules.{Modules}
 use Rattle.pdb_resolve.specs.FileParts.{modules_listed, module_read, module_numbered}
-use Rattle.pdb_resolve.specs.KeptParts.{boxed, codes_of, code_kept, AreModulesOf}
+use Rattle.pdb_resolve.specs.KeptParts.{boxed, codes_of, code_kept, streams_of, AreRead, AreModulesOf}
 
 pub code_set : (xs : List (Option (Box ModuleBytes Global))) (k : ℕ) (b : Box ModuleBytes Global) (m : ModuleBytes) → b.value ≡ m → map boxed (slice_set xs k (Some b)) ≡ slice_set (map boxed xs) k (Some m)
 code_set xs k b m e = map-set boxed xs k (Some b) ∙ ap (λ (x : ModuleBytes). slice_set (map boxed xs) k (Some x)) e
@@ -36,37 +36,66 @@ module _ (file : List ℕ) (ms : Modules) (are : AreModulesOf file ms) (k : ℕ)
   unfolding module_numbered
   one_numbered m h = ap (module_read file) (by_list ∙ h)
 
-  -- one more module was read
-  pub with_code : (new : Modules) (info : ModuleBytes) → new.listed ≡ ms.listed → k < length (codes_of ms) → codes_of new ≡ slice_set (codes_of ms) k (Some info) → module_numbered file k ≡ Some info → AreModulesOf file new
-  with_code new info same there set is = record { listed = ap (λ l. l.items) same ∙ are.listed; codes = kept }
-    where
-      kept : (j : ℕ) (m : ModuleBytes) → code_kept new j ≡ Some m → module_numbered file j ≡ Some m
-      kept j m h = elim (cases_eq j k) [
-        | inl e ↦ (let at : slice_index_or (slice_set (codes_of ms) k (Some info)) k None ≡ Some info = get_or-set_same (codes_of ms) k (Some info) None there in
-            let here : code_kept new k ≡ Some info = ap (λ (l : List (Option ModuleBytes)). slice_index_or l k None) set ∙ at in
-            let both : Some info ≡ Some m = sym here ∙ (ap (code_kept new) (sym e) ∙ h) in
-            ap (module_numbered file) e ∙ (is ∙ both))
-        | inr n ↦ (let other : slice_index_or (slice_set (codes_of ms) k (Some info)) j None ≡ code_kept ms j = get_or-set_other (codes_of ms) k j (Some info) None n in
-            are.codes j m (sym other ∙ (ap (λ (l : List (Option ModuleBytes)). slice_index_or l j None) (sym set) ∙ h)))
-      ]
+-- ---- one more module
 
-  pub code_there : (new : Modules) (info : ModuleBytes) → k < length (codes_of ms) → codes_of new ≡ slice_set (codes_of ms) k (Some info) → code_kept new k ≡ Some info
-  code_there new info there set = ap (λ (l : List (Option ModuleBytes)). slice_index_or l k None) set ∙ get_or-set_same (codes_of ms) k (Some info) None there
+pub info_set : (xs : List (Option (Bor ModuleBytes))) (k : ℕ) (b : Bor ModuleBytes) (m : ModuleBytes) → b.now ≡ m → map option_copied (slice_set xs k (Some b)) ≡ slice_set (map option_copied xs) k (Some m)
+info_set xs k b m e = map-set option_copied xs k (Some b) ∙ ap (λ (x : ModuleBytes). slice_set (map option_copied xs) k (Some x)) e
 
-  pub kept_then : {U : Type 0} (r : Result U Error) (new : Modules) (info : ModuleBytes) → new.listed ≡ ms.listed
+pub there_set : (xs ys : List (Option ModuleBytes)) (k : ℕ) (m : ModuleBytes) → k < length xs → ys ≡ slice_set xs k (Some m) → slice_index_or ys k None ≡ Some m
+there_set xs ys k m there set = ap (λ (l : List (Option ModuleBytes)). slice_index_or l k None) set ∙ get_or-set_same xs k (Some m) None there
+
+read_set : (file : List ℕ) (xs ys : List (Option ModuleBytes)) (k : ℕ) (m : ModuleBytes) → k < length xs → ys ≡ slice_set xs k (Some m) → module_numbered file k ≡ Some m → AreRead file xs → AreRead file ys
+read_set file xs ys k m there set is are = λ j n h. elim (cases_eq j k) [
+  | inl e ↦ (let both : Some m ≡ Some n = sym (there_set xs ys k m there set) ∙ (ap (λ (i : ℕ). slice_index_or ys i None) (sym e) ∙ h) in
+      ap (module_numbered file) e ∙ (is ∙ both))
+  | inr o ↦ (let other : slice_index_or (slice_set xs k (Some m)) j None ≡ slice_index_or xs j None = get_or-set_other xs k j (Some m) None o in
+      are j n (sym other ∙ (ap (λ (l : List (Option ModuleBytes)). slice_index_or l j None) (sym set) ∙ h)))
+]
+
+-- what is kept once one more was kept, or memory ended
+record StillRead (file : List ℕ) (xs ys : List (Option ModuleBytes)) : Type 0 where
+  pub read : AreRead file ys
+  pub size : length ys ≡ length xs
+
+still_read : {U : Type 0} (file : List ℕ) (xs ys : List (Option ModuleBytes)) (k : ℕ) (m : ModuleBytes) (r : Result U Error)
+    → OnOk r ((k < length xs) × (ys ≡ slice_set xs k (Some m))) → IfErr r (λ e. (e ≡ OutOfMemory) × (ys ≡ xs)) → module_numbered file k ≡ Some m → AreRead file xs → StillRead file xs ys
+still_read file xs ys k m (Ok u) kept refused is are = record { read = read_set file xs ys k m kept.0 kept.1 is are; size = ap length kept.1 ∙ length-set xs k (Some m) }
+still_read file xs ys k m (Err e) kept refused is are = record { read = subst (AreRead file) (sym refused.1) are; size = ap length refused.1 }
+
+module _ (file : List ℕ) (ms : Modules) (are : AreModulesOf file ms) (k : ℕ) (new : Modules) (info : ModuleBytes) (same : new.listed ≡ ms.listed) where
+  pub put_then : {U : Type 0} (r : Result U Error) → codes_of new ≡ codes_of ms
+      → OnOk r ((k < length (streams_of ms)) × (streams_of new ≡ slice_set (streams_of ms) k (Some info))) → IfErr r (λ e. (e ≡ OutOfMemory) × (streams_of new ≡ streams_of ms))
+      → module_numbered file k ≡ Some info → AreModulesOf file new
+  put_then r codes kept refused is =
+      let still = still_read file (streams_of ms) (streams_of new) k info r kept refused is are.streams in
+      record {
+        listed = ap (λ l. l.items) same ∙ are.listed;
+        codes = subst (AreRead file) (sym codes) are.codes;
+        streams = still.read;
+        as_many = ap length codes ∙ (are.as_many ∙ ap (λ l. length l.items) (sym same));
+        as_many_streams = still.size ∙ (are.as_many_streams ∙ ap (λ l. length l.items) (sym same));
+      }
+
+  pub kept_then : {U : Type 0} (r : Result U Error) → streams_of new ≡ streams_of ms
       → OnOk r ((k < length (codes_of ms)) × (codes_of new ≡ slice_set (codes_of ms) k (Some info))) → IfErr r (λ e. (e ≡ OutOfMemory) × (codes_of new ≡ codes_of ms))
       → module_numbered file k ≡ Some info → AreModulesOf file new
-  kept_then (Ok u) new info same kept refused is = with_code new info same kept.0 kept.1 is
-  kept_then (Err e) new info same kept refused is = record {
-    listed = ap (λ l. l.items) same ∙ are.listed;
-    codes = λ j m h. are.codes j m (sym (ap (λ (l : List (Option ModuleBytes)). slice_index_or l j None) refused.1) ∙ h);
-  }
+  kept_then r streams kept refused is =
+      let still = still_read file (codes_of ms) (codes_of new) k info r kept refused is are.codes in
+      record {
+        listed = ap (λ l. l.items) same ∙ are.listed;
+        codes = still.read;
+        streams = subst (AreRead file) (sym streams) are.streams;
+        as_many = still.size ∙ (are.as_many ∙ ap (λ l. length l.items) (sym same));
+        as_many_streams = ap length streams ∙ (are.as_many_streams ∙ ap (λ l. length l.items) (sym same));
+      }
 
-  pub read_then : {U : Type 0} (r : Result U Error) (new : Modules) (info : ModuleBytes)
-      → OnOk r ((k < length (codes_of ms)) × (codes_of new ≡ slice_set (codes_of ms) k (Some info)))
-      → module_numbered file k ≡ Some info → IfOk r (λ _. code_kept new k ≡ module_numbered file k)
-  read_then (Ok u) new info kept is = code_there new info kept.0 kept.1 ∙ sym is
-  read_then (Err e) new info kept is = tt
+pub code_then : {U : Type 0} (ms new : Modules) (k : ℕ) (info : ModuleBytes) (r : Result U Error) → OnOk r ((k < length (codes_of ms)) × (codes_of new ≡ slice_set (codes_of ms) k (Some info))) → IfOk r (λ _. code_kept new k ≡ Some info)
+code_then ms new k info (Ok u) kept = there_set (codes_of ms) (codes_of new) k info kept.0 kept.1
+code_then ms new k info (Err e) kept = tt
+
+pub numbered_then : {U : Type 0} (file : List ℕ) (new : Modules) (k : ℕ) (info : ModuleBytes) (r : Result U Error) → IfOk r (λ _. code_kept new k ≡ Some info) → module_numbered file k ≡ Some info → IfOk r (λ _. code_kept new k ≡ module_numbered file k)
+numbered_then file new k info (Ok u) kept is = kept ∙ sym is
+numbered_then file new k info (Err e) kept is = tt
 
 pub none_copied : {A : Type 0} (o : Option (Bor A)) → false ≡ is_some o → option_copied o ≡ None
 none_copied None e = refl
@@ -87,3 +116,13 @@ none_at n k = elim (cases_lt k n) [
 -- where no module was read, none is kept
 pub none_kept : (cs : List (Option ModuleBytes)) (n k : ℕ) (m : ModuleBytes) → cs ≡ replicate n None → slice_index_or cs k None ≡ Some m → ⊥
 none_kept cs n k m e h = let none : None ≡ Some m = sym (none_at n k) ∙ (ap (λ (l : List (Option ModuleBytes)). slice_index_or l k None) (sym e) ∙ h) in absurd cc
+
+pub none_many : (cs : List (Option ModuleBytes)) (n : ℕ) → cs ≡ replicate n None → length cs ≡ n
+none_many cs n e = ap length e ∙ length-replicate n unread
+
+abbrev unborrowed : Option (Bor ModuleBytes)
+unborrowed = None
+
+pub none_there : (n : ℕ) → map option_copied (replicate n unborrowed) ≡ replicate n unread
+none_there zero = refl
+none_there (suc n) = ap (λ (l : List (Option ModuleBytes)). unread ∷ l) (none_there n)

@@ -20,3 +20,4 @@ pub mod PublicRows
 pub mod PublicCount
 pub mod PublicSymbols
 pub mod FirstContributions
+pub mod Sites

@@ -1,9 +1,10 @@
 -- Words of private functions, and what is kept of a module.
-use Rattle.std.specs.Prelude.{◌≡◌, ◌≤◌, find, length, ℕ, nat_lt, if◌then◌else◌, List, [], ◌∷◌, ◌++◌, Option, None, map}
+use Rattle.std.specs.Prelude.{◌≡◌, ◌≤◌, find, length, drop, ℕ, nat_le, nat_lt, if◌then◌else◌, List, [], ◌∷◌, ◌++◌, Option, None, map}
 use Rattle.std.specs.Option.{option_map, option_to_list}
 use Rattle.pdb.specs.PdbInternalSectionOffset.{PdbInternalSectionOffset}
 use Rattle.pdb.specs.AnnotationViews.{annotation_bytes}
 use Rattle.pdb.specs.Data.{Data}
+use Rattle.pdb.specs.Fields.{number}
 use Rattle.pdb.specs.Forms.{record_at}
 use Rattle.pdb.specs.SymbolList.{Entry}
 use Rattle.pdb.specs.Inlinees.{InlineeEntry}
@@ -22,6 +23,10 @@ shown_role (Procedure s) = at_procedure s.place s.length s.end.0
 shown_role (Other s) = at_other s.place s.length s.end.0
 shown_role (Site s) = at_site s.inlinee.0 (annotation_bytes s.annotations)
 shown_role Passed = passed
+
+-- what a site's record is to the code, whose annotations begin at a place
+abbrev pub site_role : ℕ → List ℕ → Role
+site_role from b = if nat_le from (length b) then at_site (number b 10 4) (drop from b) else passed
 
 abbrev pub shown_call : InlinedCall → Call
 shown_call c = record { id = c.id.0; line = c.line }

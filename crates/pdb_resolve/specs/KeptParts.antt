@@ -1,5 +1,5 @@
 -- What is kept of a file by a resolver.
-use Rattle.std.specs.Prelude.{◌≡◌, ℕ, true, Box, List, Option, Some, None, option_copied, slice_index_or, map}
+use Rattle.std.specs.Prelude.{◌≡◌, ℕ, length, true, Box, List, Option, Some, None, option_copied, slice_index_or, map}
 use Rattle.std.specs.declared.alloc.Global.{Global}
 use Rattle.pdb.specs.Container.{stream_of}
 use Rattle.pdb.specs.ModuleStream.{ModuleBytes}
@@ -38,10 +38,24 @@ codes_of ms = map boxed ms.codes.items
 abbrev pub code_kept : Modules → ℕ → Option ModuleBytes
 code_kept ms k = slice_index_or (codes_of ms) k None
 
--- the list of modules is that of the file, and so is each module that was read
+-- the streams that were put down, by the numbers of their modules
+abbrev pub streams_of : Modules → List (Option ModuleBytes)
+streams_of ms = map option_copied ms.infos.items
+
+abbrev pub stream_kept : Modules → ℕ → Option ModuleBytes
+stream_kept ms k = slice_index_or (streams_of ms) k None
+
+-- what is kept of modules is what the file says of them
+abbrev pub AreRead : List ℕ → List (Option ModuleBytes) → Type 0
+AreRead file kept = (k : ℕ) (m : ModuleBytes) → slice_index_or kept k None ≡ Some m → module_numbered file k ≡ Some m
+
+-- the list of modules is that of the file, and so is each module that was put down or read; there is room for as many as are listed
 pub record AreModulesOf (file : List ℕ) (ms : Modules) : Type 0 where
   pub listed : ms.listed.items ≡ modules_listed file
-  pub codes : (k : ℕ) (m : ModuleBytes) → code_kept ms k ≡ Some m → module_numbered file k ≡ Some m
+  pub codes : AreRead file (codes_of ms)
+  pub streams : AreRead file (streams_of ms)
+  pub as_many : length (codes_of ms) ≡ length ms.listed.items
+  pub as_many_streams : length (streams_of ms) ≡ length ms.listed.items
 
 -- the publics that are kept are those of the file
 abbrev pub IsPublicsOf : List ℕ → Option PublicNames → Type 0

@@ -41,11 +41,19 @@ fn site_line<'a>(
     }
 }
 
+/// How many calls there is room for once the first comes: few procedures have more at one place.
+const USUAL_CALLS: usize = 16;
+
 /// One more call.
 fn push(calls: &mut Vec<InlinedCall>, id: IdIndex, line: LineInfo) -> Result<()>
     ensures pushed { OnOk result (map shown_call calls.new.items ≡ map shown_call calls.old.items ++ call_of id.0 line ∷ []) }
     ensures refused { IfErr result (λ e. e ≡ Error.OutOfMemory) }
 {
+    if calls.is_empty() {
+        if calls.reserve(USUAL_CALLS).is_err() {
+            return Err(Error::OutOfMemory);
+        }
+    }
     match calls.push(InlinedCall { id, line }) {
         Ok(()) => Ok(()),
         Err(_) => Err(Error::OutOfMemory),

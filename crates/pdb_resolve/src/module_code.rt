@@ -14,11 +14,10 @@ ghost use Rattle.pdb_resolve.specs.Kept.{shown_call, AreRangesOf, IsListed, head
 
 use crate::calls::{InlinedCall, calls_from};
 use crate::known::Known;
-use crate::lines::first_line;
 use crate::ranges::Ranges;
 use crate::rows::{Rows, rows_of};
 use pdb::{
-    Error, FallibleIterator, FileIndex, FileInfo, Inlinee, InlineeIterator, LineInfo, LineProgram,
+    Error, FallibleIterator, FileIndex, FileInfo, Inlinee, InlineeIterator, LineInfo, LinePlaces,
     ModuleInfo, PdbInternalSectionOffset, RawString, Result, Steps, SymbolData, SymbolIndex,
     SymbolIter,
 };
@@ -31,7 +30,7 @@ pub struct ModuleCode<'a> {
     info: &'a ModuleInfo<'a>,
     procedures: Ranges,
     others: Ranges,
-    program: Option<LineProgram<'a>>,
+    program: Option<LinePlaces<'a>>,
     known: Known<'a>,
 }
 
@@ -64,13 +63,13 @@ fn read_rows(alloc: Global, info: &ModuleInfo<'_>) -> Result<Rows>
     }
 }
 
-/// A module's line program; none where it is refused.
+/// A module's line subsections; none where they are refused.
 #[tactic(auto, unfolding(crate::specs::ModuleCode::program_in))]
-fn read_program<'a>(alloc: Global, info: &'a ModuleInfo<'a>) -> Result<Option<LineProgram<'a>>>
+fn read_program<'a>(alloc: Global, info: &'a ModuleInfo<'a>) -> Result<Option<LinePlaces<'a>>>
     ensures program { IfOk result (λ p. p ≡ program_in info.entry.now) }
     ensures refused { IfErr result (λ e. e ≡ Error.OutOfMemory) }
 {
-    match info.line_program(alloc) {
+    match info.line_places(alloc) {
         Ok(program) => Ok(Some(program)),
         Err(Error::OutOfMemory) => Err(Error::OutOfMemory),
         Err(_) => Ok(None),
@@ -183,10 +182,7 @@ impl<'a> ModuleCode<'a> {
     pub fn line(&self, place: PdbInternalSectionOffset) -> Option<LineInfo>
         ensures { result ≡ line_at place self.now }
     {
-        match &self.program {
-            Some(program) => first_line(program.lines_for_symbol(place), place),
-            None => None,
-        }
+        self.program.as_ref()?.find(place)
     }
 
     /// The file of an index, which a line record names; none where its record can't be read.

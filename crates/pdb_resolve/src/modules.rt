@@ -1,13 +1,13 @@
 //! The modules of a file, each of which is read once.
 
-ghost use Rattle.std.specs.Prelude.{◌≡◌, ℕ, List, map, replicate, None, ◌<◌, length, option_copied, slice_get, slice_set, Some, IfOk, IfErr, OnOk};
+ghost use Rattle.std.specs.Prelude.{◌≡◌, ℕ, List, map, replicate, None, ◌<◌, length, option_copied, slice_get, slice_set, vec_len, Some, IfOk, IfErr, OnOk};
 ghost use Rattle.pdb.specs.Error.TheVariants.{OutOfMemory};
 ghost use Rattle.pdb.specs.Answers.{module_info_in, debug_information_in};
 ghost use Rattle.pdb.specs.Source.{Continues, MayFail};
 ghost use Rattle.pdb.specs.DbiViews.{modules_left};
 ghost use Rattle.pdb_resolve.specs.AsIfEmpty.{if_found, if_read, OnlyFails};
 ghost use Rattle.pdb_resolve.specs.FileParts.{module_numbered, modules_where};
-ghost use Rattle.pdb_resolve.specs.KeptParts.{AreModulesOf, boxed, code_kept, codes_of};
+ghost use Rattle.pdb_resolve.specs.KeptParts.{AreModulesOf, boxed, code_kept, codes_of, stream_kept, streams_of};
 
 use crate::module_code::ModuleCode;
 use crate::part::put_down;
@@ -22,6 +22,8 @@ pub(crate) struct Modules<'a, 's> {
     pub(crate) listed: Vec<Module<'a>>,
     // Where the streams are put that will be read.
     pub(crate) rooms: &'a mut [Option<Box<ModuleInfo<'s>>>],
+    // Those that were put there, by the numbers of their modules.
+    pub(crate) infos: Vec<Option<&'a ModuleInfo<'s>>>,
     pub(crate) codes: Vec<Option<Box<ModuleCode<'a>>>>,
 }
 
@@ -55,19 +57,6 @@ fn modules_of<'a>(
         Ok(modules) => listed(alloc, modules),
         Err(_) => Ok(Vec::new(alloc)),
     }
-}
-
-/// The code of a module, whose stream is put into the next room.
-fn code_of<'a, 's>(
-    alloc: Global,
-    rooms: &mut &'a mut [Option<Box<ModuleInfo<'s>>>],
-    info: ModuleInfo<'s>,
-) -> Result<Box<ModuleCode<'a>>>
-    ensures code { IfOk result (λ b. b.value ≡ info.entry) }
-    ensures refused { IfErr result (λ e. e ≡ Error.OutOfMemory) }
-{
-    let info: &'a ModuleInfo<'s> = put_down(rooms, Box::new(alloc, info)?)?;
-    Ok(Box::new(alloc, ModuleCode::new(alloc, info)?)?)
 }
 
 /// The stream of a listed module; none where it has none, or where it is refused.
@@ -113,6 +102,26 @@ fn unread<'a>(alloc: Global, count: usize) -> Result<Vec<Option<Box<ModuleCode<'
     Ok(codes)
 }
 
+/// So many times nothing.
+fn not_there<T: Drop>(alloc: Global, count: usize) -> Result<Vec<Option<T>>>
+    ensures none { IfOk result (λ v. v.items ≡ replicate count None) }
+    ensures refused { IfErr result (λ e. e ≡ Error.OutOfMemory) }
+{
+    let mut infos = Vec::new(alloc);
+    for _ in 0..count {
+        infos.push(None)?;
+    }
+    Ok(infos)
+}
+
+/// Puts an item into a place of a list.
+fn set<T: Drop>(items: &mut Vec<Option<T>>, at: usize, item: T)
+    requires { at < vec_len items.old }
+    ensures { items.new.items ≡ slice_set items.old.items at (Some item) }
+{
+    items[at] = Some(item);
+}
+
 /// The modules of a file, of which none was read.
 pub(crate) fn modules_from<'a, 's>(
     alloc: Global,
@@ -124,10 +133,12 @@ pub(crate) fn modules_from<'a, 's>(
 {
     let listed = modules_of(alloc, information)?;
     let codes = unread(alloc, listed.len())?;
+    let infos = not_there(alloc, listed.len())?;
     let rooms = rooms_of(rooms, listed.len())?;
     Ok(Modules {
         listed,
         rooms,
+        infos,
         codes,
     })
 }
@@ -149,11 +160,14 @@ impl<'a, 's> Modules<'a, 's> {
         if self.code(number).is_some() {
             return Ok(());
         }
+        if let Some(info) = self.stream(number) {
+            return self.keep(alloc, number, info);
+        }
         let Some(module) = self.module_at(number) else {
             return Ok(());
         };
         match module_info(pdb, module)? {
-            Some(info) => self.keep(alloc, number, info),
+            Some(info) => self.put_and_keep(alloc, number, info),
             None => Ok(()),
         }
     }
@@ -165,18 +179,61 @@ impl<'a, 's> Modules<'a, 's> {
         self.listed.get(number)
     }
 
-    /// Keeps the code of the module of a number, whose stream this is.
-    fn keep(&mut self, alloc: Global, number: usize, info: ModuleInfo<'s>) -> Result<()>
+    /// The stream of the module of a number, if it was put down.
+    fn stream(&self, number: usize) -> Option<&'a ModuleInfo<'s>>
+        ensures { option_copied result ≡ stream_kept self.now number }
+    {
+        if number >= self.infos.len() {
+            return None;
+        }
+        self.infos[number]
+    }
+
+    /// Puts the stream of the module of a number into the next room.
+    fn put(
+        &mut self,
+        alloc: Global,
+        number: usize,
+        info: ModuleInfo<'s>,
+    ) -> Result<&'a ModuleInfo<'s>>
         ensures listed { self.new.listed ≡ self.old.listed }
-        ensures kept { OnOk result ((number < length (codes_of self.old)) × (codes_of self.new ≡ slice_set (codes_of self.old) number (Some info.entry))) }
+        ensures codes { codes_of self.new ≡ codes_of self.old }
+        ensures is { IfOk result (λ r. r.now ≡ info.entry) }
+        ensures put { OnOk result ((number < length (streams_of self.old)) × (streams_of self.new ≡ slice_set (streams_of self.old) number (Some info.entry))) }
+        ensures refused { IfErr result (λ e. (e ≡ OutOfMemory) × (streams_of self.new ≡ streams_of self.old)) }
+    {
+        if number >= self.infos.len() {
+            return Err(Error::OutOfMemory);
+        }
+        let info: &'a ModuleInfo<'s> = put_down(&mut self.rooms, Box::new(alloc, info)?)?;
+        set(&mut self.infos, number, info);
+        Ok(info)
+    }
+
+    /// Keeps the code of the module of a number, whose stream this is.
+    fn keep(&mut self, alloc: Global, number: usize, info: &'a ModuleInfo<'s>) -> Result<()>
+        ensures listed { self.new.listed ≡ self.old.listed }
+        ensures streams { streams_of self.new ≡ streams_of self.old }
+        ensures kept { OnOk result ((number < length (codes_of self.old)) × (codes_of self.new ≡ slice_set (codes_of self.old) number (Some info.entry.now))) }
         ensures refused { IfErr result (λ e. (e ≡ OutOfMemory) × (codes_of self.new ≡ codes_of self.old)) }
     {
-        let code = code_of(alloc, &mut self.rooms, info)?;
+        let code = Box::new(alloc, ModuleCode::new(alloc, info)?)?;
         if number >= self.codes.len() {
             return Err(Error::OutOfMemory);
         }
         self.codes[number] = Some(code);
         Ok(())
+    }
+
+    /// Puts the stream of the module of a number down, and keeps its code. Where memory ends behind the first, the
+    /// stream stays.
+    fn put_and_keep(&mut self, alloc: Global, number: usize, info: ModuleInfo<'s>) -> Result<()>
+        ensures kept { (file : List ℕ) → AreModulesOf file self.old → module_numbered file number ≡ Some info.entry → AreModulesOf file self.new }
+        ensures read { IfOk result (λ _. code_kept self.new number ≡ Some info.entry) }
+        ensures refused { IfErr result (λ e. e ≡ OutOfMemory) }
+    {
+        let info = self.put(alloc, number, info)?;
+        self.keep(alloc, number, info)
     }
 
     /// The code of the module of a number, if it was read.

@@ -1,6 +1,6 @@
 //! What code stands at the addresses of a file.
 
-ghost use Rattle.std.specs.Prelude.{◌≡◌, ◌++◌, false, map, option_copied, IfOk, IfErr, OnOk};
+ghost use Rattle.std.specs.Prelude.{◌≡◌, ◌++◌, false, map, option_copied, IfOk, IfErr, OnOk, OnErr};
 ghost use Rattle.pdb.specs.Source.{Continues, MayFail};
 ghost use Rattle.pdb.specs.Answers.{address_map_in, debug_information_in};
 ghost use Rattle.pdb_resolve.specs.AsIfEmpty.{if_read, OnlyFails};
@@ -36,6 +36,8 @@ pub struct Resolver<'a, 's, S: Meaning> {
     places: AddressPlaces<'s>,
     // In a box, so that a caller's resolver is dropped whole.
     kept: Box<KeptFile<'a, 's>>,
+    // The text that is put down next; what it had before counts for nothing.
+    text: Vec<u8>,
 }
 
 impl<'a, 's, S: Meaning> Model for Resolver<'a, 's, S> {
@@ -112,6 +114,7 @@ impl<'a, 's, S: Source<'s>> Resolver<'a, 's, S> {
             pdb,
             places,
             kept: Box::new(alloc, kept)?,
+            text: Vec::new(alloc),
         })
     }
 
@@ -126,8 +129,7 @@ impl<'a, 's, S: Source<'s>> Resolver<'a, 's, S> {
     /// The frames of a place, from the innermost outwards: the functions that were inlined there, and then the function
     /// itself; where none is known, one frame with the name of the public symbol before the place. Without a place it is
     /// one frame that tells nothing. `OutOfMemory`, and `IoError` where the source failed, are passed on; the same call
-    /// may then be made again. Where memory ended behind a module's stream, the stream's room isn't given back: once
-    /// no room is left, modules that weren't read are answered with `OutOfMemory`.
+    /// may then be made again.
     #[tactic(auto, unfolding(crate::specs::Resolved::frames_of_file))]
     pub fn frames(&mut self, place: Option<PdbInternalSectionOffset>) -> Result<Vec<Frame<'a>>>
         ensures continues { Continues self.old self.new }
@@ -146,7 +148,7 @@ impl<'a, 's, S: Source<'s>> Resolver<'a, 's, S> {
 
     /// Puts the text of the frames of a place behind what is there: of each frame the function's name on a line, and
     /// the file, the line and the column on the next, with `:` between them; then an empty line. It is refused as
-    /// `frames` is; then `out` may have a part of the text.
+    /// `frames` is; then `out` has what it had.
     pub fn put_text(
         &mut self,
         out: &mut Vec<u8>,
@@ -154,10 +156,13 @@ impl<'a, 's, S: Source<'s>> Resolver<'a, 's, S> {
     ) -> Result<()>
         ensures continues { Continues self.old self.new }
         ensures text { OnOk result (out.new.items ≡ out.old.items ++ frames_text (frames_of_file self.old.file place)) }
+        ensures unchanged { OnErr result (out.new.items ≡ out.old.items) }
         ensures refused { IfErr result (λ e. OnlyFails (MayFail self.old self.new) e) }
     {
         let frames = self.frames(place)?;
-        put_frames(out, frames.as_slice())?;
+        self.text.clear();
+        put_frames(&mut self.text, frames.as_slice())?;
+        out.extend_from_slice(self.text.as_slice())?;
         Ok(())
     }
 }

@@ -1,14 +1,16 @@
 //! The role of a symbol record in the code of a module.
 
-ghost use Rattle.std.specs.Prelude.{◌≡◌, IfOk, IfErr};
+ghost use Rattle.std.specs.Prelude.{◌≡◌, ◌≤◌, IfOk, IfErr};
 ghost use Rattle.pdb.specs.Forms.{record_at};
 ghost use Rattle.pdb.specs.Views.{symbol_of};
 ghost use Rattle.pdb_resolve.specs.ModuleCode.{role};
-ghost use Rattle.pdb_resolve.specs.Kept.{shown_role};
+ghost use Rattle.pdb_resolve.specs.Kept.{shown_role, site_role};
 
 use pdb::{
-    Error, InlineSiteSymbol, PdbInternalSectionOffset, Result, Symbol, SymbolData, SymbolIndex,
+    BinaryAnnotations, Error, IdIndex, InlineSiteSymbol, PdbInternalSectionOffset, Result, Symbol,
+    SymbolData, SymbolIndex,
 };
+use pdb_base::little_endian::u32_at;
 use std::alloc::Global;
 
 /// A piece of code: where it begins, how many bytes it has, and the symbol that ends its scope.
@@ -26,14 +28,34 @@ pub(crate) enum Role<'t> {
     Procedure(Span),
     /// A thunk or separated code.
     Other(Span),
-    /// A site into which a function was inlined.
+    /// A site into which a function was inlined, of which the function and the annotations were read.
     Site(InlineSiteSymbol<'t>),
     /// Another symbol, or one that can't be read.
     Passed,
 }
 
-/// The role of a symbol; want of memory is passed on. All that have one start a scope.
-pub(crate) fn role_of<'t>(alloc: Global, symbol: &Symbol<'t>) -> Result<Role<'t>>
+/// The role of a site's record, whose annotations begin at `from`. There are many, so no more is read than what tells
+/// its lines.
+#[inline]
+fn site_role(bytes: &[u8], from: usize) -> Role<'_>
+    requires { 14 ≤ from }
+    ensures { shown_role result ≡ site_role from bytes.entry.now }
+{
+    if bytes.len() < from {
+        return Role::Passed;
+    }
+    let (_, annotations) = bytes.split_at(from);
+    Role::Site(InlineSiteSymbol {
+        parent: None,
+        end: SymbolIndex(0),
+        inlinee: IdIndex(u32_at(bytes, 10)),
+        invocations: None,
+        annotations: BinaryAnnotations::new(annotations),
+    })
+}
+
+/// The role of a symbol that starts no site; want of memory is passed on. All that have one start a scope.
+fn other_role<'t>(alloc: Global, symbol: &Symbol<'t>) -> Result<Role<'t>>
     ensures is { IfOk result (λ h. shown_role h ≡ role (record_at (symbol_of symbol.now).bytes)) }
     ensures refused { IfErr result (λ e. e ≡ Error.OutOfMemory) }
 {
@@ -60,5 +82,17 @@ pub(crate) fn role_of<'t>(alloc: Global, symbol: &Symbol<'t>) -> Result<Role<'t>
         Ok(_) => Ok(Role::Passed),
         Err(Error::OutOfMemory) => Err(Error::OutOfMemory),
         Err(_) => Ok(Role::Passed),
+    }
+}
+
+/// The role of a symbol; want of memory is passed on.
+pub(crate) fn role_of<'t>(alloc: Global, symbol: &Symbol<'t>) -> Result<Role<'t>>
+    ensures is { IfOk result (λ h. shown_role h ≡ role (record_at (symbol_of symbol.now).bytes)) }
+    ensures refused { IfErr result (λ e. e ≡ Error.OutOfMemory) }
+{
+    match symbol.raw_kind() {
+        0x114d => Ok(site_role(symbol.raw_bytes(), 14)),
+        0x115d => Ok(site_role(symbol.raw_bytes(), 18)),
+        _ => other_role(alloc, symbol),
     }
 }

@@ -64,10 +64,11 @@ fn inlined_frames<'a, 's, S: Source<'s>>(
     ensures refused { IfErr result (λ e. OnlyFails (MayFail pdb.old pdb.new) e) }
 {
     let calls = code.inlined(alloc, place)?;
-    let mut frames = Vec::new(alloc);
     if calls.is_empty() {
-        return Ok(frames);
+        return Ok(Vec::new(alloc));
     }
+    // The frame of the function itself comes behind them.
+    let mut frames = Vec::with_capacity(alloc, calls.len().saturating_add(1))?;
     names.make(alloc, pdb)?;
     match &names.made {
         Some(made) => push_inlined(&mut frames, code, made, strings, calls.as_slice())?,

@@ -1,6 +1,7 @@
 //! Tests.
 
 mod addresses;
+mod code;
 mod contributions;
 mod files;
 mod modules;

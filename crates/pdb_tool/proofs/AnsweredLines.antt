@@ -45,7 +45,7 @@ abbrev pub Answered : (List ℕ → List ℕ) → Option (List ℕ) → Option (
 Answered text None left a b = Unit {0}
 Answered text (Some xs) left a b = (rest : List ℕ) × (done : List (List ℕ)) × (left ≡ Some rest) × (lines_of xs ≡ done ++ lines_of rest) × Appends a b (flat_map text done)
 
-appends_none : (a : Option (List ℕ)) → Appends a a []
+pub appends_none : (a : Option (List ℕ)) → Appends a a []
 appends_none None = tt
 appends_none (Some xs) = sym (append-nil xs)
 

@@ -157,3 +157,25 @@ fn write_left<'s, S: Source<'s>, T: ModuleText, W: Write>(
         write_out(out, &text)?;
     }
 }
+
+/// Writes the texts of all modules of the list, and then the line of its fault.
+#[tactic(auto, unfolding(crate::specs::ModuleTexts::all_text))]
+pub fn write_all<'s, S: Source<'s>, T: ModuleText, W: Write>(
+    alloc: Global,
+    pdb: &mut PDB<'s, S>,
+    texts: &T,
+    out: &mut W,
+) -> Result<(), Stop>
+    ensures opened { (e : Error) → IsErrOf result (Stop.Open e) → ⊥ }
+    ensures ok { OnOk result (Appends (W.contents out.old) (W.contents out.new) (all_text (T.text texts.now) pdb.old.file)) }
+    ensures front { OnErr result (WroteFront (W.contents out.old) (W.contents out.new) (all_text (T.text texts.now) pdb.old.file)) }
+{
+    let information = match pdb.debug_information() {
+        Ok(information) => information,
+        Err(e) => return write_refused(alloc, e, out),
+    };
+    match information.modules() {
+        Ok(modules) => write_left(alloc, pdb, texts, modules, out),
+        Err(e) => write_refused(alloc, e, out),
+    }
+}

@@ -15,6 +15,11 @@ const ENDS_OF_A_LATER_SUBSECTION: &[u8] = b"\
     \x00\x00\x00\x00\x01\x00\x00\x00\x14\x00\x00\x00\x00\x00\x00\x00\x05\x00\x00\x80\
     \xf2\x00\x00\x00\x0c\x00\x00\x00\x08\x01\x00\x00\x01\x00\x00\x00\x04\x00\x00\x00";
 
+const TWO_ENTRIES_AND_A_DAMAGED_BLOCK: &[u8] = b"\
+    \xf2\x00\x00\x00\x34\x00\x00\x00\x00\x01\x00\x00\x01\x00\x00\x00\x20\x00\x00\x00\
+    \x00\x00\x00\x00\x02\x00\x00\x00\x1c\x00\x00\x00\x00\x00\x00\x00\x05\x00\x00\x80\
+    \x04\x00\x00\x00\x06\x00\x00\x80\x00\x00\x00\x00\x00\x00\x00\x00\x0b\x00\x00\x00";
+
 const TWO_SECTIONS: &[u8] = b"\
     \xf2\x00\x00\x00\x20\x00\x00\x00\x00\x01\x00\x00\x01\x00\x00\x00\x20\x00\x00\x00\
     \x00\x00\x00\x00\x01\x00\x00\x00\x14\x00\x00\x00\x00\x00\x00\x00\x05\x00\x00\x80\
@@ -367,4 +372,100 @@ fn a_record_covers_its_bytes_alone(rt: HostRuntime) {
         let place = PdbInternalSectionOffset { offset, section };
         is(&rt, "covers", &record.covers(place), &covers);
     }
+}
+
+#[test]
+fn the_record_at_a_place_is_found(rt: HostRuntime) -> Result<()> {
+    let alloc = rt.alloc();
+    let label = "entries of one block";
+    let data = ENTRIES_OF_ONE_BLOCK;
+    line_is_found(&rt, alloc, label, data, 0xa083, None)?;
+    line_is_found(
+        &rt,
+        alloc,
+        label,
+        data,
+        0xa084,
+        Some(line(0xa084, Some(11), 23, 23)),
+    )?;
+    line_is_found(
+        &rt,
+        alloc,
+        label,
+        data,
+        0xa08e,
+        Some(line(0xa084, Some(11), 23, 23)),
+    )?;
+    line_is_found(
+        &rt,
+        alloc,
+        label,
+        data,
+        0xa08f,
+        Some(line(0xa08f, Some(1), 24, 24)),
+    )?;
+    line_is_found(&rt, alloc, label, data, 0xa090, None)?;
+    let label = "the next entry stands before";
+    let data = THE_NEXT_ENTRY_STANDS_BEFORE;
+    line_is_found(
+        &rt,
+        alloc,
+        label,
+        data,
+        0x108,
+        Some(line(0x100, Some(32), 6, 6)),
+    )?;
+    let label = "across blocks";
+    line_is_found(
+        &rt,
+        alloc,
+        label,
+        ACROSS_BLOCKS,
+        0x103,
+        Some(line(0x100, Some(4), 5, 5)),
+    )?;
+    line_is_found(
+        &rt,
+        alloc,
+        label,
+        ACROSS_BLOCKS,
+        0x104,
+        Some(line(0x104, Some(28), 6, 6)),
+    )?;
+    let label = "the later place first in the file";
+    let data = THE_LATER_PLACE_FIRST_IN_THE_FILE;
+    line_is_found(
+        &rt,
+        alloc,
+        label,
+        data,
+        0x11f,
+        Some(line(0x100, Some(32), 5, 5)),
+    )?;
+    line_is_found(
+        &rt,
+        alloc,
+        label,
+        data,
+        0x200,
+        Some(line(0x200, Some(16), 9, 9)),
+    )?;
+    Ok(())
+}
+
+#[test]
+fn a_record_before_a_fault_is_found_where_the_next_one_begins(rt: HostRuntime) -> Result<()> {
+    let alloc = rt.alloc();
+    let label = "before a damaged block";
+    let data = TWO_ENTRIES_AND_A_DAMAGED_BLOCK;
+    line_is_found(
+        &rt,
+        alloc,
+        label,
+        data,
+        0x103,
+        Some(line(0x100, Some(4), 5, 5)),
+    )?;
+    line_is_found(&rt, alloc, label, data, 0x104, None)?;
+    Ok(())
 }

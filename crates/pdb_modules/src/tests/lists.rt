@@ -182,3 +182,19 @@ pub fn file(name: u32, checksum: FileChecksum<'_>) -> FileInfo<'_> {
         checksum,
     }
 }
+
+/// The record that is found at a place in section 1.
+pub fn line_is_found(
+    rt: &impl Abort,
+    alloc: Global,
+    label: &str,
+    lines_data: &[u8],
+    offset: u32,
+    wanted: Option<LineInfo>,
+) -> Result<()> {
+    let info = lines_info(rt, lines_data)?;
+    let places = info.line_places(alloc)?;
+    let found = places.find(PdbInternalSectionOffset::new(1, offset));
+    is(rt, label, &found, &wanted);
+    Ok(())
+}

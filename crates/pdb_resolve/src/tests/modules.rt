@@ -42,7 +42,11 @@ pub static SAMPLE: [u8; 260] = [
 ];
 
 /// The stream of a module whose record tells these sizes: of symbols, older lines, and newer ones.
-fn info_of<'s>(rt: &impl Abort, bytes: &'s [u8], sizes: (u32, u32, u32)) -> Result<ModuleInfo<'s>> {
+pub fn info_of<'s>(
+    rt: &impl Abort,
+    bytes: &'s [u8],
+    sizes: (u32, u32, u32),
+) -> Result<ModuleInfo<'s>> {
     let mut dbi = DBI;
     dbi[100..104].copy_from_slice(&sizes.0.to_le_bytes());
     dbi[104..108].copy_from_slice(&sizes.1.to_le_bytes());

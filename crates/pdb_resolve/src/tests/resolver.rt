@@ -3,7 +3,7 @@
 use crate::tests::files::{file_of_streams, is};
 use crate::tests::modules::SAMPLE;
 use crate::{Resolver, Streams};
-use pdb::{MemorySource, PDB, PdbInternalSectionOffset, Result};
+use pdb::{Error, MemorySource, PDB, PdbInternalSectionOffset, Result};
 use std::alloc::Global;
 use std::process::Abort;
 
@@ -173,4 +173,97 @@ fn refused_code_leaves_the_rest(rt: HostRuntime) -> Result<()> {
     with_another_byte(&rt, rt.alloc(), (DBI_AT + 98, 99), no_module)?;
     with_another_byte(&rt, rt.alloc(), (DBI_AT + 30, 0xff), no_module)?;
     with_another_byte(&rt, rt.alloc(), (DBI_AT, 0), nothing)
+}
+
+#[test]
+fn the_sample_without_ids_has_these_frames(rt: HostRuntime) -> Result<()> {
+    let alloc = rt.alloc();
+    let file = sample(alloc, b"")?;
+    let places = [
+        Some((1, 0x100)),
+        Some((1, 0x108)),
+        Some((1, 0x10c)),
+        Some((2, 0)),
+    ];
+    let wanted = "main\na.c:1:0\n\n??\na.c:10:0\nmain\na.c:2:0\n\nmain\na.c:2:0\n\n??\n??:0:0\n\n";
+    texts_are(&rt, alloc, &file, &places, wanted)?;
+    let mut streams = Streams::new(alloc);
+    let resolver = resolver(alloc, &file, &mut streams)?;
+    let place = resolver.place(0x1100).map(|it| (it.section, it.offset));
+    is(&rt, "the place of 1100", &place, &Some((1, 0x100)));
+    is(&rt, "no place", &resolver.place(0x100).is_none(), &true);
+    Ok(())
+}
+
+/// The place's text is what is wanted; where memory ends, nothing is put, and the same call is made again.
+fn asked_again<'s>(
+    rt: &impl Abort,
+    out: &mut Vec<u8>,
+    resolver: &mut Resolver<'_, 's, MemorySource<'s>>,
+    place: Option<(u16, u32)>,
+    wanted: &str,
+) -> Result<()> {
+    let place = place.map(|it| PdbInternalSectionOffset::new(it.0, it.1));
+    out.clear();
+    match resolver.put_text(out, place) {
+        Ok(()) => {}
+        Err(Error::OutOfMemory) => {
+            is(rt, "nothing is put", &out.len(), &0);
+            resolver.put_text(out, place)?;
+        }
+        Err(error) => return Err(error),
+    }
+    is(rt, "text", &out.as_slice(), &wanted.as_bytes());
+    Ok(())
+}
+
+/// A resolver; where memory ends, it is made again.
+fn made_again<'a, 's>(
+    alloc: Global,
+    file: &'s [u8],
+    streams: &'a mut Streams<'s>,
+    others: &'a mut Streams<'s>,
+) -> Result<Box<Resolver<'a, 's, MemorySource<'s>>>> {
+    match resolver(alloc, file, streams) {
+        Ok(resolver) => Ok(resolver),
+        Err(Error::OutOfMemory) => resolver(alloc, file, others),
+        Err(error) => Err(error),
+    }
+}
+
+/// The sample; where memory ends, it is made again.
+fn sample_again(alloc: Global, ids: &[u8]) -> Result<Vec<u8>> {
+    match sample(alloc, ids) {
+        Ok(file) => Ok(file),
+        Err(Error::OutOfMemory) => sample(alloc, ids),
+        Err(error) => Err(error),
+    }
+}
+
+#[test]
+fn a_refused_text_is_put_when_asked_again(rt: HostRuntime) -> Result<()> {
+    let alloc = rt.alloc();
+    let file = sample_again(alloc, &IDS)?;
+    let mut streams = Streams::new(alloc);
+    let mut others = Streams::new(alloc);
+    let mut resolver = made_again(alloc, &file, &mut streams, &mut others)?;
+    let mut out = Vec::new(alloc);
+    let both = "ns::ab\na.c:10:0\nmain\na.c:2:0\n\n";
+    asked_again(&rt, &mut out, &mut resolver, Some((1, 0x108)), both)?;
+    asked_again(
+        &rt,
+        &mut out,
+        &mut resolver,
+        Some((1, 0x130)),
+        "pub\n??:0:0\n\n",
+    )?;
+    asked_again(
+        &rt,
+        &mut out,
+        &mut resolver,
+        Some((1, 0x130)),
+        "pub\n??:0:0\n\n",
+    )?;
+    asked_again(&rt, &mut out, &mut resolver, Some((1, 0x108)), both)?;
+    asked_again(&rt, &mut out, &mut resolver, None, "??\n??:0:0\n\n")
 }

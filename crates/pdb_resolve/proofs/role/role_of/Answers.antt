@@ -1,22 +1,13 @@
-use Rattle.std.proofs.Common.{◌≡◌, Result, Ok, Err, true, false, refl, sym, ◌∙◌}
-use Rattle.pdb.specs.Error.{Error}
-use Rattle.pdb.specs.Data.{Data}
-use Rattle.pdb.specs.Data.Data.{Procedure, Thunk, SeparatedCode, InlineSite}
-use Rattle.pdb.specs.Scopes.{StartsScope}
-use Rattle.pdb.specs.Forms.{record_at}
+use Rattle.std.proofs.Common.{ap, sym, ◌∙◌}
 use Rattle.pdb.specs.Views.{symbol_of}
-use Rattle.pdb_resolve.specs.ModuleCode.{role}
-use Rattle.pdb_resolve.specs.ModuleCode.Role.{passed}
+use Rattle.pdb_resolve.specs.Kept.{site_role}
+use Rattle.pdb_resolve.proofs.Sites.{site_read, counted_site_read}
 use Rattle.pdb_resolve.proofs.role.role_of.Goals as goal
 
--- what starts no scope is passed over
-passed_over : (r : Result Data Error) → ((d : Data) → r ≡ Ok d → StartsScope d → true ≡ false) → passed ≡ role r
-passed_over (Err e) none = refl
-passed_over (Ok (Procedure s)) none = let e = none (Procedure s) refl tt in absurd cc
-passed_over (Ok (Thunk s)) none = let e = none (Thunk s) refl tt in absurd cc
-passed_over (Ok (SeparatedCode s)) none = let e = none (SeparatedCode s) refl tt in absurd cc
-passed_over (Ok (InlineSite s)) none = let e = none (InlineSite s) refl tt in absurd cc
-passed_over (Ok d) none = refl
+pub returns-in-4429-clause-is : goal.returns-in-4429-clause-is
+returns-in-4429-clause-is c =
+    c.site_role.ensures ∙ (ap (site_role 14) c.raw_bytes.ensures ∙ sym (site_read (symbol_of c.args.symbol.now).bytes (sym c.raw_kind.ensures ∙ c.in-4429.is)))
 
-pub returns-then-not-starts_scope-clause-is : goal.returns-then-not-starts_scope-clause-is
-returns-then-not-starts_scope-clause-is c = passed_over (record_at (symbol_of c.args.symbol.now).bytes) (λ d e h. sym (c.starts_scope.ensures.says d e h) ∙ c.if-not-starts_scope.true)
+pub returns-in-4445-clause-is : goal.returns-in-4445-clause-is
+returns-in-4445-clause-is c =
+    c.site_role-in-4445.ensures ∙ (ap (site_role 18) c.raw_bytes-in-4445.ensures ∙ sym (counted_site_read (symbol_of c.args.symbol.now).bytes (sym c.raw_kind.ensures ∙ c.in-4445.is)))

@@ -1,30 +1,34 @@
-use Rattle.std.proofs.Common.{rules, ◌≡◌, ◌≢◌, ◌++◌, ◌⊎◌, [], ℕ, List, codes, flat_map, IfOk, IfErr, OnOk, OnErr, IsErrOf, IsErrAnd, ◌+◌, ◌-◌, ◌*◌, ◌<◌, ◌≤◌, length, ◌/◌, ◌%◌, Bool, true, false, nat_eq, nat_lt, ◌∷◌, slice_index_or, slice_set, bit_and, bit_or, Fits, w8, w32, w64, Bor, MutBor}
-use Rattle.std.specs.Io.KnownBytes.{Appends}
-use Rattle.pdb.specs.Error.{Error}
-use Rattle.pdb.specs.Error.TheVariants.{OutOfMemory, IoError}
+use Rattle.pdb_text.proofs.Written.{any_err, on_err}
 use Rattle.pdb.specs.DbiViews.{modules_left}
-use Rattle.pdb.specs.ModuleStream.{ModuleBytes}
-use Rattle.pdb.specs.Answers.{module_info_in, module_of_file}
-use Rattle.pdb.specs.Source.{Continues}
-use Rattle.pdb_text.specs.Written.{WroteFirst, WroteFront}
+use Rattle.pdb.proofs.Passing.{continues_then}
 use Rattle.pdb_tool.specs.ErrorLine.{error_line}
-use Rattle.pdb_tool.specs.ModuleTexts.{all_text, list_text, listed_text, place_text, there_text}
-use Rattle.pdb_tool.specs.declared.stop.Stop.{Stop}
+use Rattle.pdb_tool.specs.ModuleTexts.{list_text, listed_text}
+use Rattle.pdb_tool.proofs.WrittenSoFar.{before_front, before_here, before_last_front, before_more, fault_listed, next_listed}
 use Rattle.pdb_tool.proofs.module_texts.write_left.Goals as goal
 
--- src/module_texts.rt:153:33
-pub returns-in_err-put_listed-in-Ok-Some-clause-front :
-    goal.returns-in_err-put_listed-in-Ok-Some-clause-front
-returns-in_err-put_listed-in-Ok-Some-clause-front g c = ?
+pub returns-in_err-put_listed-in-Ok-Some-clause-front : goal.returns-in_err-put_listed-in-Ok-Some-clause-front
+returns-in_err-put_listed-in-Ok-Some-clause-front g c = any_err c.from_residual.result (before_here _ _ _ _ c.loop-module.invariant.told)
 
--- src/module_texts.rt:155:23
 pub returns-in-Err-clause-front : goal.returns-in-Err-clause-front
-returns-in-Err-clause-front g c = ?
+returns-in-Err-clause-front g c =
+    let last = fault_listed (g.T.ModuleText.text c.args.texts.now) c.args.pdb.now.file _ _ c.in-Err.e c.in-Err.ensures.yields in
+    on_err c.write_refused.result (λ w. before_last_front _ _ _ (error_line c.in-Err.e) _ _ c.loop-module.invariant.told last w) c.write_refused.ensures.front
 
--- src/module_texts.rt:150:5
-pub loop-module-preserved : goal.loop-module-preserved
-loop-module-preserved g c = ?
-
--- src/module_texts.rt:157:9
 pub returns-in_err-write_out-clause-front : goal.returns-in_err-write_out-clause-front
-returns-in_err-write_out-clause-front g c = ?
+returns-in_err-write_out-clause-front g c =
+    let so_far = c.loop-module.invariant in
+    let text = rw c.clear.ensures.items at c.in_ok-put_listed-in-Ok-Some.ensures.text in
+    let wrote = rw (c.deref.ensures.value, text, so_far.continues.file) at c.in_err-write_out.ensures.err in
+    let next = next_listed (g.T.ModuleText.text c.args.texts.now) c.args.pdb.now.file (modules_left c.loop-module.modules) (modules_left c.next.new.self) c.in-Ok-Some.module c.in-Ok-Some.ensures.yields in
+    any_err c.from_residual-in_err-write_out.result (before_front _ _ _ _ _ _ _ so_far.told next wrote)
+
+pub loop-module-preserved : goal.loop-module-preserved
+loop-module-preserved g c =
+    let so_far = c.loop-module.invariant in
+    let text = rw c.clear.ensures.items at c.in_ok-put_listed-in-Ok-Some.ensures.text in
+    let wrote = rw (c.deref.ensures.value, text, so_far.continues.file) at c.in_ok-write_out.ensures.ok in
+    let next = next_listed (g.T.ModuleText.text c.args.texts.now) c.args.pdb.now.file (modules_left c.loop-module.modules) (modules_left c.next.new.self) c.in-Ok-Some.module c.in-Ok-Some.ensures.yields in
+    record {
+      continues = continues_then _ _ _ so_far.continues c.put_listed.ensures.continues;
+      told = before_more _ _ _ _ _ _ _ so_far.told next wrote;
+    }

@@ -1,0 +1,22 @@
+use Rattle.std.proofs.Common.{◌≡◌, Result, Ok, Err, true, false, refl, sym, ◌∙◌}
+use Rattle.pdb.specs.Error.{Error}
+use Rattle.pdb.specs.Data.{Data}
+use Rattle.pdb.specs.Data.Data.{Procedure, Thunk, SeparatedCode, InlineSite}
+use Rattle.pdb.specs.Scopes.{StartsScope}
+use Rattle.pdb.specs.Forms.{record_at}
+use Rattle.pdb.specs.Views.{symbol_of}
+use Rattle.pdb_resolve.specs.ModuleCode.{role}
+use Rattle.pdb_resolve.specs.ModuleCode.Role.{passed}
+use Rattle.pdb_resolve.proofs.role.other_role.Goals as goal
+
+-- what starts no scope is passed over
+passed_over : (r : Result Data Error) → ((d : Data) → r ≡ Ok d → StartsScope d → true ≡ false) → passed ≡ role r
+passed_over (Err e) none = refl
+passed_over (Ok (Procedure s)) none = let e = none (Procedure s) refl tt in absurd cc
+passed_over (Ok (Thunk s)) none = let e = none (Thunk s) refl tt in absurd cc
+passed_over (Ok (SeparatedCode s)) none = let e = none (SeparatedCode s) refl tt in absurd cc
+passed_over (Ok (InlineSite s)) none = let e = none (InlineSite s) refl tt in absurd cc
+passed_over (Ok d) none = refl
+
+pub returns-then-not-starts_scope-clause-is : goal.returns-then-not-starts_scope-clause-is
+returns-then-not-starts_scope-clause-is c = passed_over (record_at (symbol_of c.args.symbol.now).bytes) (λ d e h. sym (c.starts_scope.ensures.says d e h) ∙ c.if-not-starts_scope.true)

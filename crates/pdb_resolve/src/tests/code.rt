@@ -1,0 +1,259 @@
+//! Code of modules that are put together record by record.
+
+use crate::ModuleCode;
+use crate::tests::files::is;
+use crate::tests::modules::info_of;
+use pdb::{PdbInternalSectionOffset, Result};
+use std::alloc::Global;
+use std::process::Abort;
+
+/// The index that no scope of these modules reaches.
+const END: u32 = 10_000;
+
+/// A module's symbols; those of its inlined functions that are listed are 0x1001 and 0x1002.
+#[derive(Drop)]
+struct Symbols {
+    bytes: Vec<u8>,
+}
+
+impl Symbols {
+    fn new(alloc: Global) -> Result<Self> {
+        let mut bytes = Vec::new(alloc);
+        bytes.extend_from_slice(&[4, 0, 0, 0])?;
+        Ok(Symbols { bytes })
+    }
+
+    /// The index of the next symbol.
+    fn next(&self) -> u32 {
+        self.bytes.len().min(60_000) as u32
+    }
+
+    /// One more record: its kind, and numbers of four bytes with others behind them.
+    fn push(&mut self, kind: u16, numbers: &[u32], rest: &[u8]) -> Result<u32> {
+        let index = self.next();
+        let size = 2 + 4 * numbers.len().min(100) as u16 + rest.len().min(100) as u16;
+        self.bytes.extend_from_slice(&size.to_le_bytes())?;
+        self.bytes.extend_from_slice(&kind.to_le_bytes())?;
+        for number in numbers {
+            self.bytes.extend_from_slice(&number.to_le_bytes())?;
+        }
+        self.bytes.extend_from_slice(rest)?;
+        Ok(index)
+    }
+
+    /// A procedure of so many bytes in section 1, whose scope ends at `end`. Its section, its flags and its name stand
+    /// in `rest`.
+    fn procedure(&mut self, offset: u32, length: u32, end: u32, rest: &[u8]) -> Result<u32> {
+        self.push(0x1110, &[0, end, 0, length, 0, 0, 0, offset], rest)
+    }
+
+    /// A site of an inlined function, with these annotations.
+    fn site(&mut self, id: u32, annotations: &[u8]) -> Result<u32> {
+        self.push(0x114d, &[0, 0, id], annotations)
+    }
+}
+
+/// The ids and the first lines of inlined functions.
+static INLINEES: [u8; 36] = [
+    0xf6, 0, 0, 0, 0x1c, 0, 0, 0, 0, 0, 0, 0, 0x01, 0x10, 0, 0, 0, 0, 0, 0, 0x0a, 0, 0, 0, 0x02,
+    0x10, 0, 0, 0, 0, 0, 0, 0x14, 0, 0, 0,
+];
+
+/// At an offset in section 1 is this function of this name, and these ids and lines are inlined there.
+fn stands(
+    rt: &impl Abort,
+    alloc: Global,
+    symbols: &Symbols,
+    offset: u32,
+    wanted: (Option<u32>, Option<&str>, &[(u32, u32)]),
+) -> Result<()> {
+    let size = symbols.next();
+    let mut bytes = symbols.bytes.clone()?;
+    bytes.extend_from_slice(&INLINEES)?;
+    let info = info_of(rt, bytes.as_slice(), (size, 0, 36))?;
+    let code = ModuleCode::new(alloc, &info)?;
+    let place = PdbInternalSectionOffset::new(1, offset);
+    is(
+        rt,
+        "function",
+        &code.function(place).map(|it| it.0),
+        &wanted.0,
+    );
+    match (code.function_name(alloc, place)?, wanted.1) {
+        (Some(name), Some(wanted)) => is(rt, "name", &name.as_bytes(), &wanted.as_bytes()),
+        (given, wanted) => assert!(rt; given.is_none() && wanted.is_none(), "one has a name"),
+    }
+    let calls = code.inlined(alloc, place)?;
+    is(rt, "calls", &calls.len(), &wanted.2.len());
+    for (call, wanted) in calls.as_slice().iter().zip(wanted.2) {
+        is(rt, "call", &(call.id.0, call.line.line_start), wanted);
+    }
+    Ok(())
+}
+
+#[test]
+fn the_first_listed_procedure_counts_and_not_the_nearest(rt: HostRuntime) -> Result<()> {
+    let alloc = rt.alloc();
+    let mut symbols = Symbols::new(alloc)?;
+    let outer = symbols.procedure(0x100, 0x40, END, b"\x01\0\0outer\0")?;
+    symbols.procedure(0x110, 0x10, END, b"\x01\0\0inner\0")?;
+    let later = symbols.procedure(0x138, 0x10, END, b"\x01\0\0later\0")?;
+    stands(
+        &rt,
+        alloc,
+        &symbols,
+        0x110,
+        (Some(outer), Some("outer"), &[]),
+    )?;
+    stands(
+        &rt,
+        alloc,
+        &symbols,
+        0x13f,
+        (Some(outer), Some("outer"), &[]),
+    )?;
+    stands(
+        &rt,
+        alloc,
+        &symbols,
+        0x140,
+        (Some(later), Some("later"), &[]),
+    )?;
+    stands(&rt, alloc, &symbols, 0x148, (None, None, &[]))
+}
+
+#[test]
+fn a_procedure_comes_before_a_thunk(rt: HostRuntime) -> Result<()> {
+    let alloc = rt.alloc();
+    let mut symbols = Symbols::new(alloc)?;
+    // Section 1, 32 bytes, no ordinal, and the name.
+    let rest = b"\x01\0\x20\0\0thunk\0";
+    let thunk = symbols.push(0x1102, &[0, END, 0, 0x100], rest)?;
+    let procedure = symbols.procedure(0x100, 0x10, END, b"\x01\0\0code\0")?;
+    stands(
+        &rt,
+        alloc,
+        &symbols,
+        0x100,
+        (Some(procedure), Some("code"), &[]),
+    )?;
+    stands(
+        &rt,
+        alloc,
+        &symbols,
+        0x110,
+        (Some(thunk), Some("thunk"), &[]),
+    )
+}
+
+#[test]
+fn separated_code_has_its_procedures_name(rt: HostRuntime) -> Result<()> {
+    let alloc = rt.alloc();
+    let mut symbols = Symbols::new(alloc)?;
+    // Of 16 bytes at 1:200, of the procedure at 1:104; and at 1:300, of none.
+    let rest = b"\x01\0\x01\0";
+    let own = symbols.push(0x1132, &[0, END, 0x10, 0, 0x200, 0x104], rest)?;
+    let none = symbols.push(0x1132, &[0, END, 0x10, 0, 0x300, 0x110], rest)?;
+    symbols.procedure(0x100, 0x10, END, b"\x01\0\0parent\0")?;
+    stands(
+        &rt,
+        alloc,
+        &symbols,
+        0x20f,
+        (Some(own), Some("parent"), &[]),
+    )?;
+    stands(&rt, alloc, &symbols, 0x30f, (Some(none), None, &[]))?;
+    stands(&rt, alloc, &symbols, 0x210, (None, None, &[]))
+}
+
+/// A record of eight bytes that begins 4 bytes behind the last one.
+const FROM_4: &[u8] = b"\x03\x04\x04\x08";
+
+#[test]
+fn sites_count_up_to_their_procedures_end(rt: HostRuntime) -> Result<()> {
+    let alloc = rt.alloc();
+    let mut symbols = Symbols::new(alloc)?;
+    // The record of the procedure has 41 bytes, and that of the site 20.
+    let code = symbols.procedure(0x100, 0x40, 4 + 41 + 20, b"\x01\0\0a\0")?;
+    symbols.site(0x1001, FROM_4)?;
+    symbols.site(0x1002, FROM_4)?;
+    stands(
+        &rt,
+        alloc,
+        &symbols,
+        0x104,
+        (Some(code), Some("a"), &[(0x1001, 10)]),
+    )?;
+    stands(&rt, alloc, &symbols, 0x10c, (Some(code), Some("a"), &[]))
+}
+
+#[test]
+fn sites_stand_in_their_order_whatever_their_parents_cover(rt: HostRuntime) -> Result<()> {
+    let alloc = rt.alloc();
+    let mut symbols = Symbols::new(alloc)?;
+    let code = symbols.procedure(0x100, 0x40, END, b"\x01\0\0a\0")?;
+    // The one around it has four bytes from 0x104 on, the one in it eight.
+    symbols.site(0x1002, b"\x03\x04\x04\x04")?;
+    symbols.site(0x1001, FROM_4)?;
+    symbols.push(0x114e, &[], b"")?;
+    symbols.push(0x114e, &[], b"")?;
+    let both = [(0x1002, 20), (0x1001, 10)];
+    stands(&rt, alloc, &symbols, 0x104, (Some(code), Some("a"), &both))?;
+    stands(
+        &rt,
+        alloc,
+        &symbols,
+        0x108,
+        (Some(code), Some("a"), &[(0x1001, 10)]),
+    )
+}
+
+#[test]
+fn a_site_of_an_id_that_is_not_listed_is_passed(rt: HostRuntime) -> Result<()> {
+    let alloc = rt.alloc();
+    let mut symbols = Symbols::new(alloc)?;
+    let code = symbols.procedure(0x100, 0x40, END, b"\x01\0\0a\0")?;
+    symbols.site(0x1003, FROM_4)?;
+    symbols.site(0x1001, FROM_4)?;
+    // Of three bytes of annotations less than there are: no site.
+    symbols.push(0x114d, &[0, 0], b"\x01\x10")?;
+    // With a count of invocations before the annotations.
+    symbols.push(0x115d, &[0, 0, 0x1002, 9], FROM_4)?;
+    let both = [(0x1001, 10), (0x1002, 20)];
+    stands(&rt, alloc, &symbols, 0x104, (Some(code), Some("a"), &both))
+}
+
+#[test]
+fn records_before_a_fault_count_where_the_next_one_begins(rt: HostRuntime) -> Result<()> {
+    let alloc = rt.alloc();
+    let mut symbols = Symbols::new(alloc)?;
+    let code = symbols.procedure(0x100, 0x40, END, b"\x01\0\0a\0")?;
+    // From 4 on, a line further from 8 on, and then an opcode that isn't known.
+    symbols.site(0x1001, b"\x03\x04\x06\x02\x03\x04\x0f\x01")?;
+    stands(
+        &rt,
+        alloc,
+        &symbols,
+        0x104,
+        (Some(code), Some("a"), &[(0x1001, 10)]),
+    )?;
+    stands(&rt, alloc, &symbols, 0x108, (Some(code), Some("a"), &[]))
+}
+
+#[test]
+fn records_without_bytes_or_length_cover_nothing(rt: HostRuntime) -> Result<()> {
+    let alloc = rt.alloc();
+    let mut symbols = Symbols::new(alloc)?;
+    let code = symbols.procedure(0x100, 0x40, END, b"\x01\0\0a\0")?;
+    // Of no bytes at 4, and then of eight there, a line further.
+    symbols.site(0x1001, b"\x03\x04\x04\x00\x06\x02\x03\x00\x04\x08")?;
+    // At 4, and its length isn't told.
+    symbols.site(0x1002, b"\x03\x04")?;
+    stands(
+        &rt,
+        alloc,
+        &symbols,
+        0x104,
+        (Some(code), Some("a"), &[(0x1001, 11)]),
+    )
+}
