@@ -1,9 +1,7 @@
 -- The commands that words spell.
 use Rattle.std.specs.Prelude.{◌≡◌, ℕ, zero, suc, ◌+◌, List, [], ◌∷◌, ◌++◌, length, codes, Bool, true, false, ◌&&◌, ◌||◌, Option, Some, None, Result, Ok, Err, nat_lt, nat_le, if◌then◌else◌, slice_index_or}
-use Rattle.std.specs.Char.{is_ascii_digit}
-use Rattle.std.specs.List.{list_all}
 use Rattle.std.specs.Str.{bytes_eq}
-use Rattle.std.specs.Str.Parse.{digits_value}
+use Rattle.pdb_text.specs.Numbers.{number_in}
 use Rattle.pdb_list.specs.declared.command.Command.{Command}
 use Rattle.pdb_list.specs.declared.command.Command.TheVariants.{Info, Names, Modules, Contributions, Sections, Globals, Symbols, Lines, Files, Inlinees, Imports, Exports}
 use Rattle.pdb_list.specs.declared.command.WordsError.{WordsError}
@@ -43,14 +41,6 @@ module_command word k =
     else if bytes_eq word (codes "files") then Files k
     else if bytes_eq word (codes "inlinees") then Inlinees k
     else Exports k
-
--- one to ten digits
-abbrev pub is_short_numeral : List ℕ → Bool
-is_short_numeral word = nat_lt 0 (length word) && nat_le (length word) 10 && list_all is_ascii_digit word
-
--- the number that a word is: one to ten digits, of at most 4294967295
-unfoldable pub number_in : List ℕ → Option ℕ
-number_in word = if is_short_numeral word && nat_lt (digits_value 10 word) 4294967296 then Some (digits_value 10 word) else None
 
 -- the number that the word at p is, or the place of the bad word
 abbrev pub number_or : Option ℕ → ℕ → Result ℕ ℕ

@@ -1,12 +1,11 @@
 //! What the program is asked for.
 
 ghost use Rattle.std.specs.Prelude.{◌≡◌, ◌+◌, ◌<◌, ◌≤◌, length, map, string_bytes, IfOk};
-ghost use Rattle.std.specs.Char.{is_ascii_digit};
-ghost use Rattle.std.specs.List.{list_all};
 ghost use Rattle.std.specs.Option.{is_some};
 ghost use Rattle.pdb_list.specs.CommandTexts.{place_of};
-ghost use Rattle.pdb_list.specs.Words.{Tells, plain_command, takes_module, module_command, is_short_numeral, number_in, number_at, longer_at, command_at, spelled, asks_for_sample};
+ghost use Rattle.pdb_list.specs.Words.{Tells, plain_command, takes_module, module_command, number_at, longer_at, command_at, spelled, asks_for_sample};
 
+use pdb_text::number_in;
 use std::alloc::{AllocError, AllocFailed, Global};
 
 /// A part of a file to be listed.
@@ -137,32 +136,6 @@ fn module_command(word: &str, k: u32) -> Command
         Command::Inlinees(k)
     } else {
         Command::Exports(k)
-    }
-}
-
-/// Whether all bytes of a word are digits.
-fn is_all_digits(word: &str) -> bool
-    ensures { result ≡ list_all is_ascii_digit word.now }
-{
-    word.as_bytes().iter().all(|b| b.is_ascii_digit())
-}
-
-/// Whether a word is one to ten digits.
-fn is_short_numeral(word: &str) -> bool
-    ensures { result ≡ is_short_numeral word.now }
-{
-    !word.is_empty() && word.len() <= 10 && is_all_digits(word)
-}
-
-/// The number that a word is: one to ten digits, of at most 4294967295.
-#[tactic(auto, unfolding(crate::specs::Words::number_in))]
-fn number_in(word: &str) -> Option<u32>
-    ensures { result ≡ number_in word.now }
-{
-    if is_short_numeral(word) {
-        word.parse::<u32>().ok()
-    } else {
-        None
     }
 }
 

@@ -35,6 +35,7 @@ pub use calls::InlinedCall;
 pub use frames::{Frame, FunctionNames};
 pub use module_code::ModuleCode;
 pub use module_places::ModulePlaces;
+pub use name_tables::{ids_of, types_of};
 pub use public_names::PublicNames;
 pub use range::CodeRange;
 pub use ranges::Ranges;

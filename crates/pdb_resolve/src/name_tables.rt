@@ -35,8 +35,9 @@ fn or_empty<'a>(alloc: Global, finder: Result<ItemFinder<'a>>) -> Result<ItemFin
     }
 }
 
-/// The ids of a stream, by their indices.
-fn ids_of<'a>(alloc: Global, ids: Option<&'a IdInformation<'a>>) -> Result<ItemFinder<'a>>
+/// The ids of a stream, by their indices: those before a fault, none where the stream isn't there or is refused. Want of
+/// memory is its only refusal.
+pub fn ids_of<'a>(alloc: Global, ids: Option<&'a IdInformation<'a>>) -> Result<ItemFinder<'a>>
     ensures made { IfOk result (λ f. f ≡ items_where (option_copied ids.entry)) }
     ensures refused { IfErr result (λ e. e ≡ Error.OutOfMemory) }
 {
@@ -46,8 +47,8 @@ fn ids_of<'a>(alloc: Global, ids: Option<&'a IdInformation<'a>>) -> Result<ItemF
     }
 }
 
-/// The types of a stream, by their indices.
-fn types_of<'a>(alloc: Global, types: Option<&'a TypeInformation<'a>>) -> Result<ItemFinder<'a>>
+/// The types of a stream, by their indices, in the same way.
+pub fn types_of<'a>(alloc: Global, types: Option<&'a TypeInformation<'a>>) -> Result<ItemFinder<'a>>
     ensures made { IfOk result (λ f. f ≡ items_where (option_copied types.entry)) }
     ensures refused { IfErr result (λ e. e ≡ Error.OutOfMemory) }
 {

@@ -4,7 +4,7 @@ use Rattle.std.specs.Str.{bytes_eq}
 use Rattle.pdb_tool.specs.Asked.{hex_in, without_prefix}
 use Rattle.pdb_tool.specs.declared.asked.Asked.{Asked}
 use Rattle.pdb_tool.specs.declared.words.Topic.{Topic}
-use Rattle.pdb_tool.specs.declared.words.Topic.TheVariants.{Resolve, Key}
+use Rattle.pdb_tool.specs.declared.words.Topic.TheVariants.{Resolve, Lines, Scopes, Symbols, Key}
 use Rattle.pdb_tool.specs.declared.words.Request.{Request}
 use Rattle.pdb_tool.specs.declared.words.Request.TheVariants.{Help, Version, Run}
 use Rattle.pdb_tool.specs.declared.words.WordsError.{WordsError}
@@ -14,6 +14,9 @@ use Rattle.pdb_tool.specs.declared.words.WordsError.TheVariants.{BadWord, OutOfM
 abbrev pub topic_in : List ℕ → Option Topic
 topic_in word =
     if bytes_eq word (codes "resolve") then Some Resolve
+    else if bytes_eq word (codes "lines") then Some Lines
+    else if bytes_eq word (codes "scopes") then Some Scopes
+    else if bytes_eq word (codes "symbols") then Some Symbols
     else if bytes_eq word (codes "key") then Some Key
     else None
 

@@ -9,6 +9,9 @@ const OVERVIEW: &str = "\
 pdb_tool tells what symbol files (PDB) say of a program.
 
   pdb_tool resolve [--base=HEX] FILE [ADDRESS..]  the functions, files and lines at addresses
+  pdb_tool lines FILE [K..]                       the line records of modules
+  pdb_tool scopes FILE [K..]                      functions, blocks, variables and inlined calls
+  pdb_tool symbols FILE [K..]                     all symbols, field by field
   pdb_tool key FILE..                             the keys under which symbol servers have files
 
   pdb_tool help COMMAND                           a command's words, its lines and an example
@@ -42,6 +45,44 @@ read. A line that is no address is answered by itself.
 
 ";
 
+const LINES: &str = "\
+pdb_tool lines FILE [K..]
+
+Tells the line records of the modules of these numbers, counted from 0, or else of all modules:
+SECTION:OFFSET in hex, how many bytes the record has, and FILE:LINE:COLUMN. What isn't there is
+-, ?? or 0. Where a module's records are damaged a line `error N TEXT` says so, and the next
+module follows; none stands for a module that isn't there or has no stream.
+
+  $ pdb_tool lines app.pdb
+  0001:00000100 8 a.c:1:0
+  0001:00000108 8 a.c:2:0
+";
+
+const SCOPES: &str = "\
+pdb_tool scopes FILE [K..]
+
+Tells what the modules of these numbers, counted from 0, or else all modules have in their
+scopes: procedures, thunks, blocks and separated code with SECTION:OFFSET in hex and how many
+bytes they have, data and labels with their places, variables, and inlined functions, each
+behind two blanks for each scope around it. Damage is told as in lines.
+
+  $ pdb_tool scopes app.pdb
+  procedure 0001:00000100 48 main
+    inlined nested
+";
+
+const SYMBOLS: &str = "\
+pdb_tool symbols FILE [K..]
+
+Tells all symbols of the modules of these numbers, counted from 0, or else the global symbols:
+each behind two blanks for each scope around it, its index in hex, its kind as cvinfo.h names
+it, its fields and its name. A record that can't be read is told as `error N` with its bytes.
+
+  $ pdb_tool symbols app.pdb
+  00000000 S_PUB32 code=false function=true managed=false msil=false offset=0001:00000100 main
+  00000014 S_UDT type_index=00000670 va_list
+";
+
 const KEY: &str = "\
 pdb_tool key FILE..
 
@@ -54,6 +95,9 @@ the status is then 1.
 ";
 
 const RESOLVE_USAGE: &str = "usage: pdb_tool resolve [--base=HEX] FILE [ADDRESS..]\n";
+const LINES_USAGE: &str = "usage: pdb_tool lines FILE [K..]\n";
+const SCOPES_USAGE: &str = "usage: pdb_tool scopes FILE [K..]\n";
+const SYMBOLS_USAGE: &str = "usage: pdb_tool symbols FILE [K..]\n";
 const KEY_USAGE: &str = "usage: pdb_tool key FILE..\n";
 const USAGE: &str = "usage: pdb_tool COMMAND [OPTION..] FILE [WORD..], and pdb_tool help tells more\n";
 
@@ -62,6 +106,9 @@ pub fn help_of(topic: Option<Topic>) -> &'static str {
     match topic {
         None => OVERVIEW,
         Some(Topic::Resolve) => RESOLVE,
+        Some(Topic::Lines) => LINES,
+        Some(Topic::Scopes) => SCOPES,
+        Some(Topic::Symbols) => SYMBOLS,
         Some(Topic::Key) => KEY,
     }
 }
@@ -71,6 +118,9 @@ pub fn usage_of(topic: Option<Topic>) -> &'static str {
     match topic {
         None => USAGE,
         Some(Topic::Resolve) => RESOLVE_USAGE,
+        Some(Topic::Lines) => LINES_USAGE,
+        Some(Topic::Scopes) => SCOPES_USAGE,
+        Some(Topic::Symbols) => SYMBOLS_USAGE,
         Some(Topic::Key) => KEY_USAGE,
     }
 }

@@ -2,6 +2,7 @@
 #![tactic(auto)]
 
 mod asked;
+mod commands;
 mod depth;
 mod error_line;
 #[cfg(test)]
@@ -27,6 +28,7 @@ mod values;
 mod values_forms;
 mod words;
 
+use commands::{write_lines, write_scopes, write_symbols};
 use help::{VERSION, help_of};
 use key::{key_in_parts, key_of};
 use pdb::MemorySource;
@@ -40,7 +42,7 @@ use std::io::{self, ErrorKind, Input, Write};
 use std::process::ExitCode;
 use std::rt::{Env, Files};
 use stop::{Stop, stop_of_opening};
-use words::{Request, Topic, WordsError, all_asked, request_in};
+use words::{Request, Topic, WordsError, all_asked, all_numbers, request_in};
 
 /// Whether all was told: else a file among several wasn't, and that was said.
 type Told = Result<bool, Fault>;
@@ -94,6 +96,29 @@ fn tell_code(
         resolve_lines(alloc, &bytes, base, &mut rt.reader(), &mut out)
     } else {
         resolve_words(alloc, &bytes, &asked, &mut out)
+    };
+    match told {
+        Ok(()) => Ok(true),
+        Err(stop) => Err(Fault::Stopped(stop, place)),
+    }
+}
+
+/// Tells the texts of a file's modules: of those whose numbers stand behind the file's name, or else of all.
+fn tell_modules(
+    rt: &(impl Files<File = File> + Print + AllocGlobal),
+    words: &[String],
+    topic: Topic,
+    place: usize,
+) -> Told {
+    let alloc = rt.alloc();
+    let rest = words_from(words, place.saturating_add(1));
+    let places = all_numbers(alloc, rest, place.saturating_add(1)).map_err(words_fault)?;
+    let bytes = read_named(rt, words, place)?;
+    let mut out = io::writer(rt);
+    let told = match topic {
+        Topic::Lines => write_lines(alloc, &bytes, &places, &mut out),
+        Topic::Scopes => write_scopes(alloc, &bytes, &places, &mut out),
+        _ => write_symbols(alloc, &bytes, &places, &mut out),
     };
     match told {
         Ok(()) => Ok(true),
@@ -155,6 +180,7 @@ fn run<E: Write>(
         }
         Request::Run(Topic::Resolve, base, place) => tell_code(rt, words, base, place),
         Request::Run(Topic::Key, _, place) => tell_keys(rt, words, place, err),
+        Request::Run(topic, _, place) => tell_modules(rt, words, topic, place),
     }
 }
 

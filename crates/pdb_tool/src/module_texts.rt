@@ -122,7 +122,7 @@ pub fn write_places<'s, S: Source<'s>, T: ModuleText, W: Write>(
 }
 
 /// Writes the line of a refusal.
-fn write_refused<W: Write>(alloc: Global, e: Error, out: &mut W) -> Result<(), Stop>
+pub fn write_refused<W: Write>(alloc: Global, e: Error, out: &mut W) -> Result<(), Stop>
     ensures opened { (x : Error) → IsErrOf result (Stop.Open x) → ⊥ }
     ensures ok { OnOk result ((e ≢ Error.OutOfMemory) × (e ≢ Error.IoError) × Appends (W.contents out.old) (W.contents out.new) (error_line e)) }
     ensures front { OnErr result (WroteFront (W.contents out.old) (W.contents out.new) (error_line e)) }

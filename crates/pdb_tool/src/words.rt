@@ -1,17 +1,25 @@
 //! What the program's words ask for.
 
 ghost use Rattle.std.specs.Prelude.{◌≡◌, ◌+◌, ◌<◌, ◌^◌, map, string_bytes, length};
+ghost use Rattle.pdb_text.specs.Numbers.{number_in};
 ghost use Rattle.pdb_tool.specs.Asked.{asked_in};
 ghost use Rattle.pdb_tool.specs.Words.{Tells, all_in, alone, command_of, front_of, help_in, base_in, is_help, is_option, request_in, run_from, takes_base, topic_in};
 
 use crate::asked::{Asked, asked_in, hex_in, without_prefix};
-use std::alloc::{AllocError, AllocFailed, Global};
+use pdb_text::number_in;
+use std::alloc::{AllocFailed, Global};
 
 /// A command.
 #[derive(Clone, Copy, Debug, PartialEq, Eq)]
 pub enum Topic {
     /// What code stands at addresses.
     Resolve,
+    /// The line records of modules.
+    Lines,
+    /// The scopes of modules.
+    Scopes,
+    /// The symbols of modules, or the global ones.
+    Symbols,
     /// The keys under which symbol servers have files.
     Key,
 }
@@ -53,6 +61,9 @@ pub fn topic_in(word: &str) -> Option<Topic>
 {
     match word {
         "resolve" => Some(Topic::Resolve),
+        "lines" => Some(Topic::Lines),
+        "scopes" => Some(Topic::Scopes),
+        "symbols" => Some(Topic::Symbols),
         "key" => Some(Topic::Key),
         _ => None,
     }
@@ -171,6 +182,26 @@ pub fn all_asked(
     for (index, word) in words.iter().enumerate() {
         match asked_in(base, word.as_bytes()) {
             Some(asked) => all.push(asked)?,
+            None => return Err(WordsError::BadWord(place + index)),
+        }
+    }
+    Ok(all)
+}
+
+/// What numbers the words are, of which the first stands at `place` among the program's words.
+#[tactic(auto, using(crate::proofs::AllWords::all_there, crate::proofs::AllWords::begins, crate::proofs::AllWords::none_there, crate::proofs::AllWords::one_more))]
+pub fn all_numbers(
+    alloc: Global,
+    words: &[String],
+    place: usize,
+) -> Result<Vec<u32>, WordsError>
+    requires { place + length words.now < 2 ^ 64 }
+    ensures { Tells (λ v. v.items) result (all_in number_in (map string_bytes words.now) place) }
+{
+    let mut all = Vec::new(alloc);
+    for (index, word) in words.iter().enumerate() {
+        match number_in(word.as_str()) {
+            Some(number) => all.push(number)?,
             None => return Err(WordsError::BadWord(place + index)),
         }
     }

@@ -19,7 +19,7 @@ returns-in_err-write_out-clause-front g c =
     let so_far = c.loop-module.invariant in
     let text = rw c.clear.ensures.items at c.in_ok-put_listed-in-Ok-Some.ensures.text in
     let wrote = rw (c.deref.ensures.value, text, so_far.continues.file) at c.in_err-write_out.ensures.err in
-    let next = next_listed (g.T.ModuleText.text c.args.texts.now) c.args.pdb.now.file (modules_left c.loop-module.modules) (modules_left c.next.new.self) c.in-Ok-Some.module c.in-Ok-Some.ensures.yields in
+    let next = next_listed (g.T.ModuleText.text c.args.texts.now) c.args.pdb.now.file (modules_left c.loop-module.modules) (modules_left c.next.new.self) c.in-Ok-Some.module (rw c.in-Ok-Some.field-0-is at c.in-Ok-Some.ensures.yields) in
     any_err c.from_residual-in_err-write_out.result (before_front _ _ _ _ _ _ _ so_far.told next wrote)
 
 pub loop-module-preserved : goal.loop-module-preserved
@@ -27,7 +27,7 @@ loop-module-preserved g c =
     let so_far = c.loop-module.invariant in
     let text = rw c.clear.ensures.items at c.in_ok-put_listed-in-Ok-Some.ensures.text in
     let wrote = rw (c.deref.ensures.value, text, so_far.continues.file) at c.in_ok-write_out.ensures.ok in
-    let next = next_listed (g.T.ModuleText.text c.args.texts.now) c.args.pdb.now.file (modules_left c.loop-module.modules) (modules_left c.next.new.self) c.in-Ok-Some.module c.in-Ok-Some.ensures.yields in
+    let next = next_listed (g.T.ModuleText.text c.args.texts.now) c.args.pdb.now.file (modules_left c.loop-module.modules) (modules_left c.next.new.self) c.in-Ok-Some.module (rw c.in-Ok-Some.field-0-is at c.in-Ok-Some.ensures.yields) in
     record {
       continues = continues_then _ _ _ so_far.continues c.put_listed.ensures.continues;
       told = before_more _ _ _ _ _ _ _ so_far.told next wrote;

@@ -1,6 +1,6 @@
 use Rattle.std.proofs.Common.{◌∙◌, sym}
-use Rattle.pdb_list.proofs.Numbers.{number_read}
-use Rattle.pdb_list.proofs.command.number_in.Goals as goal
+use Rattle.pdb_text.proofs.NumberWords.{number_read}
+use Rattle.pdb_text.proofs.numbers.number_in.Goals as goal
 
 pub returns-then-is_short_numeral : goal.returns-then-is_short_numeral
 returns-then-is_short_numeral c = c.ok.ensures.value ∙ number_read c.args.word.now c.parse.result c.parse.ensures.value.0 (sym c.if-is_short_numeral.ensures)

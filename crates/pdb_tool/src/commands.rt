@@ -1,0 +1,217 @@
+//! The commands that go over a file's modules.
+
+ghost use Rattle.std.specs.Prelude.{◌≡◌, ◌⊎◌, [], flat_map, map, option_copied, None, Ok, Err, IfOk, IfErr, OnOk, OnErr, IsErrOf};
+ghost use Rattle.std.specs.Io.KnownBytes.{Appends};
+ghost use Rattle.pdb.specs.Container.{opens, stream_of};
+ghost use Rattle.pdb.specs.Error.{Error};
+ghost use Rattle.pdb.specs.Answers.{global_symbols_in, string_table_in};
+ghost use Rattle.pdb.specs.Source.{Continues};
+ghost use Rattle.pdb_resolve.specs.AsIfEmpty.{if_read};
+ghost use Rattle.pdb_resolve.specs.FileParts.{items_listed};
+ghost use Rattle.pdb_text.specs.Written.{WroteFront};
+ghost use Rattle.pdb_tool.specs.ErrorLine.{told};
+ghost use Rattle.pdb_tool.specs.LineTexts.{lines_text};
+ghost use Rattle.pdb_tool.specs.ScopeTexts.{scopes_text};
+ghost use Rattle.pdb_tool.specs.SymbolTexts.{global_symbols_text, symbols_text};
+ghost use Rattle.pdb_tool.specs.ModuleTexts.{lines_command, modules_text, place_text, scopes_command, symbols_command};
+ghost use Rattle.pdb_tool.specs.declared.stop.Stop.{Stop};
+
+use crate::line_texts::put_lines;
+use crate::module_texts::{ModuleText, write_all, write_places, write_refused};
+use crate::scope_texts::put_scopes;
+use crate::stop::{Stop, stop_of, stop_of_opening};
+use crate::symbol_texts::{put_global_symbols, put_symbols_of};
+use pdb::{
+    Error, IdInformation, ItemFinder, MemorySource, ModuleInfo, PDB, Source, StringTable,
+    TypeInformation,
+};
+use pdb_resolve::{ids_of, types_of};
+use pdb_text::write_out;
+use std::alloc::{AllocError, Global};
+use std::io::Write;
+
+/// The lines of modules, with the names of files from a string table.
+#[derive(Drop)]
+struct Lines<'a> {
+    strings: Option<&'a StringTable<'a>>,
+}
+
+impl<'a> ModuleText for Lines<'a> {
+    ghost use Rattle.std.specs.Prelude.{option_copied};
+    ghost use Rattle.pdb_tool.specs.LineTexts.{lines_text};
+
+    ghost text = { λ l. lines_text (option_copied l.strings) };
+
+    fn put(&self, alloc: Global, out: &mut Vec<u8>, info: &ModuleInfo<'_>) -> Result<(), AllocError> {
+        put_lines(alloc, out, self.strings, info)
+    }
+}
+
+/// The scopes of modules, with the names of inlined functions from ids and types.
+#[derive(Drop)]
+struct Scopes<'a> {
+    ids: ItemFinder<'a>,
+    types: ItemFinder<'a>,
+}
+
+impl<'a> ModuleText for Scopes<'a> {
+    ghost use Rattle.pdb_tool.specs.ScopeTexts.{scopes_text};
+
+    ghost text = { λ s. scopes_text s.ids s.types };
+
+    fn put(&self, alloc: Global, out: &mut Vec<u8>, info: &ModuleInfo<'_>) -> Result<(), AllocError> {
+        put_scopes(alloc, out, &self.ids, &self.types, info)
+    }
+}
+
+/// The symbols of modules.
+#[derive(Drop)]
+struct Symbols;
+
+impl ModuleText for Symbols {
+    ghost use Rattle.pdb_tool.specs.SymbolTexts.{symbols_text};
+
+    ghost text = { λ _. symbols_text };
+
+    fn put(&self, alloc: Global, out: &mut Vec<u8>, info: &ModuleInfo<'_>) -> Result<(), AllocError> {
+        put_symbols_of(alloc, out, info)
+    }
+}
+
+/// Writes the texts of the modules of these numbers; of all where there is no number.
+fn write_modules<'s, S: Source<'s>, T: ModuleText, W: Write>(
+    alloc: Global,
+    pdb: &mut PDB<'s, S>,
+    texts: &T,
+    places: &[u32],
+    out: &mut W,
+) -> Result<(), Stop>
+    ensures opened { (e : Error) → IsErrOf result (Stop.Open e) → ⊥ }
+    ensures ok { OnOk result (Appends (W.contents out.old) (W.contents out.new) (modules_text (T.text texts.now) pdb.old.file places.now)) }
+    ensures front { OnErr result (WroteFront (W.contents out.old) (W.contents out.new) (modules_text (T.text texts.now) pdb.old.file places.now)) }
+{
+    if places.is_empty() {
+        write_all(alloc, pdb, texts, out)
+    } else {
+        write_places(alloc, pdb, texts, places, out)
+    }
+}
+
+/// A file's bytes, opened.
+fn opened(alloc: Global, bytes: &[u8]) -> Result<PDB<'_, MemorySource<'_>>, Stop>
+    ensures file { IfOk result (λ p. p.file ≡ bytes.now) }
+    ensures opened { OnOk result (opens bytes.now ≡ Ok tt) }
+    ensures refused { (e : Error) → IsErrOf result (Stop.Open e) → opens bytes.now ≡ Err e }
+{
+    PDB::open(alloc, MemorySource::new(bytes)).map_err(stop_of_opening)
+}
+
+/// The string table; none where it is refused.
+fn strings_of<'s, S: Source<'s>>(pdb: &mut PDB<'s, S>) -> Result<Option<StringTable<'s>>, Stop>
+    ensures continues { Continues pdb.old pdb.new }
+    ensures is { IfOk result (λ o. o ≡ if_read (string_table_in pdb.old.file)) }
+    ensures unwritten { IfErr result (λ e. (e ≡ Stop.Memory) ⊎ (e ≡ Stop.Read)) }
+{
+    match pdb.string_table() {
+        Ok(strings) => Ok(Some(strings)),
+        Err(Error::OutOfMemory) => Err(Stop::Memory),
+        Err(Error::IoError) => Err(Stop::Read),
+        Err(_) => Ok(None),
+    }
+}
+
+/// The stream of ids; none where it is refused.
+fn ids_stream<'s, S: Source<'s>>(pdb: &mut PDB<'s, S>) -> Result<Option<IdInformation<'s>>, Stop>
+    ensures continues { Continues pdb.old pdb.new }
+    ensures is { IfOk result (λ o. o ≡ if_read (stream_of pdb.old.file 4 None)) }
+    ensures unwritten { IfErr result (λ e. (e ≡ Stop.Memory) ⊎ (e ≡ Stop.Read)) }
+{
+    match pdb.id_information() {
+        Ok(ids) => Ok(Some(ids)),
+        Err(Error::OutOfMemory) => Err(Stop::Memory),
+        Err(Error::IoError) => Err(Stop::Read),
+        Err(_) => Ok(None),
+    }
+}
+
+/// The stream of types; none where it is refused.
+fn types_stream<'s, S: Source<'s>>(pdb: &mut PDB<'s, S>) -> Result<Option<TypeInformation<'s>>, Stop>
+    ensures continues { Continues pdb.old pdb.new }
+    ensures is { IfOk result (λ o. o ≡ if_read (stream_of pdb.old.file 2 None)) }
+    ensures unwritten { IfErr result (λ e. (e ≡ Stop.Memory) ⊎ (e ≡ Stop.Read)) }
+{
+    match pdb.type_information() {
+        Ok(types) => Ok(Some(types)),
+        Err(Error::OutOfMemory) => Err(Stop::Memory),
+        Err(Error::IoError) => Err(Stop::Read),
+        Err(_) => Ok(None),
+    }
+}
+
+/// Writes the line records of modules of a file.
+pub fn write_lines<W: Write>(alloc: Global, bytes: &[u8], places: &[u32], out: &mut W) -> Result<(), Stop>
+    ensures opened { OnOk result (opens bytes.now ≡ Ok tt) }
+    ensures ok { OnOk result (Appends (W.contents out.old) (W.contents out.new) (lines_command bytes.now places.now)) }
+    ensures refused { (e : Error) → IsErrOf result (Stop.Open e) → opens bytes.now ≡ Err e }
+    ensures front { OnErr result (WroteFront (W.contents out.old) (W.contents out.new) (lines_command bytes.now places.now)) }
+{
+    let mut pdb = opened(alloc, bytes)?;
+    let strings = strings_of(&mut pdb)?;
+    let lines = Lines {
+        strings: strings.as_ref(),
+    };
+    write_modules(alloc, &mut pdb, &lines, places, out)
+}
+
+/// Writes the scopes of modules of a file.
+#[tactic(auto, unfolding(pdb_resolve::specs::FileParts::items_listed))]
+pub fn write_scopes<W: Write>(alloc: Global, bytes: &[u8], places: &[u32], out: &mut W) -> Result<(), Stop>
+    ensures opened { OnOk result (opens bytes.now ≡ Ok tt) }
+    ensures ok { OnOk result (Appends (W.contents out.old) (W.contents out.new) (scopes_command bytes.now places.now)) }
+    ensures refused { (e : Error) → IsErrOf result (Stop.Open e) → opens bytes.now ≡ Err e }
+    ensures front { OnErr result (WroteFront (W.contents out.old) (W.contents out.new) (scopes_command bytes.now places.now)) }
+{
+    let mut pdb = opened(alloc, bytes)?;
+    let ids = ids_stream(&mut pdb)?;
+    let types = types_stream(&mut pdb)?;
+    let scopes = Scopes {
+        ids: ids_of(alloc, ids.as_ref()).map_err(stop_of)?,
+        types: types_of(alloc, types.as_ref()).map_err(stop_of)?,
+    };
+    write_modules(alloc, &mut pdb, &scopes, places, out)
+}
+
+/// Writes the global symbols of an opened file.
+fn write_globals<'s, S: Source<'s>, W: Write>(
+    alloc: Global,
+    pdb: &mut PDB<'s, S>,
+    out: &mut W,
+) -> Result<(), Stop>
+    ensures opened { (e : Error) → IsErrOf result (Stop.Open e) → ⊥ }
+    ensures ok { OnOk result (Appends (W.contents out.old) (W.contents out.new) (told (global_symbols_in pdb.old.file) global_symbols_text)) }
+    ensures front { OnErr result (WroteFront (W.contents out.old) (W.contents out.new) (told (global_symbols_in pdb.old.file) global_symbols_text)) }
+{
+    let symbols = match pdb.global_symbols() {
+        Ok(symbols) => symbols,
+        Err(e) => return write_refused(alloc, e, out),
+    };
+    let mut text = Vec::new(alloc);
+    put_global_symbols(alloc, &mut text, &symbols)?;
+    write_out(out, &text)?;
+    Ok(())
+}
+
+/// Writes the symbols of modules of a file; the global symbols where there is no number.
+pub fn write_symbols<W: Write>(alloc: Global, bytes: &[u8], places: &[u32], out: &mut W) -> Result<(), Stop>
+    ensures opened { OnOk result (opens bytes.now ≡ Ok tt) }
+    ensures ok { OnOk result (Appends (W.contents out.old) (W.contents out.new) (symbols_command bytes.now places.now)) }
+    ensures refused { (e : Error) → IsErrOf result (Stop.Open e) → opens bytes.now ≡ Err e }
+    ensures front { OnErr result (WroteFront (W.contents out.old) (W.contents out.new) (symbols_command bytes.now places.now)) }
+{
+    let mut pdb = opened(alloc, bytes)?;
+    if places.is_empty() {
+        write_globals(alloc, &mut pdb, out)
+    } else {
+        write_places(alloc, &mut pdb, &Symbols, places, out)
+    }
+}
