@@ -6,14 +6,16 @@ PREFIX ?= /usr/local
 run:
 	@tests/run
 
-# Proves the crates on which the program stands, and builds it. The gate proves pdb_resolve too.
+# Proves every crate, and builds both programs.
 prove:
 	cd crates/pdb_list && rt run > /dev/null
+	cd crates/pdb_tool && rt run -- help > /dev/null
 
-# The gate, and then the proved program over real files, refused memory, and wrong bodies.
+# The gate, and then the proved programs over real files, refused memory, and wrong bodies.
 test:
 	@tests/all
 
 install: prove
-	install -d $(DESTDIR)$(PREFIX)/bin
-	install -m 755 crates/pdb_list/out/pdb_list $(DESTDIR)$(PREFIX)/bin/pdb_list
+	install -d $(DESTDIR)$(PREFIX)/bin $(DESTDIR)$(PREFIX)/share/man/man1
+	install -m 755 crates/pdb_list/out/pdb_list crates/pdb_tool/out/pdb_tool $(DESTDIR)$(PREFIX)/bin
+	install -m 644 docs/man/pdb_list.1 docs/man/pdb_tool.1 $(DESTDIR)$(PREFIX)/share/man/man1
