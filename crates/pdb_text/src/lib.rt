@@ -8,10 +8,10 @@ mod numbers;
 mod output;
 mod words;
 
-pub use numbers::number_in;
-pub use output::{WriteFailed, write_out};
 pub use digits::{
     decimal2, hex4, hex8, hex8_field, put_decimal, put_field, put_hex_bytes, put_hex2, put_hex4,
     put_hex8, put_line_end,
 };
+pub use numbers::number_in;
+pub use output::{WriteFailed, write_out};
 pub use words::words_of;

@@ -1,8 +1,7 @@
 //! The words with which a program was called.
 
-use std::env;
-use std::io;
 use std::rt::Env;
+use std::{env, io};
 
 /// The program's words, without its own name. `InvalidData` where one isn't UTF-8, `OutOfMemory` where there is no
 /// memory for them.

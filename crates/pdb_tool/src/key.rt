@@ -92,7 +92,11 @@ fn key_held<F: Meant>(alloc: Global, held: &Held, missed: &mut Missed, file: &F)
 }
 
 /// The key of a file of this size, of which no more is read than that asks for.
-pub fn key_in_parts<R: ReadAt>(alloc: Global, input: &R, size: u64) -> std::result::Result<Vec<u8>, Stop>
+pub fn key_in_parts<R: ReadAt>(
+    alloc: Global,
+    input: &R,
+    size: u64,
+) -> std::result::Result<Vec<u8>, Stop>
     ensures key { ForSome (R.known input.now) (λ G. length G ≡ size → IfOk result (λ v. key_of_file G ≡ Ok v.items)) }
     ensures open { ForSome (R.known input.now) (λ G. length G ≡ size → (e : Error) → IsErrOf result (Stop.Open e) → key_of_file G ≡ Err e) }
 {

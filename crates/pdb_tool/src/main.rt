@@ -1,6 +1,8 @@
 //! Answers of symbol files for people: `pdb_tool COMMAND [OPTION..] FILE [WORD..]`.
 #![tactic(auto)]
 
+ghost use Rattle.std.specs.Prelude.{◌+◌, ◌<◌, ◌^◌, length};
+
 mod asked;
 mod commands;
 mod depth;
@@ -64,7 +66,9 @@ fn unread_words(e: &io::Error) -> Fault {
 }
 
 /// The words from a place on.
-fn words_from(words: &[String], place: usize) -> &[String] {
+fn words_from(words: &[String], place: usize) -> &[String]
+    ensures { place + length result.now < 2 ^ 64 }
+{
     words.get(place..).unwrap_or(&[])
 }
 

@@ -190,11 +190,7 @@ pub fn all_asked(
 
 /// What numbers the words are, of which the first stands at `place` among the program's words.
 #[tactic(auto, using(crate::proofs::AllWords::all_there, crate::proofs::AllWords::begins, crate::proofs::AllWords::none_there, crate::proofs::AllWords::one_more))]
-pub fn all_numbers(
-    alloc: Global,
-    words: &[String],
-    place: usize,
-) -> Result<Vec<u32>, WordsError>
+pub fn all_numbers(alloc: Global, words: &[String], place: usize) -> Result<Vec<u32>, WordsError>
     requires { place + length words.now < 2 ^ 64 }
     ensures { Tells (λ v. v.items) result (all_in number_in (map string_bytes words.now) place) }
 {
