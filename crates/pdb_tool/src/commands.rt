@@ -7,7 +7,7 @@ ghost use Rattle.pdb.specs.Error.{Error};
 ghost use Rattle.pdb.specs.Answers.{global_symbols_in, string_table_in};
 ghost use Rattle.pdb.specs.Source.{Continues};
 ghost use Rattle.pdb_resolve.specs.AsIfEmpty.{if_read};
-ghost use Rattle.pdb_resolve.specs.FileParts.{items_listed};
+ghost use Rattle.pdb_resolve.specs.FileParts.{items_listed, items_where};
 ghost use Rattle.pdb_text.specs.Written.{WroteFront};
 ghost use Rattle.pdb_tool.specs.ErrorLine.{told};
 ghost use Rattle.pdb_tool.specs.LineTexts.{lines_text};
@@ -166,6 +166,7 @@ fn types_stream<'s, S: Source<'s>>(
 }
 
 /// Writes the line records of modules of a file.
+#[tactic(auto, using(pdb_text::proofs::Written::any_err, crate::proofs::AnsweredLines::front_none))]
 pub fn write_lines<W: Write>(
     alloc: Global,
     bytes: &[u8],
@@ -175,6 +176,7 @@ pub fn write_lines<W: Write>(
     ensures opened { OnOk result (opens bytes.now ≡ Ok tt) }
     ensures ok { OnOk result (Appends (W.contents out.old) (W.contents out.new) (lines_command bytes.now places.now)) }
     ensures refused { (e : Error) → IsErrOf result (Stop.Open e) → opens bytes.now ≡ Err e }
+    ensures front { OnErr result (WroteFront (W.contents out.old) (W.contents out.new) (lines_command bytes.now places.now)) }
 {
     let mut pdb = opened(alloc, bytes)?;
     let strings = strings_of(&mut pdb)?;
@@ -184,8 +186,24 @@ pub fn write_lines<W: Write>(
     write_modules(alloc, &mut pdb, &lines, places, out)
 }
 
+/// The texts of scopes by these streams of ids and types.
+fn scopes_by<'a>(
+    alloc: Global,
+    ids: Option<&'a IdInformation<'a>>,
+    types: Option<&'a TypeInformation<'a>>,
+) -> Result<Scopes<'a>, Stop>
+    ensures ids { IfOk result (λ s. s.ids ≡ items_where (option_copied ids.entry)) }
+    ensures types { IfOk result (λ s. s.types ≡ items_where (option_copied types.entry)) }
+    ensures unwritten { IfErr result (λ e. (e ≡ Stop.Memory) ⊎ (e ≡ Stop.Read)) }
+{
+    Ok(Scopes {
+        ids: ids_of(alloc, ids).map_err(stop_of)?,
+        types: types_of(alloc, types).map_err(stop_of)?,
+    })
+}
+
 /// Writes the scopes of modules of a file.
-#[tactic(auto, unfolding(pdb_resolve::specs::FileParts::items_listed))]
+#[tactic(auto, unfolding(pdb_resolve::specs::FileParts::items_listed), using(pdb_text::proofs::Written::any_err, crate::proofs::AnsweredLines::front_none))]
 pub fn write_scopes<W: Write>(
     alloc: Global,
     bytes: &[u8],
@@ -195,14 +213,12 @@ pub fn write_scopes<W: Write>(
     ensures opened { OnOk result (opens bytes.now ≡ Ok tt) }
     ensures ok { OnOk result (Appends (W.contents out.old) (W.contents out.new) (scopes_command bytes.now places.now)) }
     ensures refused { (e : Error) → IsErrOf result (Stop.Open e) → opens bytes.now ≡ Err e }
+    ensures front { OnErr result (WroteFront (W.contents out.old) (W.contents out.new) (scopes_command bytes.now places.now)) }
 {
     let mut pdb = opened(alloc, bytes)?;
     let ids = ids_stream(&mut pdb)?;
     let types = types_stream(&mut pdb)?;
-    let scopes = Scopes {
-        ids: ids_of(alloc, ids.as_ref()).map_err(stop_of)?,
-        types: types_of(alloc, types.as_ref()).map_err(stop_of)?,
-    };
+    let scopes = scopes_by(alloc, ids.as_ref(), types.as_ref())?;
     write_modules(alloc, &mut pdb, &scopes, places, out)
 }
 
@@ -226,7 +242,26 @@ fn write_globals<'s, S: Source<'s>, W: Write>(
     Ok(())
 }
 
+/// Writes the symbols of the modules of these numbers; the global symbols where there is no number.
+fn write_numbered<'s, S: Source<'s>, W: Write>(
+    alloc: Global,
+    pdb: &mut PDB<'s, S>,
+    places: &[u32],
+    out: &mut W,
+) -> Result<(), Stop>
+    ensures opened { (e : Error) → IsErrOf result (Stop.Open e) → ⊥ }
+    ensures ok { OnOk result (Appends (W.contents out.old) (W.contents out.new) (symbols_command pdb.old.file places.now)) }
+    ensures front { OnErr result (WroteFront (W.contents out.old) (W.contents out.new) (symbols_command pdb.old.file places.now)) }
+{
+    if places.is_empty() {
+        write_globals(alloc, pdb, out)
+    } else {
+        write_places(alloc, pdb, &Symbols, places, out)
+    }
+}
+
 /// Writes the symbols of modules of a file; the global symbols where there is no number.
+#[tactic(auto, using(pdb_text::proofs::Written::any_err, crate::proofs::AnsweredLines::front_none))]
 pub fn write_symbols<W: Write>(
     alloc: Global,
     bytes: &[u8],
@@ -236,11 +271,8 @@ pub fn write_symbols<W: Write>(
     ensures opened { OnOk result (opens bytes.now ≡ Ok tt) }
     ensures ok { OnOk result (Appends (W.contents out.old) (W.contents out.new) (symbols_command bytes.now places.now)) }
     ensures refused { (e : Error) → IsErrOf result (Stop.Open e) → opens bytes.now ≡ Err e }
+    ensures front { OnErr result (WroteFront (W.contents out.old) (W.contents out.new) (symbols_command bytes.now places.now)) }
 {
     let mut pdb = opened(alloc, bytes)?;
-    if places.is_empty() {
-        write_globals(alloc, &mut pdb, out)
-    } else {
-        write_places(alloc, &mut pdb, &Symbols, places, out)
-    }
+    write_numbered(alloc, &mut pdb, places, out)
 }
