@@ -134,6 +134,3 @@ pub use pdb_symbols::TrampolineSymbol;
 pub use pdb_symbols::TrampolineType;
 pub use pdb_symbols::UserDefinedTypeSymbol;
 pub use pdb_symbols::UsingNamespaceSymbol;
-
-#[cfg(test)]
-mod tests;

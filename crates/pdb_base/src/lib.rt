@@ -36,6 +36,3 @@ pub use stream::Stream;
 pub use string_table::StringTable;
 pub use text::RawString;
 pub use variant::Variant;
-
-#[cfg(test)]
-mod tests;

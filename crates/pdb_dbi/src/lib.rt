@@ -20,6 +20,3 @@ pub use information::PDBInformation;
 pub use machine::MachineType;
 pub use modules::{Module, ModuleIter};
 pub use names::{NameIter, StreamName, StreamNames};
-
-#[cfg(test)]
-mod tests;

@@ -3,8 +3,6 @@
 #![tactic(auto)]
 
 mod asking;
-#[cfg(test)]
-mod fakes;
 mod held;
 mod missed;
 mod reading;
@@ -19,6 +17,3 @@ pub use reading::{FetchError, Fetched, ReadAt, fetch};
 pub use run::Run;
 pub use source::{AnyFile, HeldSource, KnownFile, Meant};
 pub use whole::{MOST_BYTES, read_all, size_of};
-
-#[cfg(test)]
-mod tests;

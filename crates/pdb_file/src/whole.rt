@@ -57,7 +57,11 @@ fn read_more<R: Read>(bytes: &mut Vec<u8>, input: &mut R) -> Result<usize, Fetch
 }
 
 /// All bytes that a reader has left, if these are at most `most`.
-fn read_up_to<R: Read>(alloc: Global, most: usize, input: &mut R) -> Result<Vec<u8>, FetchError>
+pub(crate) fn read_up_to<R: Read>(
+    alloc: Global,
+    most: usize,
+    input: &mut R,
+) -> Result<Vec<u8>, FetchError>
     ensures all { IfOk result (λ v. Consumes (R.remaining input.old) (R.remaining input.new) v.items × IsAtEnd (R.remaining input.new)) }
     ensures most { IfOk result (λ v. vec_len v ≤ most) }
     ensures refused { IfErr result (λ e. (e ≡ FetchError.Read) ⊎ (e ≡ FetchError.Memory)) }
@@ -91,64 +95,4 @@ pub fn read_all<R: Read>(alloc: Global, input: &mut R) -> Result<Vec<u8>, FetchE
     ensures refused { IfErr result (λ e. (e ≡ FetchError.Read) ⊎ (e ≡ FetchError.Memory)) }
 {
     read_up_to(alloc, MOST_BYTES, input)
-}
-
-#[cfg(test)]
-mod tests {
-    use super::*;
-    use crate::fakes::{FailsOnce, Plenty, ThreeBytes, is};
-
-    #[test]
-    fn reads_to_the_end(rt: HostRuntime) {
-        let alloc = rt.alloc();
-        let read = read_all(alloc, &mut ThreeBytes::ending(1)).expect(&rt, "one read");
-        is(&rt, "read.as_slice()", &read.as_slice(), &b"abc".as_slice());
-        let read = read_all(alloc, &mut ThreeBytes::ending(20)).expect(&rt, "many reads");
-        is(&rt, "read.len()", &read.len(), &60);
-        is(&rt, "read.last()", &read.last(), &Some(&b'c'));
-        let read = read_all(alloc, &mut Plenty::of(210000)).expect(&rt, "full reads");
-        is(&rt, "read.len()", &read.len(), &210000);
-        is(&rt, "read.last()", &read.last(), &Some(&b'p'));
-        let read = read_all(alloc, &mut ThreeBytes::ending(0)).expect(&rt, "no byte");
-        assert!(rt; read.is_empty());
-        is(
-            &rt,
-            "read_all(alloc, &mut ThreeBytes::failing(1))",
-            &read_all(alloc, &mut ThreeBytes::failing(1)).err(),
-            &Some(FetchError::Read),
-        );
-    }
-
-    #[test]
-    fn reads_no_more_than_allowed(rt: HostRuntime) {
-        let alloc = rt.alloc();
-        let read = read_up_to(alloc, 6, &mut ThreeBytes::ending(2)).expect(&rt, "six bytes");
-        is(
-            &rt,
-            "read.as_slice()",
-            &read.as_slice(),
-            &b"abcabc".as_slice(),
-        );
-        let refused = read_up_to(alloc, 5, &mut ThreeBytes::ending(2)).err();
-        is(&rt, "refused", &refused, &Some(FetchError::Read));
-        let refused = read_up_to(alloc, 5, &mut ThreeBytes::ending(2_000_000_000)).err();
-        is(&rt, "refused", &refused, &Some(FetchError::Read));
-    }
-
-    #[test]
-    fn no_failed_read_is_tried_again(rt: HostRuntime) {
-        for call in 0..3u32 {
-            let mut input = FailsOnce::at(call);
-            let refused = read_all(rt.alloc(), &mut input).err();
-            is(&rt, "refused", &refused, &Some(FetchError::Read));
-        }
-    }
-
-    #[test]
-    fn reads_files_of_some_megabytes(rt: HostRuntime) {
-        is(&rt, "most", &MOST_BYTES, &1_099_511_627_776);
-        let mut input = Plenty::of(3_000_001);
-        let read = read_all(rt.alloc(), &mut input).expect(&rt, "all bytes");
-        is(&rt, "read.len()", &read.len(), &3_000_001);
-    }
 }

@@ -2,7 +2,6 @@ pub mod Refused
 pub mod Wrote
 pub mod Spelling
 pub mod Stopped
-pub mod SampleFacts
 pub mod LinePieces
 pub mod Listed
 pub mod ModuleLists

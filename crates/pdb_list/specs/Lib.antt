@@ -6,6 +6,3 @@ pub mod Chosen
 pub mod ModuleTexts
 pub mod Shown
 pub mod CommandTexts
-pub mod Sample
-pub mod Plan
-pub mod Failing

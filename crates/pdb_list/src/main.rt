@@ -7,9 +7,6 @@ mod command;
 mod contributions;
 mod cross_module;
 mod engine;
-mod failing;
-#[cfg(test)]
-mod fakes;
 mod files;
 mod in_parts;
 mod info;
@@ -19,13 +16,9 @@ mod lines;
 mod modules;
 mod names;
 mod report;
-mod sample;
 mod sections;
-mod streams;
 mod streams_asked;
 mod symbols;
-#[cfg(test)]
-mod tests;
 mod text;
 
 use command::{Command, asks_for_sample, parse_commands};
@@ -67,7 +60,7 @@ fn words_fault(e: &io::Error) -> Fault {
 
 /// Lists the sample.
 fn list_sample<W: io::Write>(alloc: Global, out: &mut W) -> Result<(), Fault> {
-    let bytes = sample::file(alloc).map_err(|_| Fault::Memory)?;
+    let bytes = pdb_sample::file(alloc).map_err(|_| Fault::Memory)?;
     run(alloc, MemorySource::new(&bytes), &SAMPLE_COMMANDS, out)?;
     Ok(())
 }

@@ -38,6 +38,3 @@ pub use line_program::LineProgram;
 pub use line_records::LineRecords;
 pub use lines::LineIterator;
 pub use module_info::ModuleInfo;
-
-#[cfg(test)]
-mod tests;

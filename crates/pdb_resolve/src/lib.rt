@@ -42,6 +42,3 @@ pub use ranges::Ranges;
 pub use resolver::Resolver;
 pub use streams::Streams;
 pub use text::{put_frame, put_frames};
-
-#[cfg(test)]
-mod tests;

@@ -21,8 +21,6 @@ mod scopes;
 mod spelling;
 mod symbol;
 mod table;
-#[cfg(test)]
-mod tests;
 mod thunks;
 mod variables;
 

@@ -2,8 +2,6 @@
 #![tactic(auto)]
 
 mod digits;
-#[cfg(test)]
-mod fakes;
 mod numbers;
 mod output;
 mod words;

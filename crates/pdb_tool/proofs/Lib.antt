@@ -8,3 +8,4 @@ pub mod Results
 pub mod Refused
 pub mod Registers
 pub mod WrittenSoFar
+pub mod FirstTexts

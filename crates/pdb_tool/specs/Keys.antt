@@ -16,16 +16,22 @@ abbrev pub age_told : Result (Option ℕ) Error → ℕ → ℕ
 age_told (Ok (Some age)) other = age
 age_told told other = other
 
+-- piece: age_of_file
 abbrev pub age_of_file : List ℕ → ℕ → ℕ
 age_of_file file other = age_told (debug_information_in file >>= age_in) other
+
+-- end
 
 -- a GUID in 32 digits, and an age
 abbrev pub key_text : List ℕ → ℕ → List ℕ
 key_text guid age = flat_map byte_text guid ++ digits 16 true age
 
+-- piece: key_in
 -- of an opened file
 unfoldable pub key_in : List ℕ → Result (List ℕ) Error
 key_in file = information_in file >>= λ i. Ok (key_text i.guid (age_of_file file i.age))
+
+-- end
 
 -- of a file; the refusal of its front, or of its information stream
 unfoldable pub key_of_file : List ℕ → Result (List ℕ) Error

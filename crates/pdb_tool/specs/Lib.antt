@@ -13,3 +13,6 @@ pub mod ValueTexts
 pub mod FieldTexts
 pub mod SymbolTexts
 pub mod ModuleTexts
+pub mod Checks
+pub mod CheckTexts
+pub mod FileTexts

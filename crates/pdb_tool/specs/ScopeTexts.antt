@@ -43,10 +43,13 @@ scope_line ids types depth (Ok (RegisterVariable type_index register name)) = bl
 scope_line ids types depth (Ok (RegisterRelative offset type_index register name)) = blanks depth ++ named_text (codes "relative") name
 scope_line ids types depth r = []
 
+-- piece: scope_lines
 -- the lines of symbols behind records that leave this depth
 abbrev pub scope_lines : List ItemEntry → List ItemEntry → ℕ → List Entry → List ℕ
 scope_lines ids types depth [] = []
 scope_lines ids types depth (s ∷ ss) = scope_line ids types (depth_at depth (kind_at s.bytes)) (record_at s.bytes) ++ scope_lines ids types (depth_behind depth (kind_at s.bytes)) ss
+
+-- end
 
 -- the lines of the symbols that are left, and then that of the fault
 abbrev pub scopes_left : List ItemEntry → List ItemEntry → ℕ → Left Entry → List ℕ

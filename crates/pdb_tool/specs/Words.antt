@@ -4,7 +4,7 @@ use Rattle.std.specs.Str.{bytes_eq}
 use Rattle.pdb_tool.specs.Asked.{hex_in, without_prefix}
 use Rattle.pdb_tool.specs.declared.asked.Asked.{Asked}
 use Rattle.pdb_tool.specs.declared.words.Topic.{Topic}
-use Rattle.pdb_tool.specs.declared.words.Topic.TheVariants.{Resolve, Lines, Scopes, Symbols, Key}
+use Rattle.pdb_tool.specs.declared.words.Topic.TheVariants.{Resolve, Lines, Scopes, Symbols, Key, Check}
 use Rattle.pdb_tool.specs.declared.words.Request.{Request}
 use Rattle.pdb_tool.specs.declared.words.Request.TheVariants.{Help, Version, Run}
 use Rattle.pdb_tool.specs.declared.words.WordsError.{WordsError}
@@ -18,6 +18,7 @@ topic_in word =
     else if bytes_eq word (codes "scopes") then Some Scopes
     else if bytes_eq word (codes "symbols") then Some Symbols
     else if bytes_eq word (codes "key") then Some Key
+    else if bytes_eq word (codes "check") then Some Check
     else None
 
 abbrev pub is_help : List ℕ → Bool

@@ -1,6 +1,6 @@
 //! The commands that go over a file's modules.
 
-ghost use Rattle.std.specs.Prelude.{◌≡◌, ◌⊎◌, [], flat_map, map, option_copied, None, Ok, Err, IfOk, IfErr, OnOk, OnErr, IsErrOf};
+ghost use Rattle.std.specs.Prelude.{◌≡◌, ◌⊎◌, [], true, flat_map, map, option_copied, None, Ok, Err, IfOk, IfErr, OnOk, OnErr, IsErrOf};
 ghost use Rattle.std.specs.Io.KnownBytes.{Appends};
 ghost use Rattle.pdb.specs.Container.{opens, stream_of};
 ghost use Rattle.pdb.specs.Error.{Error};
@@ -18,12 +18,12 @@ ghost use Rattle.pdb_tool.specs.declared.stop.Stop.{Stop};
 
 use crate::line_texts::put_lines;
 use crate::module_texts::{ModuleText, write_all, write_places, write_refused};
+use crate::opening::opened;
 use crate::scope_texts::put_scopes;
-use crate::stop::{Stop, stop_of, stop_of_opening};
+use crate::stop::{Stop, stop_of};
 use crate::symbol_texts::{put_global_symbols, put_symbols_of};
 use pdb::{
-    Error, IdInformation, ItemFinder, MemorySource, ModuleInfo, PDB, Source, StringTable,
-    TypeInformation,
+    Error, IdInformation, ItemFinder, ModuleInfo, PDB, Source, StringTable, TypeInformation,
 };
 use pdb_resolve::{ids_of, types_of};
 use pdb_text::write_out;
@@ -112,15 +112,7 @@ fn write_modules<'s, S: Source<'s>, T: ModuleText, W: Write>(
     }
 }
 
-/// A file's bytes, opened.
-fn opened(alloc: Global, bytes: &[u8]) -> Result<PDB<'_, MemorySource<'_>>, Stop>
-    ensures file { IfOk result (λ p. p.file ≡ bytes.now) }
-    ensures opened { OnOk result (opens bytes.now ≡ Ok tt) }
-    ensures refused { (e : Error) → IsErrOf result (Stop.Open e) → opens bytes.now ≡ Err e }
-{
-    PDB::open(alloc, MemorySource::new(bytes)).map_err(stop_of_opening)
-}
-
+// piece: strings_of
 /// The string table; none where it is refused.
 fn strings_of<'s, S: Source<'s>>(pdb: &mut PDB<'s, S>) -> Result<Option<StringTable<'s>>, Stop>
     ensures continues { Continues pdb.old pdb.new }
@@ -134,6 +126,7 @@ fn strings_of<'s, S: Source<'s>>(pdb: &mut PDB<'s, S>) -> Result<Option<StringTa
         Err(_) => Ok(None),
     }
 }
+// end
 
 /// The stream of ids; none where it is refused.
 fn ids_stream<'s, S: Source<'s>>(pdb: &mut PDB<'s, S>) -> Result<Option<IdInformation<'s>>, Stop>
@@ -165,20 +158,20 @@ fn types_stream<'s, S: Source<'s>>(
     }
 }
 
-/// Writes the line records of modules of a file.
+/// Writes the line records of modules of a source's file.
 #[tactic(auto, using(pdb_text::proofs::Written::any_err, crate::proofs::AnsweredLines::front_none))]
-pub fn write_lines<W: Write>(
+pub fn write_lines<'s, S: Source<'s>, W: Write>(
     alloc: Global,
-    bytes: &[u8],
+    source: S,
     places: &[u32],
     out: &mut W,
 ) -> Result<(), Stop>
-    ensures opened { OnOk result (opens bytes.now ≡ Ok tt) }
-    ensures ok { OnOk result (Appends (W.contents out.old) (W.contents out.new) (lines_command bytes.now places.now)) }
-    ensures refused { (e : Error) → IsErrOf result (Stop.Open e) → opens bytes.now ≡ Err e }
-    ensures front { OnErr result (WroteFront (W.contents out.old) (W.contents out.new) (lines_command bytes.now places.now)) }
+    ensures opened { OnOk result (opens (S.state source).file ≡ Ok tt) }
+    ensures ok { OnOk result (Appends (W.contents out.old) (W.contents out.new) (lines_command (S.state source).file places.now)) }
+    ensures refused { (S.state source).steady ≡ true → (e : Error) → IsErrOf result (Stop.Open e) → opens (S.state source).file ≡ Err e }
+    ensures front { OnErr result (WroteFront (W.contents out.old) (W.contents out.new) (lines_command (S.state source).file places.now)) }
 {
-    let mut pdb = opened(alloc, bytes)?;
+    let mut pdb = opened(alloc, source)?;
     let strings = strings_of(&mut pdb)?;
     let lines = Lines {
         strings: strings.as_ref(),
@@ -202,20 +195,20 @@ fn scopes_by<'a>(
     })
 }
 
-/// Writes the scopes of modules of a file.
+/// Writes the scopes of modules of a source's file.
 #[tactic(auto, unfolding(pdb_resolve::specs::FileParts::items_listed), using(pdb_text::proofs::Written::any_err, crate::proofs::AnsweredLines::front_none))]
-pub fn write_scopes<W: Write>(
+pub fn write_scopes<'s, S: Source<'s>, W: Write>(
     alloc: Global,
-    bytes: &[u8],
+    source: S,
     places: &[u32],
     out: &mut W,
 ) -> Result<(), Stop>
-    ensures opened { OnOk result (opens bytes.now ≡ Ok tt) }
-    ensures ok { OnOk result (Appends (W.contents out.old) (W.contents out.new) (scopes_command bytes.now places.now)) }
-    ensures refused { (e : Error) → IsErrOf result (Stop.Open e) → opens bytes.now ≡ Err e }
-    ensures front { OnErr result (WroteFront (W.contents out.old) (W.contents out.new) (scopes_command bytes.now places.now)) }
+    ensures opened { OnOk result (opens (S.state source).file ≡ Ok tt) }
+    ensures ok { OnOk result (Appends (W.contents out.old) (W.contents out.new) (scopes_command (S.state source).file places.now)) }
+    ensures refused { (S.state source).steady ≡ true → (e : Error) → IsErrOf result (Stop.Open e) → opens (S.state source).file ≡ Err e }
+    ensures front { OnErr result (WroteFront (W.contents out.old) (W.contents out.new) (scopes_command (S.state source).file places.now)) }
 {
-    let mut pdb = opened(alloc, bytes)?;
+    let mut pdb = opened(alloc, source)?;
     let ids = ids_stream(&mut pdb)?;
     let types = types_stream(&mut pdb)?;
     let scopes = scopes_by(alloc, ids.as_ref(), types.as_ref())?;
@@ -260,19 +253,19 @@ fn write_numbered<'s, S: Source<'s>, W: Write>(
     }
 }
 
-/// Writes the symbols of modules of a file; the global symbols where there is no number.
+/// Writes the symbols of modules of a source's file; the global symbols where there is no number.
 #[tactic(auto, using(pdb_text::proofs::Written::any_err, crate::proofs::AnsweredLines::front_none))]
-pub fn write_symbols<W: Write>(
+pub fn write_symbols<'s, S: Source<'s>, W: Write>(
     alloc: Global,
-    bytes: &[u8],
+    source: S,
     places: &[u32],
     out: &mut W,
 ) -> Result<(), Stop>
-    ensures opened { OnOk result (opens bytes.now ≡ Ok tt) }
-    ensures ok { OnOk result (Appends (W.contents out.old) (W.contents out.new) (symbols_command bytes.now places.now)) }
-    ensures refused { (e : Error) → IsErrOf result (Stop.Open e) → opens bytes.now ≡ Err e }
-    ensures front { OnErr result (WroteFront (W.contents out.old) (W.contents out.new) (symbols_command bytes.now places.now)) }
+    ensures opened { OnOk result (opens (S.state source).file ≡ Ok tt) }
+    ensures ok { OnOk result (Appends (W.contents out.old) (W.contents out.new) (symbols_command (S.state source).file places.now)) }
+    ensures refused { (S.state source).steady ≡ true → (e : Error) → IsErrOf result (Stop.Open e) → opens (S.state source).file ≡ Err e }
+    ensures front { OnErr result (WroteFront (W.contents out.old) (W.contents out.new) (symbols_command (S.state source).file places.now)) }
 {
-    let mut pdb = opened(alloc, bytes)?;
+    let mut pdb = opened(alloc, source)?;
     write_numbered(alloc, &mut pdb, places, out)
 }

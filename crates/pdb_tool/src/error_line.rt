@@ -93,7 +93,7 @@ fn put_later_message(out: &mut Vec<u8>, e: Error) -> Result<(), AllocError>
 }
 
 /// What the refusal's Display writes.
-fn put_message(out: &mut Vec<u8>, e: Error) -> Result<(), AllocError>
+pub fn put_message(out: &mut Vec<u8>, e: Error) -> Result<(), AllocError>
     ensures { OnOk result (out.new.items ≡ out.old.items ++ message_of e) }
 {
     match e {
@@ -140,72 +140,5 @@ pub fn put_refusal_line(out: &mut Vec<u8>, e: Error) -> Result<(), AllocError>
     match e {
         Error::OutOfMemory => Err(AllocError),
         e => put_error_line(out, e),
-    }
-}
-
-#[cfg(test)]
-mod tests {
-    use super::*;
-    use crate::fakes::is;
-    use pdb::{Feature, Part};
-    use std::test::Fail;
-
-    // Each refusal, with a number that has leading zeros in hex digits where it tells one.
-    const REFUSALS: [Error; 26] = [
-        Error::UnexpectedEof,
-        Error::UnimplementedFeature(Feature::SmallMsf),
-        Error::UnimplementedFeature(Feature::StringTable),
-        Error::UnimplementedFeature(Feature::AncientDbiHeader),
-        Error::UnimplementedFeature(Feature::SymbolDataFormat),
-        Error::UnimplementedFeature(Feature::C11LinePrograms),
-        Error::UnrecognizedFileFormat,
-        Error::InvalidPageSize(4095),
-        Error::PageReferenceOutOfRange(305),
-        Error::StreamNotFound(17),
-        Error::StreamNameNotFound,
-        Error::GlobalSymbolsNotFound,
-        Error::AddressMapNotFound,
-        Error::InvalidStreamLength(Part::DebugHeader),
-        Error::SymbolTooShort,
-        Error::UnimplementedSymbolKind(0x12),
-        Error::UnimplementedDebugSubsection(0xabc),
-        Error::UnimplementedFileChecksumKind(4),
-        Error::InvalidFileChecksumOffset(0),
-        Error::UnknownBinaryAnnotation(14),
-        Error::InvalidCompressedAnnotation,
-        Error::NotACrossModuleRef(0x1234),
-        Error::CrossModuleRefNotFound(0x8000_0068),
-        Error::UnexpectedNumericPrefix(0x8005),
-        Error::IoError,
-        Error::OutOfMemory,
-    ];
-
-    #[test]
-    fn the_text_is_what_the_display_writes(rt: HostRuntime) -> Result<(), Fail> {
-        for e in REFUSALS {
-            let mut out = Vec::new(rt.alloc());
-            put_error_line(&mut out, e)?;
-            let number = e.number();
-            let wanted = format!(in rt.alloc(); "error {number} {e}\n")?;
-            is(&rt, "out.as_slice()", &out.as_slice(), &wanted.as_bytes());
-        }
-        Ok(())
-    }
-
-    #[test]
-    fn lines_of_refusals(rt: HostRuntime) -> Result<(), Fail> {
-        let mut out = Vec::new(rt.alloc());
-        put_error_line(&mut out, Error::UnimplementedSymbolKind(0x12))?;
-        put_refusal_line(&mut out, Error::CrossModuleRefNotFound(0x1068))?;
-        is(
-            &rt,
-            "put_refusal_line(&mut out, Error::OutOfMemory)",
-            &put_refusal_line(&mut out, Error::OutOfMemory).is_err(),
-            &true,
-        );
-        let wanted: &[u8] = b"error 12 symbols of kind 0x0012 are not supported\n\
-            error 19 index 0x1068 is not among the imports of the module\n";
-        is(&rt, "out.as_slice()", &out.as_slice(), &wanted);
-        Ok(())
     }
 }

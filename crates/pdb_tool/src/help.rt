@@ -13,12 +13,14 @@ pdb_tool tells what symbol files (PDB) say of a program.
   pdb_tool scopes FILE [K..]                      functions, blocks, variables and inlined calls
   pdb_tool symbols FILE [K..]                     all symbols, field by field
   pdb_tool key FILE..                             the keys under which symbol servers have files
+  pdb_tool check FILE..                           what is wrong with files
 
   pdb_tool help COMMAND                           a command's words, its lines and an example
   pdb_tool --version                              the program's version
 
-Exit status: 0, all was told; 1, a file of several was not; 2, a bad word; 3, a file can't
-be read; 4, it is no symbol file; 5, out of memory; 6, standard output failed.
+Exit status: 0, all was told; 1, a file of several was not, or something is wrong with it;
+2, a bad word; 3, a file can't be read; 4, it is no symbol file; 5, out of memory; 6, standard
+output failed.
 ";
 
 const RESOLVE: &str = "\
@@ -94,6 +96,22 @@ the status is then 1.
   00112233445566778899AABBCCDDEEFF2 app.pdb
 ";
 
+const CHECK: &str = "\
+pdb_tool check FILE..
+
+Reads all of each FILE, and tells what is wrong with it: FILE, where, and what, one line for each
+list that is damaged or can't be read, for each symbol that can't be read, and for each inlined
+call whose annotations are damaged. A file in which nothing is wrong is ok. What a file doesn't
+have is not wrong, nor is a kind of symbol that isn't known. K counts modules from 0, and the
+numbers of symbols are those that symbols tells. A FILE that can't be read or opened is told on
+standard error. The status is 1 where anything was wrong.
+
+  $ pdb_tool check app.pdb damaged.pdb
+  app.pdb: ok
+  damaged.pdb: global symbols: the data ends before a record does
+  damaged.pdb: module 0 symbol 00000004: the data ends before a record does
+";
+
 const RESOLVE_USAGE: &str = "usage: pdb_tool resolve [--base=HEX] FILE [ADDRESS..]\n";
 
 const LINES_USAGE: &str = "usage: pdb_tool lines FILE [K..]\n";
@@ -103,6 +121,8 @@ const SCOPES_USAGE: &str = "usage: pdb_tool scopes FILE [K..]\n";
 const SYMBOLS_USAGE: &str = "usage: pdb_tool symbols FILE [K..]\n";
 
 const KEY_USAGE: &str = "usage: pdb_tool key FILE..\n";
+
+const CHECK_USAGE: &str = "usage: pdb_tool check FILE..\n";
 
 const USAGE: &str =
     "usage: pdb_tool COMMAND [OPTION..] FILE [WORD..], and pdb_tool help tells more\n";
@@ -116,6 +136,7 @@ pub fn help_of(topic: Option<Topic>) -> &'static str {
         Some(Topic::Scopes) => SCOPES,
         Some(Topic::Symbols) => SYMBOLS,
         Some(Topic::Key) => KEY,
+        Some(Topic::Check) => CHECK,
     }
 }
 
@@ -128,5 +149,6 @@ pub fn usage_of(topic: Option<Topic>) -> &'static str {
         Some(Topic::Scopes) => SCOPES_USAGE,
         Some(Topic::Symbols) => SYMBOLS_USAGE,
         Some(Topic::Key) => KEY_USAGE,
+        Some(Topic::Check) => CHECK_USAGE,
     }
 }

@@ -50,6 +50,7 @@ fn text(alloc: Global, guid: &[u8; 16], age: u32) -> std::result::Result<Vec<u8>
     Ok(out)
 }
 
+// piece: age
 /// The age that the DBI stream tells, or else `other`.
 fn age<'s, S: Source<'s>>(pdb: &mut PDB<'s, S>, other: u32) -> Result<u32>
     ensures continues { Continues pdb.old pdb.new }
@@ -62,7 +63,9 @@ fn age<'s, S: Source<'s>>(pdb: &mut PDB<'s, S>, other: u32) -> Result<u32>
         Err(_) => Ok(other),
     }
 }
+// end
 
+// piece: key_in
 /// The key of an opened file: its GUID and age, by which a symbol server files it.
 #[tactic(auto, unfolding(crate::specs::Keys::key_in))]
 fn key_in<'s, S: Source<'s>>(alloc: Global, pdb: &mut PDB<'s, S>) -> Result<Vec<u8>>
@@ -73,6 +76,7 @@ fn key_in<'s, S: Source<'s>>(alloc: Global, pdb: &mut PDB<'s, S>) -> Result<Vec<
     let age = age(pdb, information.age)?;
     Ok(text(alloc, &information.guid, age)?)
 }
+// end
 
 /// The key of a source's file.
 #[tactic(auto, unfolding(crate::specs::Keys::key_of_file))]

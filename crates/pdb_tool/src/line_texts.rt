@@ -18,6 +18,7 @@ use pdb::{
 use pdb_text::{put_decimal, put_line_end};
 use std::alloc::{AllocError, Global};
 
+// piece: file_name
 /// The name of the file of an index, where it is there.
 fn file_name<'n>(
     strings: Option<&'n StringTable<'_>>,
@@ -29,6 +30,7 @@ fn file_name<'n>(
     let file = program.get_file_info(index).ok()?;
     strings?.get(file.name).ok()
 }
+// end
 
 /// The name of the file of an index, or `??` where it isn't there.
 fn put_file(
@@ -73,6 +75,7 @@ fn put_record(
     put_line_end(out)
 }
 
+// piece: put_records
 /// The lines of the records that an iterator has left, and then that of its fault.
 fn put_records(
     out: &mut Vec<u8>,
@@ -90,7 +93,9 @@ fn put_records(
         }
     }
 }
+// end
 
+// piece: put_lines
 /// The text of `lines` of a module: its line records, or their refusal.
 #[tactic(auto, unfolding(crate::specs::LineTexts::lines_text))]
 pub fn put_lines(
@@ -106,3 +111,4 @@ pub fn put_lines(
         Err(e) => put_refusal_line(out, e),
     }
 }
+// end

@@ -4,40 +4,46 @@
 ghost use Rattle.std.specs.Prelude.{◌+◌, ◌<◌, ◌^◌, length};
 
 mod asked;
+mod check_file;
+mod check_module;
+mod checks;
 mod commands;
 mod depth;
 mod error_line;
-#[cfg(test)]
-mod fakes;
 mod fields;
 mod fields_code;
 mod fields_data;
 mod fields_references;
+mod file_texts;
+mod findings;
 mod flags;
 mod help;
+mod in_parts;
 mod key;
 mod kind_names;
 mod line_texts;
 mod module_texts;
+mod opening;
 mod report;
 mod resolve;
 mod scope_texts;
 mod stop;
 mod symbol_texts;
-#[cfg(test)]
-mod tests;
+mod text_asked;
 mod values;
 mod values_forms;
 mod words;
 
-use commands::{write_lines, write_scopes, write_symbols};
+use checks::write_check;
+use file_texts::{FileText, write_text};
 use help::{VERSION, help_of};
+use in_parts::write_in_parts;
 use key::{key_in_parts, key_of};
 use pdb::MemorySource;
 use pdb_file::{read_all, size_of};
 use pdb_text::{words_of, write_out};
 use report::{Fault, report, write_stop};
-use resolve::{resolve_lines, resolve_words};
+use resolve::resolve_lines;
 use std::alloc::Global;
 use std::fs::{self, File};
 use std::io::{self, ErrorKind, Input, Write};
@@ -46,7 +52,7 @@ use std::rt::{Env, Files};
 use stop::{Stop, stop_of_opening};
 use words::{Request, Topic, WordsError, all_asked, all_numbers, request_in};
 
-/// Whether all was told: else a file among several wasn't, and that was said.
+/// Whether all was told and nothing was wrong: else a file among several wasn't told, or isn't well, and that was said.
 type Told = Result<bool, Fault>;
 
 /// Why words ask for nothing.
@@ -72,15 +78,68 @@ fn words_from(words: &[String], place: usize) -> &[String]
     words.get(place..).unwrap_or(&[])
 }
 
-/// The bytes of the file that the word at a place names.
-fn read_named(
-    rt: &(impl Files<File = File> + AllocGlobal),
+/// How many addresses are looked for in a file of which parts are read: more of them ask for most of it.
+const MOST_IN_PARTS: usize = 64;
+
+/// The file that the word at a place names.
+fn file_named(rt: &impl Files<File = File>, words: &[String], place: usize) -> Result<File, Fault> {
+    let name = words.get(place).ok_or(Fault::BadWord(place))?;
+    fs::open(rt, name.as_str()).map_err(|_| Fault::Stopped(Stop::Read, place))
+}
+
+/// How many bytes a file has of which parts are read for a text; none where it is read whole.
+fn size_in_parts(file: &File, text: FileText<'_>) -> Option<u64> {
+    match text {
+        FileText::Code(asked) if asked.len() > MOST_IN_PARTS => None,
+        _ => size_of(file),
+    }
+}
+
+/// Writes the text of an open file.
+fn write_text_of<W: Write>(
+    alloc: Global,
+    file: File,
+    text: FileText<'_>,
+    out: &mut W,
+) -> Result<(), Stop> {
+    let mut file = file;
+    if let Some(size) = size_in_parts(&file, text) {
+        return write_in_parts(alloc, &file, size, text, out);
+    }
+    let bytes = read_all(alloc, &mut file)?;
+    write_text(alloc, MemorySource::new(&bytes), text, out)
+}
+
+/// Tells the text of the file that the word at a place names.
+fn tell_text(
+    rt: &(impl Files<File = File> + Print + AllocGlobal),
     words: &[String],
     place: usize,
-) -> Result<Vec<u8>, Fault> {
-    let name = words.get(place).ok_or(Fault::BadWord(place))?;
-    let mut file = fs::open(rt, name.as_str()).map_err(|_| Fault::Stopped(Stop::Read, place))?;
-    read_all(rt.alloc(), &mut file).map_err(|e| Fault::Stopped(Stop::from(e), place))
+    text: FileText<'_>,
+) -> Told {
+    let file = file_named(rt, words, place)?;
+    match write_text_of(rt.alloc(), file, text, &mut io::writer(rt)) {
+        Ok(()) => Ok(true),
+        Err(stop) => Err(Fault::Stopped(stop, place)),
+    }
+}
+
+/// Tells what code stands at the addresses that the lines of standard input are. The file is read whole: which of its
+/// modules the lines will ask for isn't known.
+fn tell_lines_read(
+    rt: &(impl Files<File = File> + Print + Input + AllocGlobal),
+    words: &[String],
+    base: u64,
+    place: usize,
+) -> Told {
+    let alloc = rt.alloc();
+    let mut file = file_named(rt, words, place)?;
+    let bytes = read_all(alloc, &mut file).map_err(|e| Fault::Stopped(Stop::from(e), place))?;
+    let source = MemorySource::new(&bytes);
+    match resolve_lines(alloc, source, base, &mut rt.reader(), &mut io::writer(rt)) {
+        Ok(()) => Ok(true),
+        Err(stop) => Err(Fault::Stopped(stop, place)),
+    }
 }
 
 /// Tells what code stands at addresses: those of the words behind the file's name, or else of the lines of standard
@@ -94,17 +153,10 @@ fn tell_code(
     let alloc = rt.alloc();
     let rest = words_from(words, place.saturating_add(1));
     let asked = all_asked(alloc, base, rest, place.saturating_add(1)).map_err(words_fault)?;
-    let bytes = read_named(rt, words, place)?;
-    let mut out = io::writer(rt);
-    let told = if asked.is_empty() {
-        resolve_lines(alloc, &bytes, base, &mut rt.reader(), &mut out)
-    } else {
-        resolve_words(alloc, &bytes, &asked, &mut out)
-    };
-    match told {
-        Ok(()) => Ok(true),
-        Err(stop) => Err(Fault::Stopped(stop, place)),
+    if asked.is_empty() {
+        return tell_lines_read(rt, words, base, place);
     }
+    tell_text(rt, words, place, FileText::Code(&asked))
 }
 
 /// Tells the texts of a file's modules: of those whose numbers stand behind the file's name, or else of all.
@@ -117,17 +169,12 @@ fn tell_modules(
     let alloc = rt.alloc();
     let rest = words_from(words, place.saturating_add(1));
     let places = all_numbers(alloc, rest, place.saturating_add(1)).map_err(words_fault)?;
-    let bytes = read_named(rt, words, place)?;
-    let mut out = io::writer(rt);
-    let told = match topic {
-        Topic::Lines => write_lines(alloc, &bytes, &places, &mut out),
-        Topic::Scopes => write_scopes(alloc, &bytes, &places, &mut out),
-        _ => write_symbols(alloc, &bytes, &places, &mut out),
+    let text = match topic {
+        Topic::Lines => FileText::Lines(&places),
+        Topic::Scopes => FileText::Scopes(&places),
+        _ => FileText::Symbols(&places),
     };
-    match told {
-        Ok(()) => Ok(true),
-        Err(stop) => Err(Fault::Stopped(stop, place)),
-    }
+    tell_text(rt, words, place, text)
 }
 
 /// The key of the file of a name.
@@ -167,6 +214,40 @@ fn tell_keys<E: Write>(
     Ok(all)
 }
 
+/// Checks the file of a name.
+fn check_named<W: Write>(
+    rt: &(impl Files<File = File> + AllocGlobal),
+    name: &str,
+    out: &mut W,
+) -> Result<bool, Stop> {
+    let mut file = fs::open(rt, name).map_err(|_| Stop::Read)?;
+    let bytes = read_all(rt.alloc(), &mut file)?;
+    write_check(rt.alloc(), &bytes, name.as_bytes(), out)
+}
+
+/// Tells what is wrong with files. One that can't be read or opened is told as such, and the next follows.
+fn tell_checks<E: Write>(
+    rt: &(impl Files<File = File> + Print + AllocGlobal),
+    words: &[String],
+    place: usize,
+    err: &mut E,
+) -> Told {
+    let mut out = io::writer(rt);
+    let mut all = true;
+    for name in words_from(words, place) {
+        match check_named(rt, name.as_str(), &mut out) {
+            Ok(well) => all = all && well,
+            Err(Stop::Memory) => return Err(Fault::Stopped(Stop::Memory, place)),
+            Err(Stop::Write) => return Err(Fault::Stopped(Stop::Write, place)),
+            Err(stop) => {
+                all = false;
+                let _ = write_stop(rt.alloc(), stop, name.as_str(), err);
+            }
+        }
+    }
+    Ok(all)
+}
+
 /// Does what the words ask for.
 fn run<E: Write>(
     rt: &(impl Files<File = File> + Print + Input + AllocGlobal),
@@ -184,6 +265,7 @@ fn run<E: Write>(
         }
         Request::Run(Topic::Resolve, base, place) => tell_code(rt, words, base, place),
         Request::Run(Topic::Key, _, place) => tell_keys(rt, words, place, err),
+        Request::Run(Topic::Check, _, place) => tell_checks(rt, words, place, err),
         Request::Run(topic, _, place) => tell_modules(rt, words, topic, place),
     }
 }

@@ -64,6 +64,7 @@ fn put_found<T: ModuleText>(
     }
 }
 
+// piece: put_place
 /// The text of the module of a number in the list.
 #[tactic(auto, unfolding(crate::specs::ModuleTexts::place_text))]
 fn put_place<'s, S: Source<'s>, T: ModuleText>(
@@ -80,6 +81,7 @@ fn put_place<'s, S: Source<'s>, T: ModuleText>(
     let found = pdb.module_at(k as usize);
     put_found(alloc, out, texts, b"none\n", found)
 }
+// end
 
 /// The text of a module of the list.
 #[tactic(auto, unfolding(crate::specs::ModuleTexts::listed_text))]

@@ -11,16 +11,18 @@ ghost use Rattle.pdb_tool.specs.Asked.{asked_place, asked_text, line_text, lines
 ghost use Rattle.pdb_tool.specs.declared.stop.Stop.{Stop};
 
 use crate::asked::{Asked, asked_in};
-use crate::stop::{Stop, stop_of, stop_of_opening};
-use pdb::{MemorySource, PDB, Source};
+use crate::opening::opened;
+use crate::stop::{Stop, stop_of};
+use pdb::Source;
 use pdb_resolve::{Resolver, Streams};
 use pdb_text::{put_line_end, write_out};
 use std::alloc::Global;
 use std::io::{self, BufRead, ErrorKind, Write};
 
+// piece: put_asked
 /// The text of what is asked for.
 #[tactic(auto, unfolding(crate::specs::Asked::asked_text))]
-fn put_asked<'s, S: Source<'s>>(
+pub fn put_asked<'s, S: Source<'s>>(
     resolver: &mut Resolver<'_, 's, S>,
     out: &mut Vec<u8>,
     asked: Asked,
@@ -36,7 +38,9 @@ fn put_asked<'s, S: Source<'s>>(
     };
     resolver.put_text(out, place).map_err(stop_of)
 }
+// end
 
+// piece: write_asked
 /// Writes the texts of what is asked for, one after another. Each is composed and then written.
 pub fn write_asked<'s, S: Source<'s>, W: Write>(
     alloc: Global,
@@ -61,6 +65,7 @@ pub fn write_asked<'s, S: Source<'s>, W: Write>(
     }
     Ok(())
 }
+// end
 
 /// The text that answers a line without its end.
 #[tactic(auto, unfolding(crate::specs::Asked::line_text), using(std::proofs::lemmas::Str::Ascii::trim_ascii_is))]
@@ -170,56 +175,58 @@ pub fn answer_lines<'s, S: Source<'s>, R: BufRead, W: Write>(
     Err(Stop::Read)
 }
 
-/// A resolver over a file's bytes.
-fn resolver_over<'a, 's>(
+// piece: resolver_over
+/// A resolver over a source's file.
+pub fn resolver_over<'a, 's, S: Source<'s>>(
     alloc: Global,
-    bytes: &'s [u8],
+    source: S,
     streams: &'a mut Streams<'s>,
-) -> Result<Resolver<'a, 's, MemorySource<'s>>, Stop>
-    ensures file { IfOk result (λ r. r.file ≡ bytes.now) }
-    ensures opened { OnOk result (opens bytes.now ≡ Ok tt) }
-    ensures refused { (e : Error) → IsErrOf result (Stop.Open e) → opens bytes.now ≡ Err e }
+) -> Result<Resolver<'a, 's, S>, Stop>
+    ensures file { IfOk result (λ r. r.file ≡ (S.state source).file) }
+    ensures opened { OnOk result (opens (S.state source).file ≡ Ok tt) }
+    ensures refused { (S.state source).steady ≡ true → (e : Error) → IsErrOf result (Stop.Open e) → opens (S.state source).file ≡ Err e }
     ensures unwritten { IsErrOf result Stop.Write → ⊥ }
 {
-    let pdb = PDB::open(alloc, MemorySource::new(bytes)).map_err(stop_of_opening)?;
+    let pdb = opened(alloc, source)?;
     Resolver::new(alloc, pdb, streams).map_err(stop_of)
 }
+// end
 
-/// Writes the texts of what is asked for in a file, one after another.
+/// Writes the texts of what is asked for in a source's file, one after another.
 #[tactic(auto, using(pdb_text::proofs::Written::first_none, crate::proofs::AnsweredLines::on_ok_of))]
-pub fn resolve_words<W: Write>(
+pub fn resolve_words<'s, S: Source<'s>, W: Write>(
     alloc: Global,
-    bytes: &[u8],
+    source: S,
     asked: &[Asked],
     out: &mut W,
 ) -> Result<(), Stop>
-    ensures opened { OnOk result (opens bytes.now ≡ Ok tt) }
-    ensures ok { OnOk result (Appends (W.contents out.old) (W.contents out.new) (flat_map (asked_text bytes.now) asked.now)) }
-    ensures refused { (e : Error) → IsErrOf result (Stop.Open e) → opens bytes.now ≡ Err e }
+    ensures opened { OnOk result (opens (S.state source).file ≡ Ok tt) }
+    ensures ok { OnOk result (Appends (W.contents out.old) (W.contents out.new) (flat_map (asked_text (S.state source).file) asked.now)) }
+    ensures refused { (S.state source).steady ≡ true → (e : Error) → IsErrOf result (Stop.Open e) → opens (S.state source).file ≡ Err e }
     // The texts of some first words were written, whole.
-    ensures stopped { IsErrAnd result (λ e. e ≢ Stop.Write) → WroteFirst (asked_text bytes.now) (W.contents out.old) (W.contents out.new) asked.now }
+    ensures stopped { IsErrAnd result (λ e. e ≢ Stop.Write) → WroteFirst (asked_text (S.state source).file) (W.contents out.old) (W.contents out.new) asked.now }
     // A beginning of the texts was written.
-    ensures write { IsErrOf result Stop.Write → WroteFront (W.contents out.old) (W.contents out.new) (flat_map (asked_text bytes.now) asked.now) }
+    ensures write { IsErrOf result Stop.Write → WroteFront (W.contents out.old) (W.contents out.new) (flat_map (asked_text (S.state source).file) asked.now) }
 {
     let mut streams = Streams::new(alloc);
-    let mut resolver = resolver_over(alloc, bytes, &mut streams)?;
+    let mut resolver = resolver_over(alloc, source, &mut streams)?;
     write_asked(alloc, &mut resolver, asked, out)
 }
 
-/// Answers the lines of a reader over a file, each before the next is read.
-pub fn resolve_lines<R: BufRead, W: Write>(
+/// Answers the lines of a reader over a source's file, each before the next is read.
+pub fn resolve_lines<'s, S: Source<'s>, R: BufRead, W: Write>(
     alloc: Global,
-    bytes: &[u8],
+    source: S,
     base: u64,
     input: &mut R,
     out: &mut W,
 ) -> Result<(), Stop>
-    ensures opened { OnOk result (opens bytes.now ≡ Ok tt) }
-    ensures ok { IfSome (R.remaining input.old) (λ xs. OnOk result (Appends (W.contents out.old) (W.contents out.new) (flat_map (line_text bytes.now base) (lines_of xs)))) }
-    ensures refused { (e : Error) → IsErrOf result (Stop.Open e) → opens bytes.now ≡ Err e }
-    ensures front { IfSome (R.remaining input.old) (λ xs. OnErr result (WroteFront (W.contents out.old) (W.contents out.new) (flat_map (line_text bytes.now base) (lines_of xs)))) }
+    ensures opened { OnOk result (opens (S.state source).file ≡ Ok tt) }
+    ensures ok { IfSome (R.remaining input.old) (λ xs. OnOk result (Appends (W.contents out.old) (W.contents out.new) (flat_map (line_text (S.state source).file base) (lines_of xs)))) }
+    ensures refused { (S.state source).steady ≡ true → (e : Error) → IsErrOf result (Stop.Open e) → opens (S.state source).file ≡ Err e }
+    ensures front { IfSome (R.remaining input.old) (λ xs. OnErr result (WroteFront (W.contents out.old) (W.contents out.new) (flat_map (line_text (S.state source).file base) (lines_of xs)))) }
 {
     let mut streams = Streams::new(alloc);
-    let mut resolver = resolver_over(alloc, bytes, &mut streams)?;
+    let mut resolver = resolver_over(alloc, source, &mut streams)?;
     answer_lines(alloc, &mut resolver, base, input, out)
 }

@@ -181,6 +181,7 @@ fn put_symbol(
     }
 }
 
+// piece: put_symbols
 /// The lines of the symbols that an iterator has left, and then that of its fault.
 fn put_symbols(
     alloc: Global,
@@ -206,6 +207,7 @@ fn put_symbols(
         }
     }
 }
+// end
 
 /// The text of `scopes` of a module: its symbols by their scopes, or their refusal. The names of inlined functions are
 /// those of the tables of ids and types.

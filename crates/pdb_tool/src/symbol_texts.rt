@@ -123,6 +123,7 @@ fn put_refused(out: &mut Vec<u8>, e: Error, bytes: &[u8]) -> Result<(), AllocErr
     }
 }
 
+// piece: put_record
 /// What the record of a symbol says, or its refusal.
 fn put_record(alloc: Global, out: &mut Vec<u8>, symbol: &Symbol<'_>) -> Result<(), AllocError>
     ensures { OnOk result (out.new.items ≡ out.old.items ++ record_text (symbol_of symbol.now).bytes (record_at (symbol_of symbol.now).bytes)) }
@@ -132,6 +133,7 @@ fn put_record(alloc: Global, out: &mut Vec<u8>, symbol: &Symbol<'_>) -> Result<(
         Err(e) => put_refused(out, e, symbol.raw_bytes()),
     }
 }
+// end
 
 /// The line of a symbol at a depth.
 #[tactic(auto, unfolding(crate::specs::SymbolTexts::symbol_line))]
@@ -175,6 +177,7 @@ pub fn put_symbol_list(
     }
 }
 
+// piece: put_symbols_of
 /// The text of `symbols` of a module: its symbols, or their refusal.
 #[tactic(auto, unfolding(crate::specs::SymbolTexts::symbols_text))]
 pub fn put_symbols_of(
@@ -189,6 +192,7 @@ pub fn put_symbols_of(
         Err(e) => put_refusal_line(out, e),
     }
 }
+// end
 
 /// The text of `symbols` of the stream of global symbols.
 #[tactic(auto, unfolding(crate::specs::SymbolTexts::global_symbols_text))]

@@ -22,6 +22,8 @@ pub enum Topic {
     Symbols,
     /// The keys under which symbol servers have files.
     Key,
+    /// What is wrong with files.
+    Check,
 }
 
 /// What the words ask for.
@@ -65,6 +67,7 @@ pub fn topic_in(word: &str) -> Option<Topic>
         "scopes" => Some(Topic::Scopes),
         "symbols" => Some(Topic::Symbols),
         "key" => Some(Topic::Key),
+        "check" => Some(Topic::Check),
         _ => None,
     }
 }

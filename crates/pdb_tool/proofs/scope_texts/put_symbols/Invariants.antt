@@ -3,6 +3,7 @@ use Rattle.pdb.specs.Views.{symbols_left}
 use Rattle.pdb_tool.specs.ScopeTexts.{scopes_left}
 use Rattle.pdb_tool.proofs.scope_texts.put_symbols.Given as goal
 
+-- piece: depth_of_scopes
 -- what was put, and the lines of what is left, are the lines of all; no deeper than symbols came
 abbrev pub invariant-loop-symbol : goal.invariant-loop-symbol
 invariant-loop-symbol l = record {
@@ -10,6 +11,8 @@ invariant-loop-symbol l = record {
   counted : l.depth + length (symbols_left l.symbols).items ≤ length (symbols_left l.fn.symbols).items;
   few : length (symbols_left l.symbols).items < length (symbols_left l.fn.symbols).items → length (symbols_left l.fn.symbols).items < 2 ^ 64;
 }
+
+-- end
 
 abbrev pub decreases-loop-symbol : goal.decreases-loop-symbol
 decreases-loop-symbol l = length (symbols_left l.symbols).items

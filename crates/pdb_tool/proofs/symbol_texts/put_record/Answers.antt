@@ -2,6 +2,7 @@ use Rattle.pdb_tool.proofs.Results.{on_ok}
 use Rattle.pdb_tool.proofs.Refused.{refused_is}
 use Rattle.pdb_tool.proofs.symbol_texts.put_record.Goals as goal
 
+-- piece: refused
 pub returns-in-Err : goal.returns-in-Err
 returns-in-Err c =
     on_ok c.put_refused.result (λ h. (
@@ -9,3 +10,5 @@ returns-in-Err c =
     let t = h.1 in
     rw r (rw c.raw_bytes.ensures at t)
     )) c.put_refused.ensures
+
+-- end

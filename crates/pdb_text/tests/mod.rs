@@ -1,0 +1,5 @@
+//! Tests of what no clause says: values from outside, and that calls succeed with ample memory.
+
+mod digits;
+mod fakes;
+mod output;

@@ -1,0 +1,69 @@
+-- What is wrong with a file: the refusals of what is read of it, and the faults that end its lists.
+use Rattle.std.specs.Prelude.{ℕ, List, [], Bool, true, false, Option, Some, None, Result, Ok, Err}
+use Rattle.pdb.specs.Error.{Error}
+use Rattle.pdb.specs.Error.TheVariants.{StreamNotFound, StreamNameNotFound, GlobalSymbolsNotFound, UnimplementedSymbolKind}
+use Rattle.pdb.specs.Refusal.{◌>>=◌}
+use Rattle.pdb.specs.Left.{Left}
+use Rattle.pdb.specs.Answers.{debug_information_in, global_symbols_in, information_in}
+use Rattle.pdb.specs.Container.{stream_of}
+use Rattle.pdb.specs.Contributions.{contributions_in}
+use Rattle.pdb.specs.Modules.{ModuleEntry, modules_in}
+use Rattle.pdb.specs.Names.{Name, names_of}
+use Rattle.pdb.specs.Items.{items_in}
+use Rattle.pdb.specs.SymbolList.{Entry, symbols_from}
+use Rattle.pdb.specs.DBISectionContribution.{DBISectionContribution}
+use Rattle.pdb.specs.LineInfo.{LineInfo}
+use Rattle.pdb.specs.Lines.{lines_of}
+use Rattle.pdb.specs.Files.{FileOf, files_of}
+use Rattle.pdb.specs.ModuleStream.{ModuleBytes, line_program_of}
+
+-- a refusal tells of damage, unless it says that the file has no such name or no global symbols, or that a kind of symbol has no form
+abbrev pub is_damage : Error → Bool
+is_damage StreamNameNotFound = false
+is_damage GlobalSymbolsNotFound = false
+is_damage (UnimplementedSymbolKind kind) = false
+is_damage e = true
+
+-- the refusal of what is read, where it is refused
+abbrev pub refused : {A : Type 0} → Result A Error → Option Error
+refused (Ok x) = None
+refused (Err e) = Some e
+
+-- what a list ends with: its refusal, or its fault
+abbrev pub ended_by : {A : Type 0} → Result (Left A) Error → Option Error
+ended_by (Ok left) = left.fault
+ended_by (Err e) = Some e
+
+-- the items of a list; none where it is refused
+abbrev pub items_of : {A : Type 0} → Result (Left A) Error → List A
+items_of (Ok left) = left.items
+items_of (Err e) = []
+
+-- ---- what is read of a file
+
+-- the names of streams
+unfoldable pub names_in : List ℕ → Result (List Name) Error
+names_in file = information_in file >>= λ i. names_of i.bytes i.names_offset i.names_size
+
+unfoldable pub modules_of_file : List ℕ → Result (Left ModuleEntry) Error
+modules_of_file file = debug_information_in file >>= modules_in
+
+unfoldable pub contributions_of_file : List ℕ → Result (Left DBISectionContribution) Error
+contributions_of_file file = debug_information_in file >>= contributions_in
+
+unfoldable pub global_symbols_of_file : List ℕ → Result (Left Entry) Error
+global_symbols_of_file file = global_symbols_in file >>= λ b. Ok (symbols_from b 0)
+
+-- what the items of a stream end with; a stream that isn't there has none
+abbrev pub items_ended_by : Result (List ℕ) Error → Option Error
+items_ended_by (Ok stream) = ended_by (items_in stream)
+items_ended_by (Err (StreamNotFound n)) = None
+items_ended_by (Err e) = Some e
+
+-- ---- what is read of a module
+
+unfoldable pub lines_of_module : ModuleBytes → Result (Left LineInfo) Error
+lines_of_module m = line_program_of m >>= λ program. Ok (lines_of program.subsections)
+
+unfoldable pub files_of_module : ModuleBytes → Result (Left FileOf) Error
+files_of_module m = line_program_of m >>= λ program. Ok (files_of program.checksums)

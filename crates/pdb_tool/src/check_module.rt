@@ -1,0 +1,220 @@
+//! What is wrong with a module.
+
+ghost use Rattle.std.specs.Prelude.{◌≡◌, ◌≢◌, ◌++◌, ◌⊎◌, codes, flat_map, Ok, OnOk, IfErr};
+ghost use Rattle.pdb.specs.AnnotationViews.{annotation_bytes};
+ghost use Rattle.pdb.specs.Annotations.{annotations_of};
+ghost use Rattle.pdb.specs.Data.{shown};
+ghost use Rattle.pdb.specs.ModuleStream.{exports_of, imports_of, inlinees_of, symbols_of};
+ghost use Rattle.pdb.specs.Views.{symbol_of, symbols_left};
+ghost use Rattle.pdb_tool.specs.Checks.{ended_by, files_of_module, items_of, lines_of_module, refused};
+ghost use Rattle.pdb_tool.specs.CheckTexts.{at_index, fault_text, lines_text, others_text, parts_text, site_text, symbol_text, symbols_text};
+ghost use Rattle.pdb_tool.specs.declared.stop.Stop.{Stop};
+
+use crate::findings::{put_end, put_refusal, put_refused_record, put_symbol_damage};
+use crate::stop::Stop;
+use pdb::{
+    FallibleIterator, InlineSiteSymbol, ModuleInfo, Symbol, SymbolData, SymbolIndex, SymbolIter,
+};
+use std::alloc::{AllocError, Global};
+
+/// The line of the fault of a site's annotations.
+fn put_site(
+    alloc: Global,
+    out: &mut Vec<u8>,
+    front: &[u8],
+    index: SymbolIndex,
+    site: &InlineSiteSymbol<'_>,
+) -> Result<(), AllocError>
+    ensures { OnOk result (out.new.items ≡ out.old.items ++ fault_text front.now (at_index (codes " site ") index.0) (annotations_of (annotation_bytes site.now.annotations)).fault) }
+{
+    match site.annotations.iter().count() {
+        Ok(_) => Ok(()),
+        Err(e) => put_symbol_damage(alloc, out, front, b" site ", index, e),
+    }
+}
+
+/// The line of the fault of the annotations, where a record says an inline site.
+fn put_site_of(
+    alloc: Global,
+    out: &mut Vec<u8>,
+    front: &[u8],
+    index: SymbolIndex,
+    parsed: &SymbolData<'_>,
+) -> Result<(), AllocError>
+    ensures { OnOk result (out.new.items ≡ out.old.items ++ site_text front.now index.0 (Ok (shown parsed.now))) }
+{
+    match parsed {
+        SymbolData::InlineSite(site) => put_site(alloc, out, front, index, site),
+        _ => Ok(()),
+    }
+}
+
+/// The line of a symbol whose record is refused, or of a site whose annotations have a fault.
+#[tactic(auto, unfolding(crate::specs::CheckTexts::symbol_text))]
+fn put_symbol(
+    alloc: Global,
+    out: &mut Vec<u8>,
+    front: &[u8],
+    symbol: &Symbol<'_>,
+) -> Result<(), Stop>
+    ensures text { OnOk result (out.new.items ≡ out.old.items ++ symbol_text front.now (symbol_of symbol.now)) }
+    ensures unwritten { IfErr result (λ e. (e ≡ Stop.Memory) ⊎ (e ≡ Stop.Read)) }
+{
+    let index = symbol.index();
+    match symbol.parse(alloc) {
+        Ok(parsed) => Ok(put_site_of(alloc, out, front, index, &parsed)?),
+        Err(e) => put_refused_record(alloc, out, front, b" symbol ", index, e),
+    }
+}
+
+/// The lines of the symbols that an iterator has left.
+fn put_records(
+    alloc: Global,
+    out: &mut Vec<u8>,
+    front: &[u8],
+    mut symbols: SymbolIter<'_>,
+) -> Result<(), Stop>
+    ensures unwritten { IfErr result (λ e. (e ≡ Stop.Memory) ⊎ (e ≡ Stop.Read)) }
+    ensures text { OnOk result (out.new.items ≡ out.old.items ++ flat_map (symbol_text front.now) (symbols_left symbols.entry).items) }
+{
+    loop {
+        match symbols.next() {
+            Ok(Some(symbol)) => put_symbol(alloc, out, front, &symbol)?,
+            Ok(None) => return Ok(()),
+            Err(_) => return Ok(()),
+        }
+    }
+}
+
+/// The line of the list of symbols.
+fn put_symbol_list(out: &mut Vec<u8>, front: &[u8], info: &ModuleInfo<'_>) -> Result<(), Stop>
+    ensures text { OnOk result (out.new.items ≡ out.old.items ++ fault_text front.now (codes " symbols") (ended_by (symbols_of info.now))) }
+    ensures unwritten { IfErr result (λ e. (e ≡ Stop.Memory) ⊎ (e ≡ Stop.Read)) }
+{
+    match info.symbols() {
+        Ok(symbols) => Ok(put_end(out, front, b" symbols", symbols)?),
+        Err(e) => put_refusal(out, front, b" symbols", e),
+    }
+}
+
+/// The lines of the symbols: that of their list, and then those of single symbols.
+#[tactic(auto, unfolding(crate::specs::CheckTexts::symbols_text))]
+fn put_symbols(
+    alloc: Global,
+    out: &mut Vec<u8>,
+    front: &[u8],
+    info: &ModuleInfo<'_>,
+) -> Result<(), Stop>
+    ensures text { OnOk result (out.new.items ≡ out.old.items ++ symbols_text front.now info.now) }
+    ensures unwritten { IfErr result (λ e. (e ≡ Stop.Memory) ⊎ (e ≡ Stop.Read)) }
+{
+    put_symbol_list(out, front, info)?;
+    match info.symbols() {
+        Ok(symbols) => put_records(alloc, out, front, symbols),
+        Err(_) => Ok(()),
+    }
+}
+
+/// The lines of the line records and of the files.
+#[tactic(auto, unfolding(crate::specs::CheckTexts::lines_text, crate::specs::Checks::lines_of_module, crate::specs::Checks::files_of_module))]
+fn put_lines(
+    alloc: Global,
+    out: &mut Vec<u8>,
+    front: &[u8],
+    info: &ModuleInfo<'_>,
+) -> Result<(), Stop>
+    ensures text { OnOk result (out.new.items ≡ out.old.items ++ lines_text front.now info.now) }
+    ensures unwritten { IfErr result (λ e. (e ≡ Stop.Memory) ⊎ (e ≡ Stop.Read)) }
+{
+    match info.line_program(alloc) {
+        Ok(program) => {
+            put_end(out, front, b" lines", program.lines())?;
+            Ok(put_end(out, front, b" files", program.files())?)
+        }
+        Err(e) => {
+            put_refusal(out, front, b" lines", e)?;
+            put_refusal(out, front, b" files", e)
+        }
+    }
+}
+
+/// The line of the inlined functions.
+fn put_inlinees(
+    out: &mut Vec<u8>,
+    front: &[u8],
+    place: &[u8],
+    info: &ModuleInfo<'_>,
+) -> Result<(), Stop>
+    ensures text { OnOk result (out.new.items ≡ out.old.items ++ fault_text front.now place.now (ended_by (inlinees_of info.now))) }
+    ensures unwritten { IfErr result (λ e. (e ≡ Stop.Memory) ⊎ (e ≡ Stop.Read)) }
+{
+    match info.inlinees() {
+        Ok(inlinees) => Ok(put_end(out, front, place, inlinees)?),
+        Err(e) => put_refusal(out, front, place, e),
+    }
+}
+
+/// The line of what is imported.
+fn put_imports(
+    alloc: Global,
+    out: &mut Vec<u8>,
+    front: &[u8],
+    place: &[u8],
+    info: &ModuleInfo<'_>,
+) -> Result<(), Stop>
+    ensures text { OnOk result (out.new.items ≡ out.old.items ++ fault_text front.now place.now (refused (imports_of info.now))) }
+    ensures unwritten { IfErr result (λ e. (e ≡ Stop.Memory) ⊎ (e ≡ Stop.Read)) }
+{
+    match info.imports(alloc) {
+        Ok(_imports) => Ok(()),
+        Err(e) => put_refusal(out, front, place, e),
+    }
+}
+
+/// The line of what is exported.
+fn put_exports(
+    alloc: Global,
+    out: &mut Vec<u8>,
+    front: &[u8],
+    place: &[u8],
+    info: &ModuleInfo<'_>,
+) -> Result<(), Stop>
+    ensures text { OnOk result (out.new.items ≡ out.old.items ++ fault_text front.now place.now (refused (exports_of info.now))) }
+    ensures unwritten { IfErr result (λ e. (e ≡ Stop.Memory) ⊎ (e ≡ Stop.Read)) }
+{
+    match info.exports(alloc) {
+        Ok(_exports) => Ok(()),
+        Err(e) => put_refusal(out, front, place, e),
+    }
+}
+
+/// The lines of the inlined functions, and of what is imported and exported.
+#[tactic(auto, unfolding(crate::specs::CheckTexts::others_text))]
+fn put_others(
+    alloc: Global,
+    out: &mut Vec<u8>,
+    front: &[u8],
+    info: &ModuleInfo<'_>,
+) -> Result<(), Stop>
+    ensures text { OnOk result (out.new.items ≡ out.old.items ++ others_text front.now info.now) }
+    ensures unwritten { IfErr result (λ e. (e ≡ Stop.Memory) ⊎ (e ≡ Stop.Read)) }
+{
+    put_inlinees(out, front, b" inlined functions", info)?;
+    put_imports(alloc, out, front, b" imports", info)?;
+    put_exports(alloc, out, front, b" exports", info)
+}
+
+/// The lines of what is wrong with a module that has a stream, behind what each of them begins with.
+pub fn put_parts(
+    alloc: Global,
+    out: &mut Vec<u8>,
+    front: &[u8],
+    info: &ModuleInfo<'_>,
+) -> Result<(), Stop>
+    ensures text { OnOk result (out.new.items ≡ out.old.items ++ parts_text front.now info.now) }
+    ensures unwritten { IfErr result (λ e. (e ≡ Stop.Memory) ⊎ (e ≡ Stop.Read)) }
+{
+    put_symbols(alloc, out, front, info)?;
+    put_lines(alloc, out, front, info)?;
+    put_others(alloc, out, front, info)
+}

@@ -1,0 +1,52 @@
+//! What a command writes of one file.
+
+ghost use Rattle.std.specs.Prelude.{◌≡◌, true, Ok, Err, IsErrOf, OnOk, OnErr};
+ghost use Rattle.std.specs.Io.KnownBytes.{Appends};
+ghost use Rattle.pdb.specs.Container.{opens};
+ghost use Rattle.pdb.specs.Error.{Error};
+ghost use Rattle.pdb_text.specs.Written.{WroteFront};
+ghost use Rattle.pdb_tool.specs.FileTexts.{file_text};
+ghost use Rattle.pdb_tool.specs.declared.stop.Stop.{Stop};
+
+use crate::asked::Asked;
+use crate::commands::{write_lines, write_scopes, write_symbols};
+use crate::resolve::resolve_words;
+use crate::stop::Stop;
+use pdb::Source;
+use std::alloc::Global;
+use std::io::Write;
+
+/// What a command writes of one file. Of no number of a module it is that of all modules, and of symbols the global
+/// ones.
+#[derive(Clone, Copy, Debug)]
+pub enum FileText<'a> {
+    /// The code at addresses, one after another.
+    Code(&'a [Asked]),
+    /// The line records of the modules of these numbers.
+    Lines(&'a [u32]),
+    /// The scopes of the modules of these numbers.
+    Scopes(&'a [u32]),
+    /// The symbols of the modules of these numbers.
+    Symbols(&'a [u32]),
+}
+
+/// Writes what a command writes of a source's file.
+pub fn write_text<'s, S: Source<'s>, W: Write>(
+    alloc: Global,
+    source: S,
+    text: FileText<'_>,
+    out: &mut W,
+) -> Result<(), Stop>
+    ensures opened { OnOk result (opens (S.state source).file ≡ Ok tt) }
+    ensures ok { OnOk result (Appends (W.contents out.old) (W.contents out.new) (file_text (S.state source).file text.entry)) }
+    ensures refused { (S.state source).steady ≡ true → (e : Error) → IsErrOf result (Stop.Open e) → opens (S.state source).file ≡ Err e }
+    // A beginning of the text was written.
+    ensures front { OnErr result (WroteFront (W.contents out.old) (W.contents out.new) (file_text (S.state source).file text.entry)) }
+{
+    match text {
+        FileText::Code(asked) => resolve_words(alloc, source, asked, out),
+        FileText::Lines(places) => write_lines(alloc, source, places, out),
+        FileText::Scopes(places) => write_scopes(alloc, source, places, out),
+        FileText::Symbols(places) => write_symbols(alloc, source, places, out),
+    }
+}

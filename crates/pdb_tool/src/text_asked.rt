@@ -1,0 +1,140 @@
+//! What of a file is asked for before its text is written.
+
+use crate::asked::Asked;
+use crate::file_texts::FileText;
+use crate::resolve::{put_asked, resolver_over};
+use pdb::{Error, FallibleIterator, PDB, Result, Source};
+use pdb_file::{AnyFile, Asks, HeldSource};
+use pdb_resolve::Streams;
+use std::alloc::Global;
+
+/// What is still to be asked for of what a text is made of.
+#[derive(Drop)]
+pub struct TextAsked<'a> {
+    text: FileText<'a>,
+    // The streams that all modules share.
+    shared: bool,
+    modules: bool,
+}
+
+impl<'a> TextAsked<'a> {
+    /// All that a text is made of.
+    pub fn of(text: FileText<'a>) -> Self {
+        TextAsked {
+            text,
+            shared: true,
+            modules: true,
+        }
+    }
+}
+
+/// Whether an answer rests on bytes that aren't held.
+fn is_missed<T>(answer: &Result<T>) -> bool {
+    matches!(answer, Err(Error::OutOfMemory))
+}
+
+/// Asks for what the code at addresses is told from.
+fn ask_code<'s, S: Source<'s>>(alloc: Global, source: S, asked: &[Asked]) {
+    let mut streams = Streams::new(alloc);
+    let Ok(mut resolver) = resolver_over(alloc, source, &mut streams) else {
+        return;
+    };
+    let mut text = Vec::new(alloc);
+    for it in asked {
+        text.clear();
+        let _ = put_asked(&mut resolver, &mut text, *it);
+    }
+}
+
+/// Asks for the streams of all modules, and answers whether it is known which these are.
+fn ask_all<'s, S: Source<'s>>(pdb: &mut PDB<'s, S>) -> bool {
+    let information = match pdb.debug_information() {
+        Ok(information) => information,
+        Err(e) => return e != Error::OutOfMemory,
+    };
+    let Ok(mut modules) = information.modules() else {
+        return true;
+    };
+    for _ in 0..u64::MAX {
+        let Ok(Some(module)) = modules.next() else {
+            return true;
+        };
+        let _ = pdb.module_info(&module);
+    }
+    true
+}
+
+/// Asks for the streams of the modules of these numbers, and answers whether it is known which these are.
+fn ask_places<'s, S: Source<'s>>(pdb: &mut PDB<'s, S>, places: &[u32]) -> bool {
+    if is_missed(&pdb.debug_information()) {
+        return false;
+    }
+    for k in places {
+        let _ = pdb.module_at(*k as usize);
+    }
+    true
+}
+
+/// Asks for the streams of the modules of these numbers, or of all, and answers whether it is known which these are.
+fn ask_modules<'s, S: Source<'s>>(pdb: &mut PDB<'s, S>, places: &[u32]) -> bool {
+    if places.is_empty() {
+        ask_all(pdb)
+    } else {
+        ask_places(pdb, places)
+    }
+}
+
+impl TextAsked<'_> {
+    /// Asks for the streams that all modules share.
+    fn ask_shared<'s, S: Source<'s>>(&mut self, pdb: &mut PDB<'s, S>) {
+        let text = self.text;
+        match text {
+            FileText::Code(_) => {}
+            FileText::Lines(_) => self.shared = is_missed(&pdb.string_table()),
+            FileText::Scopes(_) => {
+                let ids = is_missed(&pdb.id_information());
+                self.shared = is_missed(&pdb.type_information()) || ids;
+            }
+            FileText::Symbols(places) => {
+                self.shared = places.is_empty() && is_missed(&pdb.global_symbols());
+            }
+        }
+    }
+
+    /// Asks for what is left of the streams, and answers whether nothing will be left then.
+    fn ask_streams<'s, S: Source<'s>>(&mut self, alloc: Global, source: S) -> bool {
+        let Ok(mut pdb) = PDB::open(alloc, source) else {
+            return false;
+        };
+        if self.shared {
+            self.ask_shared(&mut pdb);
+        }
+        if self.modules {
+            self.ask_modules(&mut pdb);
+        }
+        !self.shared && !self.modules
+    }
+
+    /// Asks for the streams of modules.
+    fn ask_modules<'s, S: Source<'s>>(&mut self, pdb: &mut PDB<'s, S>) {
+        let text = self.text;
+        self.modules = match text {
+            FileText::Code(_) => false,
+            FileText::Lines(places) | FileText::Scopes(places) => !ask_modules(pdb, places),
+            FileText::Symbols(places) => !places.is_empty() && !ask_modules(pdb, places),
+        };
+    }
+}
+
+impl Asks for TextAsked<'_> {
+    fn ask(&mut self, alloc: Global, source: HeldSource<'_, '_, '_, AnyFile>) -> bool {
+        let text = self.text;
+        match text {
+            FileText::Code(asked) => {
+                ask_code(alloc, source, asked);
+                false
+            }
+            _ => self.ask_streams(alloc, source),
+        }
+    }
+}

@@ -1,0 +1,247 @@
+//! The names of kinds in `cvinfo.h`.
+
+use crate::kind_names::kind_name;
+use crate::tests::fakes::is;
+
+#[test]
+fn older_kinds(rt: HostRuntime) {
+    let rows: [(u16, &str); 50] = [
+        (0x0001, "S_COMPILE"),
+        (0x0002, "S_REGISTER_16t"),
+        (0x0003, "S_CONSTANT_16t"),
+        (0x0004, "S_UDT_16t"),
+        (0x0005, "S_SSEARCH"),
+        (0x0006, "S_END"),
+        (0x0007, "S_SKIP"),
+        (0x0008, "S_CVRESERVE"),
+        (0x0009, "S_OBJNAME_ST"),
+        (0x000a, "S_ENDARG"),
+        (0x000b, "S_COBOLUDT_16t"),
+        (0x000c, "S_MANYREG_16t"),
+        (0x000d, "S_RETURN"),
+        (0x000e, "S_ENTRYTHIS"),
+        (0x0100, "S_BPREL16"),
+        (0x0101, "S_LDATA16"),
+        (0x0102, "S_GDATA16"),
+        (0x0103, "S_PUB16"),
+        (0x0104, "S_LPROC16"),
+        (0x0105, "S_GPROC16"),
+        (0x0106, "S_THUNK16"),
+        (0x0107, "S_BLOCK16"),
+        (0x0108, "S_WITH16"),
+        (0x0109, "S_LABEL16"),
+        (0x010a, "S_CEXMODEL16"),
+        (0x010b, "S_VFTABLE16"),
+        (0x010c, "S_REGREL16"),
+        (0x0200, "S_BPREL32_16t"),
+        (0x0201, "S_LDATA32_16t"),
+        (0x0202, "S_GDATA32_16t"),
+        (0x0203, "S_PUB32_16t"),
+        (0x0204, "S_LPROC32_16t"),
+        (0x0205, "S_GPROC32_16t"),
+        (0x0206, "S_THUNK32_ST"),
+        (0x0207, "S_BLOCK32_ST"),
+        (0x0208, "S_WITH32_ST"),
+        (0x0209, "S_LABEL32_ST"),
+        (0x020a, "S_CEXMODEL32"),
+        (0x020b, "S_VFTABLE32_16t"),
+        (0x020c, "S_REGREL32_16t"),
+        (0x020d, "S_LTHREAD32_16t"),
+        (0x020e, "S_GTHREAD32_16t"),
+        (0x020f, "S_SLINK32"),
+        (0x0300, "S_LPROCMIPS_16t"),
+        (0x0301, "S_GPROCMIPS_16t"),
+        (0x0400, "S_PROCREF_ST"),
+        (0x0401, "S_DATAREF_ST"),
+        (0x0402, "S_ALIGN"),
+        (0x0403, "S_LPROCREF_ST"),
+        (0x0404, "S_OEM"),
+    ];
+    for (kind, name) in rows {
+        is(&rt, "kind_name(kind)", &kind_name(kind), &Some(name));
+    }
+}
+
+#[test]
+fn kinds_with_names_behind_their_lengths(rt: HostRuntime) {
+    let rows: [(u16, &str); 42] = [
+        (0x1000, "S_TI16_MAX"),
+        (0x1001, "S_REGISTER_ST"),
+        (0x1002, "S_CONSTANT_ST"),
+        (0x1003, "S_UDT_ST"),
+        (0x1004, "S_COBOLUDT_ST"),
+        (0x1005, "S_MANYREG_ST"),
+        (0x1006, "S_BPREL32_ST"),
+        (0x1007, "S_LDATA32_ST"),
+        (0x1008, "S_GDATA32_ST"),
+        (0x1009, "S_PUB32_ST"),
+        (0x100a, "S_LPROC32_ST"),
+        (0x100b, "S_GPROC32_ST"),
+        (0x100c, "S_VFTABLE32"),
+        (0x100d, "S_REGREL32_ST"),
+        (0x100e, "S_LTHREAD32_ST"),
+        (0x100f, "S_GTHREAD32_ST"),
+        (0x1010, "S_LPROCMIPS_ST"),
+        (0x1011, "S_GPROCMIPS_ST"),
+        (0x1012, "S_FRAMEPROC"),
+        (0x1013, "S_COMPILE2_ST"),
+        (0x1014, "S_MANYREG2_ST"),
+        (0x1015, "S_LPROCIA64_ST"),
+        (0x1016, "S_GPROCIA64_ST"),
+        (0x1017, "S_LOCALSLOT_ST"),
+        (0x1018, "S_PARAMSLOT_ST"),
+        (0x1019, "S_ANNOTATION"),
+        (0x101a, "S_GMANPROC_ST"),
+        (0x101b, "S_LMANPROC_ST"),
+        (0x101c, "S_RESERVED1"),
+        (0x101d, "S_RESERVED2"),
+        (0x101e, "S_RESERVED3"),
+        (0x101f, "S_RESERVED4"),
+        (0x1020, "S_LMANDATA_ST"),
+        (0x1021, "S_GMANDATA_ST"),
+        (0x1022, "S_MANFRAMEREL_ST"),
+        (0x1023, "S_MANREGISTER_ST"),
+        (0x1024, "S_MANSLOT_ST"),
+        (0x1025, "S_MANMANYREG_ST"),
+        (0x1026, "S_MANREGREL_ST"),
+        (0x1027, "S_MANMANYREG2_ST"),
+        (0x1028, "S_MANTYPREF"),
+        (0x1029, "S_UNAMESPACE_ST"),
+    ];
+    for (kind, name) in rows {
+        is(&rt, "kind_name(kind)", &kind_name(kind), &Some(name));
+    }
+}
+
+#[test]
+fn kinds_with_zero_ended_names(rt: HostRuntime) {
+    let rows: [(u16, &str); 64] = [
+        (0x1100, "S_ST_MAX"),
+        (0x1101, "S_OBJNAME"),
+        (0x1102, "S_THUNK32"),
+        (0x1103, "S_BLOCK32"),
+        (0x1104, "S_WITH32"),
+        (0x1105, "S_LABEL32"),
+        (0x1106, "S_REGISTER"),
+        (0x1107, "S_CONSTANT"),
+        (0x1108, "S_UDT"),
+        (0x1109, "S_COBOLUDT"),
+        (0x110a, "S_MANYREG"),
+        (0x110b, "S_BPREL32"),
+        (0x110c, "S_LDATA32"),
+        (0x110d, "S_GDATA32"),
+        (0x110e, "S_PUB32"),
+        (0x110f, "S_LPROC32"),
+        (0x1110, "S_GPROC32"),
+        (0x1111, "S_REGREL32"),
+        (0x1112, "S_LTHREAD32"),
+        (0x1113, "S_GTHREAD32"),
+        (0x1114, "S_LPROCMIPS"),
+        (0x1115, "S_GPROCMIPS"),
+        (0x1116, "S_COMPILE2"),
+        (0x1117, "S_MANYREG2"),
+        (0x1118, "S_LPROCIA64"),
+        (0x1119, "S_GPROCIA64"),
+        (0x111a, "S_LOCALSLOT"),
+        (0x111b, "S_PARAMSLOT"),
+        (0x111c, "S_LMANDATA"),
+        (0x111d, "S_GMANDATA"),
+        (0x111e, "S_MANFRAMEREL"),
+        (0x111f, "S_MANREGISTER"),
+        (0x1120, "S_MANSLOT"),
+        (0x1121, "S_MANMANYREG"),
+        (0x1122, "S_MANREGREL"),
+        (0x1123, "S_MANMANYREG2"),
+        (0x1124, "S_UNAMESPACE"),
+        (0x1125, "S_PROCREF"),
+        (0x1126, "S_DATAREF"),
+        (0x1127, "S_LPROCREF"),
+        (0x1128, "S_ANNOTATIONREF"),
+        (0x1129, "S_TOKENREF"),
+        (0x112a, "S_GMANPROC"),
+        (0x112b, "S_LMANPROC"),
+        (0x112c, "S_TRAMPOLINE"),
+        (0x112d, "S_MANCONSTANT"),
+        (0x112e, "S_ATTR_FRAMEREL"),
+        (0x112f, "S_ATTR_REGISTER"),
+        (0x1130, "S_ATTR_REGREL"),
+        (0x1131, "S_ATTR_MANYREG"),
+        (0x1132, "S_SEPCODE"),
+        (0x1133, "S_LOCAL_2005"),
+        (0x1134, "S_DEFRANGE_2005"),
+        (0x1135, "S_DEFRANGE2_2005"),
+        (0x1136, "S_SECTION"),
+        (0x1137, "S_COFFGROUP"),
+        (0x1138, "S_EXPORT"),
+        (0x1139, "S_CALLSITEINFO"),
+        (0x113a, "S_FRAMECOOKIE"),
+        (0x113b, "S_DISCARDED"),
+        (0x113c, "S_COMPILE3"),
+        (0x113d, "S_ENVBLOCK"),
+        (0x113e, "S_LOCAL"),
+        (0x113f, "S_DEFRANGE"),
+    ];
+    for (kind, name) in rows {
+        is(&rt, "kind_name(kind)", &kind_name(kind), &Some(name));
+    }
+}
+
+#[test]
+fn latest_kinds(rt: HostRuntime) {
+    let rows: [(u16, &str); 41] = [
+        (0x1140, "S_DEFRANGE_SUBFIELD"),
+        (0x1141, "S_DEFRANGE_REGISTER"),
+        (0x1142, "S_DEFRANGE_FRAMEPOINTER_REL"),
+        (0x1143, "S_DEFRANGE_SUBFIELD_REGISTER"),
+        (0x1144, "S_DEFRANGE_FRAMEPOINTER_REL_FULL_SCOPE"),
+        (0x1145, "S_DEFRANGE_REGISTER_REL"),
+        (0x1146, "S_LPROC32_ID"),
+        (0x1147, "S_GPROC32_ID"),
+        (0x1148, "S_LPROCMIPS_ID"),
+        (0x1149, "S_GPROCMIPS_ID"),
+        (0x114a, "S_LPROCIA64_ID"),
+        (0x114b, "S_GPROCIA64_ID"),
+        (0x114c, "S_BUILDINFO"),
+        (0x114d, "S_INLINESITE"),
+        (0x114e, "S_INLINESITE_END"),
+        (0x114f, "S_PROC_ID_END"),
+        (0x1150, "S_DEFRANGE_HLSL"),
+        (0x1151, "S_GDATA_HLSL"),
+        (0x1152, "S_LDATA_HLSL"),
+        (0x1153, "S_FILESTATIC"),
+        (0x1154, "S_LOCAL_DPC_GROUPSHARED"),
+        (0x1155, "S_LPROC32_DPC"),
+        (0x1156, "S_LPROC32_DPC_ID"),
+        (0x1157, "S_DEFRANGE_DPC_PTR_TAG"),
+        (0x1158, "S_DPC_SYM_TAG_MAP"),
+        (0x1159, "S_ARMSWITCHTABLE"),
+        (0x115a, "S_CALLEES"),
+        (0x115b, "S_CALLERS"),
+        (0x115c, "S_POGODATA"),
+        (0x115d, "S_INLINESITE2"),
+        (0x115e, "S_HEAPALLOCSITE"),
+        (0x115f, "S_MOD_TYPEREF"),
+        (0x1160, "S_REF_MINIPDB"),
+        (0x1161, "S_PDBMAP"),
+        (0x1162, "S_GDATA_HLSL32"),
+        (0x1163, "S_LDATA_HLSL32"),
+        (0x1164, "S_GDATA_HLSL32_EX"),
+        (0x1165, "S_LDATA_HLSL32_EX"),
+        (0x1167, "S_FASTLINK"),
+        (0x1168, "S_INLINEES"),
+        (0x1169, "S_HOTPATCHFUNC"),
+    ];
+    for (kind, name) in rows {
+        is(&rt, "kind_name(kind)", &kind_name(kind), &Some(name));
+    }
+}
+
+#[test]
+fn other_kinds_have_no_name(rt: HostRuntime) {
+    for kind in [
+        0x0000, 0x000f, 0x00ff, 0x010d, 0x01ff, 0x0210, 0x0302, 0x0405, 0x0fff, 0x102a, 0x10ff,
+        0x1166, 0x116a, 0xffff,
+    ] {
+        is(&rt, "kind_name(kind)", &kind_name(kind), &None);
+    }
+}

@@ -1,0 +1,13 @@
+//! Texts of small streams that are made by hand.
+
+mod asked;
+mod checks;
+mod error_line;
+mod fakes;
+mod files;
+mod findings;
+mod forms;
+mod kinds;
+mod modules;
+mod parts;
+mod streams;

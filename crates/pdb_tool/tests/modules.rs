@@ -1,0 +1,201 @@
+//! The texts of modules whose streams are made by hand.
+
+use super::streams::{Sizes, module_of, symbols_of};
+use crate::line_texts::put_lines;
+use crate::scope_texts::put_scopes;
+use crate::symbol_texts::put_symbols_of;
+use crate::tests::fakes::is;
+use pdb::{ItemFinder, Stream, StringTable};
+use std::test::Fail;
+
+/// Two files, four records with columns, and one without.
+static LINES: &[u8] =
+    b"\xf4\x00\x00\x00\x10\x00\x00\x00\x01\x00\x00\x00\x00\x00\x00\x00\x05\x00\x00\x00\x00\x00\x00\x00\xf2\x00\x00\x00\x60\x00\x00\x00\x40\x00\x00\x00\x02\x00\x01\x00\x20\x00\x00\x00\x00\x00\x00\x00\x02\x00\x00\x00\x24\x00\x00\x00\x00\x00\x00\x00\x07\x00\x00\x80\x08\x00\x00\x00\x09\x00\x00\x80\x03\x00\x05\x00\x04\x00\x06\x00\x08\x00\x00\x00\x01\x00\x00\x00\x18\x00\x00\x00\x0c\x00\x00\x00\x0b\x00\x00\x80\x02\x00\x00\x00\x99\x00\x00\x00\x01\x00\x00\x00\x18\x00\x00\x00\x18\x00\x00\x00\x0d\x00\x00\x80\x06\x00\x07\x00\xf2\x00\x00\x00\x20\x00\x00\x00\x80\x00\x00\x00\x02\x00\x00\x00\x08\x00\x00\x00\x08\x00\x00\x00\x01\x00\x00\x00\x14\x00\x00\x00\x00\x00\x00\x00\x0c\x00\x00\x80";
+
+/// The names `a.c` at place 1 and `bc` at place 5.
+static STRINGS: &[u8] = b"\xfe\xef\xfe\xef\x01\x00\x00\x00\x08\x00\x00\x00\x00a\x2ec\x00bc\x00";
+
+/// The string `ns` of index 0x1000, and the function `ab` in it of index 0x1001.
+static IDS: [u8; 84] = [
+    0x0b, 0xca, 0x31, 0x01, 0x38, 0x00, 0x00, 0x00, 0x00, 0x10, 0x00, 0x00, 0x02, 0x10, 0x00, 0x00,
+    0x1c, 0x00, 0x00, 0x00, 0x00, 0x00, 0x00, 0x00, 0x00, 0x00, 0x00, 0x00, 0x00, 0x00, 0x00, 0x00,
+    0x00, 0x00, 0x00, 0x00, 0x00, 0x00, 0x00, 0x00, 0x00, 0x00, 0x00, 0x00, 0x00, 0x00, 0x00, 0x00,
+    0x00, 0x00, 0x00, 0x00, 0x00, 0x00, 0x00, 0x00, 0x0a, 0x00, 0x05, 0x16, 0x00, 0x00, 0x00, 0x00,
+    0x6e, 0x73, 0x00, 0xf1, 0x0e, 0x00, 0x01, 0x16, 0x00, 0x10, 0x00, 0x00, 0x74, 0x00, 0x00, 0x00,
+    0x61, 0x62, 0x00, 0xf1,
+];
+
+/// A procedure.
+static PROCEDURE: &[u8] =
+    b"\x10\x11\x00\x00\x00\x00\x90\x00\x00\x00\x00\x00\x00\x00\x21\x00\x00\x00\x04\x00\x00\x00\x1e\x00\x00\x00\x09\x10\x00\x00\x50\x00\x00\x00\x01\x00\x00f\x00";
+
+#[test]
+fn lines_with_their_files(rt: HostRuntime) -> Result<(), Fail> {
+    let sizes = Sizes {
+        symbols: 0,
+        older_lines: 0,
+    };
+    let info = module_of(&rt, LINES, &sizes)?;
+    let strings = StringTable::parse(Stream::new(STRINGS).expect(&rt, "a short stream"))?;
+    let mut out = Vec::new(rt.alloc());
+    put_lines(rt.alloc(), &mut out, Some(&strings), &info)?;
+    let wanted: &[u8] = b"0002:00000040 8 a.c:7:3\n\
+        0002:00000048 4 a.c:9:4\n\
+        0002:0000004c 12 bc:11:2\n\
+        0002:00000058 8 ??:13:6\n\
+        0002:00000080 8 bc:12:0\n";
+    is(&rt, "out.as_slice()", &out.as_slice(), &wanted);
+    Ok(())
+}
+
+#[test]
+fn lines_without_names(rt: HostRuntime) -> Result<(), Fail> {
+    let sizes = Sizes {
+        symbols: 0,
+        older_lines: 0,
+    };
+    let info = module_of(&rt, LINES, &sizes)?;
+    let mut out = Vec::new(rt.alloc());
+    put_lines(rt.alloc(), &mut out, None, &info)?;
+    let wanted: &[u8] = b"0002:00000040 8 ??:7:3\n\
+        0002:00000048 4 ??:9:4\n\
+        0002:0000004c 12 ??:11:2\n\
+        0002:00000058 8 ??:13:6\n\
+        0002:00000080 8 ??:12:0\n";
+    is(&rt, "out.as_slice()", &out.as_slice(), &wanted);
+    Ok(())
+}
+
+#[test]
+fn records_before_a_fault(rt: HostRuntime) -> Result<(), Fail> {
+    let sizes = Sizes {
+        symbols: 0,
+        older_lines: 0,
+    };
+    // A block of two records, and one that has no room for its two.
+    let lines =
+        b"\xf2\x00\x00\x00\x3c\x00\x00\x00\x10\x00\x00\x00\x01\x00\x00\x00\x20\x00\x00\x00\x00\x00\x00\x00\x02\x00\x00\x00\x1c\x00\x00\x00\x00\x00\x00\x00\x03\x00\x00\x80\x08\x00\x00\x00\x04\x00\x00\x80\x00\x00\x00\x00\x02\x00\x00\x00\x14\x00\x00\x00\x10\x00\x00\x00\x05\x00\x00\x80";
+    let info = module_of(&rt, lines, &sizes)?;
+    let mut out = Vec::new(rt.alloc());
+    put_lines(rt.alloc(), &mut out, None, &info)?;
+    let wanted: &[u8] = b"0001:00000010 8 ??:3:0\n\
+        error 10 invalid length: DebugLinesBlock\n";
+    is(&rt, "out.as_slice()", &out.as_slice(), &wanted);
+    Ok(())
+}
+
+#[test]
+fn refused_lines(rt: HostRuntime) -> Result<(), Fail> {
+    let sizes = Sizes {
+        symbols: 0,
+        older_lines: 4,
+    };
+    let info = module_of(&rt, LINES, &sizes)?;
+    let mut out = Vec::new(rt.alloc());
+    put_lines(rt.alloc(), &mut out, None, &info)?;
+    let wanted: &[u8] = b"error 2 not supported: C11 line programs\n";
+    is(&rt, "out.as_slice()", &out.as_slice(), &wanted);
+    Ok(())
+}
+
+#[test]
+fn scopes_as_a_tree(rt: HostRuntime) -> Result<(), Fail> {
+    let records: [&[u8]; 23] = [
+        PROCEDURE,
+        b"\x03\x11\x20\x00\x00\x00p\x00\x00\x00\x12\x00\x00\x00p\x00\x00\x00\x01\x00\x00",
+        b"\x4d\x11\x00\x00\x00\x00\x60\x00\x00\x00\x01\x10\x00\x00",
+        b"\x3e\x11\x07\x10\x00\x00\x00\x00x\x00",
+        b"\x4e\x11",
+        b"\x06\x11t\x00\x00\x00\x11\x00r\x00",
+        b"\x4d\x11\x00\x00\x00\x00\x60\x00\x00\x00\x05\x10\x00\x00",
+        b"\x4e\x11",
+        b"\x06\x00",
+        b"\x11\x11\xf8\xff\xff\xff\x08\x10\x00\x00\x4f\x01y\x00",
+        b"\x06\x00",
+        b"\x06\x00",
+        b"\x32\x11\x30\x00\x00\x00\xb0\x00\x00\x00\x09\x00\x00\x00\x02\x00\x00\x00\xb0\x00\x00\x00\xc0\x00\x00\x00\x03\x00\x01\x00",
+        b"\x05\x11\x60\x00\x00\x00\x01\x00\x00k\x00",
+        b"\x06\x00",
+        b"\x02\x11\x00\x00\x00\x00\x80\x00\x00\x00\x00\x00\x00\x00\x80\x00\x00\x00\x01\x00\x05\x00\x00th\x00",
+        b"\x06\x00",
+        b"\x04\x11\x00",
+        b"\x0d\x11\x05\x10\x00\x00\x20\x00\x00\x00\x03\x00g\x00",
+        b"\x06\x00",
+        b"\x12\x11\x06\x10\x00\x00\x40\x00\x00\x00\x04\x00t\x00",
+        b"\x08\x11\x03\x10\x00\x00u\x00",
+        b"\x0e\x11\x01",
+    ];
+    let mut bytes = symbols_of(&rt, rt.alloc(), &records)?;
+    bytes.push(9)?;
+    let sizes = Sizes {
+        symbols: bytes.len(),
+        older_lines: 0,
+    };
+    let info = module_of(&rt, bytes.as_slice(), &sizes)?;
+    let ids = ItemFinder::new(rt.alloc(), &IDS)?;
+    let types = ItemFinder::empty(rt.alloc());
+    let mut out = Vec::new(rt.alloc());
+    put_scopes(rt.alloc(), &mut out, &ids, &types, &info)?;
+    let wanted: &[u8] = b"procedure 0001:00000050 33 f\n\
+        \x20 block 0001:00000070 18\n\
+        \x20   inlined ns::ab\n\
+        \x20     local x\n\
+        \x20   register r\n\
+        \x20   inlined ??\n\
+        \x20 relative y\n\
+        separated 0003:000000b0 9\n\
+        \x20 label 0001:00000060 k\n\
+        thunk 0001:00000080 5 th\n\
+        \x20 data 0003:00000020 g\n\
+        thread 0004:00000040 t\n\
+        error 1 the data ends before a record does\n";
+    is(&rt, "out.as_slice()", &out.as_slice(), &wanted);
+    Ok(())
+}
+
+#[test]
+fn symbols_by_their_scopes(rt: HostRuntime) -> Result<(), Fail> {
+    let records: [&[u8]; 5] = [
+        PROCEDURE,
+        b"\x08\x11\x03\x10\x00\x00u\x00",
+        b"\x06\x00",
+        b"\x06\x00",
+        b"\x0e\x11\x01",
+    ];
+    let mut bytes = symbols_of(&rt, rt.alloc(), &records)?;
+    bytes.push(9)?;
+    let sizes = Sizes {
+        symbols: bytes.len(),
+        older_lines: 0,
+    };
+    let info = module_of(&rt, bytes.as_slice(), &sizes)?;
+    let mut out = Vec::new(rt.alloc());
+    put_symbols_of(rt.alloc(), &mut out, &info)?;
+    let wanted: &[u8] = b"00000004 S_GPROC32 parent=- end=00000090 next=- len=33 \
+        dbg_start_offset=4 dbg_end_offset=30 type_index=00001009 offset=0001:00000050 flags=- \
+        global=true dpc=false f\n\
+        \x20 0000002d S_UDT type_index=00001003 u\n\
+        00000037 S_END\n\
+        0000003b S_END\n\
+        0000003f S_PUB32 error 1 bytes=01\n\
+        error 1 the data ends before a record does\n";
+    is(&rt, "out.as_slice()", &out.as_slice(), &wanted);
+    Ok(())
+}
+
+#[test]
+fn refused_symbols(rt: HostRuntime) -> Result<(), Fail> {
+    let sizes = Sizes {
+        symbols: 4,
+        older_lines: 0,
+    };
+    let info = module_of(&rt, &[5, 0, 0, 0], &sizes)?;
+    let ids = ItemFinder::empty(rt.alloc());
+    let mut out = Vec::new(rt.alloc());
+    put_symbols_of(rt.alloc(), &mut out, &info)?;
+    put_scopes(rt.alloc(), &mut out, &ids, &ids, &info)?;
+    let wanted: &[u8] = b"error 2 not supported: Unsupported symbol data format\n\
+        error 2 not supported: Unsupported symbol data format\n";
+    is(&rt, "out.as_slice()", &out.as_slice(), &wanted);
+    Ok(())
+}
