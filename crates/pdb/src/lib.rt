@@ -81,6 +81,7 @@ pub use pdb_modules::FileChecksum;
 pub use pdb_modules::FileInfo;
 pub use pdb_modules::FileIterator;
 pub use pdb_modules::Inlinee;
+pub use pdb_modules::InlineeFinder;
 pub use pdb_modules::InlineeIterator;
 pub use pdb_modules::InlineeLineIterator;
 pub use pdb_modules::LineInfo;

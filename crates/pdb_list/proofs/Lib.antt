@@ -3,7 +3,6 @@ pub mod Wrote
 pub mod Spelling
 pub mod Stopped
 pub mod LinePieces
-pub mod Listed
 pub mod ModuleLists
 pub mod Numbers
 pub mod Sites

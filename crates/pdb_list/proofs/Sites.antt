@@ -13,7 +13,8 @@ use Rattle.pdb.specs.Scopes.{StartsScope}
 use Rattle.pdb.specs.Forms.{record_at}
 use Rattle.pdb.specs.SymbolList.{Entry}
 use Rattle.pdb_list.specs.Texts.{fault_text}
-use Rattle.pdb_list.specs.ModuleTexts.{here, line_text, line_list_text, inlinee_text, inlinee_list_text, inlinee_with, sites_of_text, site_lines, site_text, sites_text, unless_fault, with_lines}
+use Rattle.pdb.specs.Inlinees.{inlinee_with}
+use Rattle.pdb_list.specs.ModuleTexts.{here, line_text, line_list_text, inlinee_text, inlinee_list_text, sites_of_text, site_lines, site_text, sites_text, unless_fault, with_lines}
 use Rattle.pdb_list.specs.ModuleTexts.Here.{at_site, passed}
 
 no_fault : (xs rest : List ℕ) (f : Option Error) → true ≡ is_none f → (xs ++ fault_text f) ++ rest ≡ xs ++ unless_fault f rest

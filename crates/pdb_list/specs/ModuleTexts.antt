@@ -1,7 +1,6 @@
 -- The texts of commands that name a module.
 use Rattle.std.specs.Prelude.{ℕ, List, [], ◌∷◌, ◌++◌, Option, Some, None, Result, Ok, codes, flat_map, map, ◌==◌, if◌then◌else◌}
 use Rattle.std.specs.Fmt.{decimal}
-use Rattle.std.specs.List.{find}
 use Rattle.pdb.specs.Error.{Error}
 use Rattle.pdb.specs.Refusal.{◌>>=◌}
 use Rattle.pdb.specs.Left.{Left, ended}
@@ -18,8 +17,8 @@ use Rattle.pdb.specs.ModuleStream.{ModuleBytes, symbols_of, line_program_of, inl
 use Rattle.pdb.specs.Lines.{lines_of}
 use Rattle.pdb.specs.Files.{FileOf, Checksum, files_of}
 use Rattle.pdb.specs.Files.Checksum.{absent, md5, sha1, sha256}
-use Rattle.pdb.specs.Inlinees.{InlineeEntry}
-use Rattle.pdb.specs.Inlined.{inlined_lines}
+use Rattle.pdb.specs.Inlinees.{InlineeEntry, inlinee_with}
+use Rattle.pdb.specs.Inlined.{lines_of_site}
 use Rattle.pdb.specs.CrossModule.{Reference, reference_of}
 use Rattle.pdb.specs.ExportViews.{export_of, is_id, local_of, global_number_of}
 use Rattle.pdb.specs.Answers.{module_of_file}
@@ -129,18 +128,10 @@ inlinee_text x = codes "inlinee " ++ hex 8 x.index ++ codes "\n"
 unfoldable pub site_text : ℕ → ℕ → List ℕ
 site_text index id = codes "site " ++ hex 8 index ++ codes " " ++ hex 8 id ++ codes "\n"
 
--- the first inlined function with an id
-abbrev pub inlinee_with : List InlineeEntry → ℕ → Option InlineeEntry
-inlinee_with xs id = find (λ x. x.index == id) xs
-
--- the line records of a site with these annotations, in a procedure with this offset: those of the inlined function; none where either isn't there
-abbrev pub lines_from : PdbInternalSectionOffset → List ℕ → Option InlineeEntry → Left LineInfo
-lines_from parent annotations None = ended
-lines_from parent annotations (Some x) = inlined_lines parent (record { 0 = x.file_index }) x.line annotations
-
+-- the line records of a site with these annotations, in a procedure with this offset; none where no procedure is before it
 abbrev pub site_lines : Option PdbInternalSectionOffset → List ℕ → Option InlineeEntry → Left LineInfo
 site_lines None annotations listed = ended
-site_lines (Some parent) annotations listed = lines_from parent annotations listed
+site_lines (Some parent) annotations listed = lines_of_site parent annotations listed
 
 -- what a symbol is here: a procedure with its offset, a site with its function's id and its annotations, or another one, which is passed over
 pub data Here : Type 0 where

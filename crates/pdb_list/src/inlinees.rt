@@ -4,18 +4,19 @@ ghost use Rattle.std.specs.Prelude.{◌≡◌, ◌++◌, None, OnOk, IfOk, codes
 ghost use Rattle.pdb.specs.AnnotationViews.{annotation_bytes};
 ghost use Rattle.pdb.specs.Forms.{record_at};
 ghost use Rattle.pdb.specs.InlinedViews.{inlined_left};
+ghost use Rattle.pdb.specs.Inlinees.{inlinee_with};
 ghost use Rattle.pdb.specs.ModuleViews.{inlinees_left};
 ghost use Rattle.pdb.specs.Views.{symbol_of, symbols_left};
 ghost use Rattle.pdb_text.specs.Digits.{hex};
 ghost use Rattle.pdb_list.specs.Shown.{shown_here};
-ghost use Rattle.pdb_list.specs.ModuleTexts.{here, inlinee_list_text, inlinee_text, inlinee_with, inlinees_of_text, line_list_text, site_lines, site_text, sites_of_text, sites_text};
+ghost use Rattle.pdb_list.specs.ModuleTexts.{here, inlinee_list_text, inlinee_text, inlinees_of_text, line_list_text, site_lines, site_text, sites_of_text, sites_text};
 
-use crate::known::Known;
 use crate::lines::put_line;
 use crate::text::{put_error, put_refusal};
 use pdb::{
-    Error, FallibleIterator, InlineSiteSymbol, Inlinee, InlineeIterator, InlineeLineIterator,
-    ModuleInfo, PdbInternalSectionOffset, Symbol, SymbolData, SymbolIndex, SymbolIter,
+    Error, FallibleIterator, InlineSiteSymbol, Inlinee, InlineeFinder, InlineeIterator,
+    InlineeLineIterator, ModuleInfo, PdbInternalSectionOffset, Symbol, SymbolData, SymbolIndex,
+    SymbolIter,
 };
 use pdb_text::hex8;
 use std::alloc::{AllocError, Global};
@@ -87,7 +88,7 @@ fn put_records(out: &mut Vec<u8>, mut lines: InlineeLineIterator<'_>) -> Result<
 /// The lines of a site's records, and of the fault of its annotations; answers whether there is no fault.
 fn put_site_lines(
     out: &mut Vec<u8>,
-    known: &Known<'_>,
+    known: &InlineeFinder<'_>,
     parent: Option<PdbInternalSectionOffset>,
     site: &InlineSiteSymbol<'_>,
 ) -> Result<bool, AllocError>
@@ -97,7 +98,7 @@ fn put_site_lines(
     let Some(parent) = parent else {
         return Ok(true);
     };
-    match known.get(site.inlinee.0) {
+    match known.find(site.inlinee) {
         Some(inlinee) => put_records(out, inlinee.lines(parent, site)),
         None => Ok(true),
     }
@@ -129,7 +130,7 @@ fn put_site(out: &mut Vec<u8>, index: SymbolIndex, id: u32) -> Result<(), AllocE
 fn put_list(
     alloc: Global,
     out: &mut Vec<u8>,
-    known: &Known<'_>,
+    known: &InlineeFinder<'_>,
     mut symbols: SymbolIter<'_>,
 ) -> Result<(), AllocError>
     ensures { OnOk result (out.new.items ≡ out.old.items ++ sites_text (inlinee_with known.now) None (symbols_left symbols.entry).items (symbols_left symbols.entry).fault) }
@@ -158,7 +159,7 @@ fn put_list(
 fn put_sites(
     alloc: Global,
     out: &mut Vec<u8>,
-    known: &Known<'_>,
+    known: &InlineeFinder<'_>,
     info: &ModuleInfo<'_>,
 ) -> Result<(), AllocError>
     ensures { OnOk result (out.new.items ≡ out.old.items ++ sites_of_text (inlinee_with known.now) info.now) }
@@ -186,7 +187,7 @@ fn put_whole(
                 listed.push(inlinee)?;
             }
             Ok(None) => {
-                let known = Known::of(listed)?;
+                let known = InlineeFinder::new(listed)?;
                 return put_sites(alloc, out, &known, info);
             }
             Err(e) => return put_error(out, e.number()),

@@ -11,7 +11,6 @@ mod files;
 mod in_parts;
 mod info;
 mod inlinees;
-mod known;
 mod lines;
 mod modules;
 mod names;

@@ -13,6 +13,7 @@ pub mod Sorting
 pub mod BlockLemmas
 pub mod Turns
 pub mod InlineeLemmas
+pub mod FirstInlinees
 pub mod ImportLemmas
 pub mod ExportLemmas
 pub mod FileLemmas

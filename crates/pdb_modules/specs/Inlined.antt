@@ -6,13 +6,14 @@ use Rattle.std.specs.Int.{w32, cast_unsigned}
 use Rattle.pdb_base.specs.declared.error.Error.{Error}
 use Rattle.pdb_base.specs.declared.index.FileIndex.{FileIndex}
 use Rattle.pdb_base.specs.declared.index.PdbInternalSectionOffset.{PdbInternalSectionOffset}
-use Rattle.pdb_base.specs.Left.{Left}
+use Rattle.pdb_base.specs.Left.{Left, ended}
 use Rattle.pdb_symbols.specs.declared.annotations.BinaryAnnotation.{BinaryAnnotation}
 use Rattle.pdb_symbols.specs.declared.annotations.BinaryAnnotation.TheVariants.{CodeOffset, ChangeCodeOffsetBase, ChangeCodeOffset, ChangeCodeLength, ChangeFile, ChangeLineOffset, ChangeLineEndDelta, ChangeRangeKind, ChangeColumnStart, ChangeColumnEndDelta, ChangeCodeOffsetAndLineOffset, ChangeCodeLengthAndCodeOffset, ChangeColumnEnd}
 use Rattle.pdb_modules.specs.declared.line_info.LineInfo.{LineInfo}
 use Rattle.pdb_modules.specs.declared.line_info.LineInfoKind.{LineInfoKind}
 use Rattle.pdb_modules.specs.declared.line_info.LineInfoKind.TheVariants.{Expression, Statement}
 use Rattle.pdb_modules.specs.declared.seen.Seen.{Seen}
+use Rattle.pdb_modules.specs.Inlinees.{InlineeEntry}
 use Rattle.pdb_symbols.specs.Annotations.{emits, annotations_of}
 
 -- ---- what each annotation sets, and what it moves
@@ -220,3 +221,8 @@ lines_left section s pending rest = record {
   items = unless_open rest.fault (option_to_list (option_map (completed s rest.items) pending) ++ records section s rest.items);
   fault = rest.fault;
 }
+
+-- the records of a site with these annotations, in a procedure that begins there: those of its inlined function; none where that isn't listed
+abbrev pub lines_of_site : PdbInternalSectionOffset → List ℕ → Option InlineeEntry → Left LineInfo
+lines_of_site parent annotations None = ended
+lines_of_site parent annotations (Some x) = inlined_lines parent (record { 0 = x.file_index }) x.line annotations

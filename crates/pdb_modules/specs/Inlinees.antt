@@ -1,5 +1,5 @@
 -- The inlined functions of a module, which stand one after another.
-use Rattle.std.specs.Prelude.{ℕ, ◌+◌, ◌*◌, ◌==◌, Bool, if◌then◌else◌, List, [], length, drop, Result, Ok}
+use Rattle.std.specs.Prelude.{ℕ, ◌+◌, ◌*◌, ◌==◌, Bool, if◌then◌else◌, List, [], length, drop, find, Option, Result, Ok}
 use Rattle.pdb_base.specs.declared.error.Error.{Error}
 use Rattle.pdb_base.specs.Refusal.{◌>>=◌}
 use Rattle.pdb_base.specs.Fields.{number, number_at, bytes_at}
@@ -43,3 +43,7 @@ inlinees_from extended b p = listing (inlinees extended) b p
 -- the inlined functions of a part, which stand behind a u32 signature: at 1 they may have further files
 unfoldable pub inlinees_in : List ℕ → Result (Left InlineeEntry) Error
 inlinees_in part = number_at part 0 4 >>= λ signature. Ok (inlinees_from (signature == 1) (drop 4 part) 0)
+
+-- the first inlined function with an id
+abbrev pub inlinee_with : List InlineeEntry → ℕ → Option InlineeEntry
+inlinee_with xs id = find (λ x. x.index == id) xs

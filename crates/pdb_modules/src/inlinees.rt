@@ -49,6 +49,20 @@ impl<'a> Inlinee<'a> {
         self.index
     }
 
+    /// The file in which the function begins: the place of its record among the module's checksums of files.
+    pub fn file_index(&self) -> FileIndex
+        ensures { result.0 ≡ self.now.file_index }
+    {
+        self.file_index
+    }
+
+    /// The line in which the function begins.
+    pub fn line(&self) -> u32
+        ensures { result ≡ self.now.line }
+    {
+        self.line
+    }
+
     /// The line records of an inline site of this function, in the procedure that begins at `parent`. Where the
     /// site's annotations have a fault it comes in place of the last record before it.
     pub fn lines(

@@ -4,6 +4,7 @@ mod cross_module;
 mod damaged;
 mod files;
 mod inlined;
+mod inlinees;
 mod lines;
 mod lists;
 mod markers;

@@ -1,6 +1,6 @@
 use Rattle.pdb.specs.AnnotationViews.{annotation_bytes}
 use Rattle.pdb.specs.Views.{symbol_of, symbols_left}
-use Rattle.pdb_list.specs.ModuleTexts.{inlinee_with}
+use Rattle.pdb.specs.Inlinees.{inlinee_with}
 use Rattle.pdb_list.proofs.Sites.{site_passed, site_stopped}
 use Rattle.pdb_list.proofs.inlinees.put_list.Goals as goal
 

@@ -1,6 +1,7 @@
 use Rattle.std.proofs.Common.{◌≡◌, ◌++◌, None, length}
 use Rattle.pdb.specs.Views.{symbols_left}
-use Rattle.pdb_list.specs.ModuleTexts.{inlinee_with, sites_text}
+use Rattle.pdb.specs.Inlinees.{inlinee_with}
+use Rattle.pdb_list.specs.ModuleTexts.{sites_text}
 use Rattle.pdb_list.proofs.inlinees.put_list.Given as goal
 
 -- what was put, and the sites of what is left, by the last procedure so far, are those of all

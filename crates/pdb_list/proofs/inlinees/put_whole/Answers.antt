@@ -1,6 +1,6 @@
 use Rattle.std.proofs.Common.{[], ◌∷◌, ◌++◌, ◌∙◌, ap}
 use Rattle.pdb.specs.ModuleViews.{inlinees_left}
-use Rattle.pdb_list.specs.ModuleTexts.{inlinee_with}
+use Rattle.pdb.specs.Inlinees.{inlinee_with}
 use Rattle.pdb_list.proofs.Sites.{seen_more, told_more, whole_told}
 use Rattle.pdb_text.proofs.Written.{on_ok}
 use Rattle.pdb_list.proofs.inlinees.put_whole.Goals as goal
