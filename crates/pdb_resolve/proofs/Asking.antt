@@ -1,5 +1,5 @@
 -- What an accessor answered, as if it weren't there where it is refused.
-use Rattle.std.proofs.Common.{◌≡◌, Result, Ok, Err, ◌⊎◌, inl, inr, true, false, Option, Bor, ap, ◌∙◌}
+use Rattle.std.proofs.Common.{◌≡◌, Result, Ok, Err, ◌⊎◌, inl, inr, false, Option, Bor, ap, ◌∙◌}
 use Rattle.std.specs.Prelude.{option_copied, IfOk, IfErr}
 use Rattle.pdb.specs.Error.{Error}
 use Rattle.pdb.specs.Error.TheVariants.{IoError, OutOfMemory}

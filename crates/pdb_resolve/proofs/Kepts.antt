@@ -1,5 +1,5 @@
 -- What is kept of a file.
-use Rattle.std.proofs.Common.{◌≡◌, ℕ, zero, suc, ◌∷◌, inl, inr, subst, ◌<◌, ◌≤◌, List, Option, Some, None, Box, Bor, Bool, true, false, ap, sym, ◌∙◌, refl, map, length, replicate, slice_set, slice_index_or, arith}
+use Rattle.std.proofs.Common.{◌≡◌, ℕ, zero, suc, ◌∷◌, inl, inr, subst, ◌<◌, ◌≤◌, List, Option, Some, None, Box, Bor, false, ap, sym, ◌∙◌, refl, map, length, replicate, slice_set, slice_index_or, arith}
 use Rattle.std.specs.Prelude.{slice_get, option_copied, Result, Ok, Err, OnOk, IfOk, IfErr}
 use Rattle.pdb.specs.Error.{Error}
 use Rattle.pdb.specs.Error.TheVariants.{OutOfMemory}

@@ -1,8 +1,12 @@
 -- The symbols of a procedure's scope: indices rise, so those between it and its end stand behind it, up to the first that is not.
-use Rattle.std.proofs.Common.{◌≡◌, ℕ, ◌<◌, ◌≤◌, ◌&&◌, Bool, true, false, cond, List, [], ◌∷◌, ◌++◌, Option, Some, None, refl, sym, ap, subst, ◌∙◌, append_assoc, arith}
+use Rattle.std.proofs.Common.{◌≡◌, ℕ, zero, suc, ◌+◌, ◌<◌, ◌≤◌, ◌&&◌, Bool, true, false, cond, List, [], ◌∷◌, ◌++◌, length, drop, map, get_or, Option, Some, None, refl, sym, ap, ◌∙◌, append_assoc, leb, arith}
 use Rattle.std.specs.Prelude.{find, filter_map, nat_lt}
+use Rattle.std.specs.List.{cons_option}
 use Rattle.std.specs.Option.{option_to_list}
-use Rattle.std.proofs.lemmas.Bool.{ltb-false, lt-ltb, le-ltb}
+use Rattle.std.proofs.lemmas.Bool.{leb-true, leb-false, ltb-false, lt-ltb, le-ltb}
+use Rattle.std.proofs.lemmas.List.{drop_more}
+use Rattle.std.proofs.lemmas.List.Sorted.{IsPartitionedBy-leb}
+use Rattle.std.specs.List.Sorted.{IsPartitionPoint, IsPartitionedBy}
 use Rattle.pdb.specs.PdbInternalSectionOffset.{PdbInternalSectionOffset}
 use Rattle.pdb.specs.Forms.{record_at}
 use Rattle.pdb.specs.Inlinees.{InlineeEntry}
@@ -10,7 +14,9 @@ use Rattle.pdb.specs.SymbolList.{Entry, symbols_from}
 use Rattle.pdb_symbols.proofs.SymbolLaws.{spaced}
 use Rattle.pdb_resolve.specs.ModuleCode.{Code, Role, role, procedure_of_role, procedure_of, code_covers, index_of, Call, call_of_role, between, call_in}
 use Rattle.pdb_resolve.specs.ModuleCode.Role.{at_procedure, at_other, at_site, passed}
-use Rattle.pdb_resolve.specs.Kept.{calls_until, calls_from, calls_behind}
+use Rattle.pdb.specs.Views.{symbol_of}
+use Rattle.pdb_symbols.specs.declared.symbol.Symbol.{Symbol}
+use Rattle.pdb_resolve.specs.Kept.{calls_until, site_if, site_of, place_of, AreRising, IsBehind}
 
 -- ---- indices rise
 
@@ -116,14 +122,6 @@ module _ (q : PdbInternalSectionOffset) (listed : ℕ → Option InlineeEntry) (
   none_behind [] n l h = refl
   none_behind (t ∷ ts) n l h = none_more t ts (not_before t (let a = h.0 in omega arith)) ∙ none_behind ts n l h.1
 
-  none_until : (ss : List Entry) (s : Entry) (after : List Entry) → s.index ≡ c.index → Rises (ss ++ s ∷ after) → filter_map (call_in q listed c) (ss ++ s ∷ after) ≡ filter_map (call_in q listed c) (s ∷ after)
-  none_until [] s after e h = refl
-  none_until (t ∷ ss) s after e h = none_more t (ss ++ s ∷ after) (not_behind t (let l = above_at ss h.0 in omega arith)) ∙ none_until ss s after e h.1
-    where
-      above_at : (ss : List Entry) → Above t.index (ss ++ s ∷ after) → t.index < s.index
-      above_at [] h = h.0
-      above_at (x ∷ ss) h = above_at ss h.1
-
   within : (t : Entry) (ts : List Entry) (b : Bool) → nat_lt t.index c.end ≡ b → c.index < t.index → Above t.index ts
       → filter_map (call_in q listed c) ts ≡ calls_until q listed c.place c.end ts
       → filter_map (call_in q listed c) (t ∷ ts) ≡ cond b (option_to_list (call_of_role q listed c.place (role (record_at t.bytes))) ++ calls_until q listed c.place c.end ts) []
@@ -143,19 +141,122 @@ module _ (q : PdbInternalSectionOffset) (listed : ℕ → Option InlineeEntry) (
   until [] a r = refl
   until (t ∷ ts) a r = within t ts (nat_lt t.index c.end) refl a.0 r.0 (until ts a.1 r.1)
 
-  -- the calls of the procedure's scope are those of the list that begins with its symbol
-  pub scope_calls : (ss : List Entry) → Rises ss → (h : Stands procedure_of ss c) → filter_map (call_in q listed c) ss ≡ calls_from q listed (h.symbol ∷ h.after)
-  scope_calls ss rises h =
-      let p = is_procedure h.symbol c h.says in
-      let r : Rises (h.before ++ h.symbol ∷ h.after) = subst Rises h.whole rises in
-      let at = rises_at h.before r in
-      let i = p.index in
-      ap (filter_map (call_in q listed c)) h.whole
-      ∙ (none_until h.before h.symbol h.after (sym p.index) r
-      ∙ (none_more h.symbol h.after (not_behind h.symbol (omega arith))
-      ∙ (until h.after (subst (λ (n : ℕ). Above n h.after) (sym p.index) at.0) at.1
-      ∙ sym (ap (λ (x : Role). calls_behind q listed x h.after) p.is))))
+  -- ---- of sites alone
+
+  silent : (b : Bool) (o : Option Call) → o ≡ None → cond b o None ≡ None
+  silent true o f = f
+  silent false o f = refl
+
+  silent_at : (t : Entry) (h : Role) → role (record_at t.bytes) ≡ h → call_of_role q listed c.place h ≡ None → call_in q listed c t ≡ None
+  silent_at t h e f =
+      ap (λ (x : Role). cond (between q listed c t) (call_of_role q listed c.place x) None) e
+      ∙ silent (between q listed c t) (call_of_role q listed c.place h) f
+
+  enough_by : (t : Entry) (ts : List Entry) (h : Role) → role (record_at t.bytes) ≡ h
+      → filter_map (call_in q listed c) ts ≡ filter_map (call_in q listed c) (filter_map site_of ts)
+      → filter_map (call_in q listed c) (t ∷ ts) ≡ filter_map (call_in q listed c) (cons_option (site_if t h) (filter_map site_of ts))
+  enough_by t ts (at_site id annotations) e rest = ap (λ (l : List Call). cons_option (call_in q listed c t) l) rest
+  enough_by t ts (at_procedure place size end) e rest = none_more t ts (silent_at t (at_procedure place size end) e refl) ∙ rest
+  enough_by t ts (at_other place size end) e rest = none_more t ts (silent_at t (at_other place size end) e refl) ∙ rest
+  enough_by t ts passed e rest = none_more t ts (silent_at t passed e refl) ∙ rest
+
+  -- what isn't a site has no call
+  pub enough : (ts : List Entry) → filter_map (call_in q listed c) ts ≡ filter_map (call_in q listed c) (filter_map site_of ts)
+  enough [] = refl
+  enough (t ∷ ts) = enough_by t ts (role (record_at t.bytes)) refl (enough ts)
+
+  -- of symbols whose indices rise, the calls are those of the ones behind the procedure
+  pub behind_calls : (ss : List Symbol) (n : ℕ) → Rises (map symbol_of ss) → IsBehind c.index ss n
+      → filter_map (call_in q listed c) (map symbol_of ss) ≡ calls_until q listed c.place c.end (map symbol_of (drop n ss))
+  behind_calls [] zero r h = refl
+  behind_calls [] (suc n) r h = let i = h.inside in absurd (omega arith)
+  behind_calls (s ∷ ss) zero r h =
+      let b = h.behind 0 s (omega arith) (omega arith) in
+      until (symbol_of s ∷ map symbol_of ss) (b, above_more c.index (symbol_of s).index (map symbol_of ss) (omega arith) r.0) r
+  behind_calls (s ∷ ss) (suc n) r h =
+      none_more (symbol_of s) (map symbol_of ss) (not_behind (symbol_of s) (h.upto 0 s (omega arith))) ∙ behind_calls ss n r.1 (later h)
     where
-      rises_at : (xs : List Entry) → Rises (xs ++ h.symbol ∷ h.after) → Above h.symbol.index h.after × Rises h.after
-      rises_at [] r = r
-      rises_at (x ∷ xs) r = rises_at xs r.1
+      later : IsBehind c.index (s ∷ ss) (suc n) → IsBehind c.index ss n
+      later h = record {
+        inside = (let i = h.inside in omega arith);
+        upto = λ k d l. h.upto (suc k) d (omega arith);
+        behind = λ k d l m. h.behind (suc k) d (omega arith) (omega arith);
+      }
+
+-- ---- one more symbol
+
+sites_more : (o : Option Entry) (ts : List Entry) → cons_option o ts ≡ option_to_list o ++ ts
+sites_more None ts = refl
+sites_more (Some t) ts = refl
+
+pub one_more_site : (s : Entry) (old new : List Entry) (rs ss : List Symbol) (all : List Entry)
+    → old ≡ s ∷ new → map symbol_of ss ≡ map symbol_of rs ++ option_to_list (site_of s)
+    → map symbol_of rs ++ filter_map site_of old ≡ all
+    → map symbol_of ss ++ filter_map site_of new ≡ all
+one_more_site s old new rs ss all follows added before =
+    ap (λ (l : List Entry). l ++ filter_map site_of new) added
+    ∙ (append_assoc (map symbol_of rs) (option_to_list (site_of s)) (filter_map site_of new)
+    ∙ (ap (λ (l : List Entry). map symbol_of rs ++ l) (sym (sites_more (site_of s) (filter_map site_of new)))
+    ∙ (ap (λ (l : List Entry). map symbol_of rs ++ filter_map site_of l) (sym follows)
+    ∙ before)))
+
+-- ---- one more site
+
+pub one_more_call : (q : PdbInternalSectionOffset) (listed : ℕ → Option InlineeEntry) (parent : PdbInternalSectionOffset) (end : ℕ) (sites : List Symbol) (i : ℕ) (s : Symbol) (old new all : List Call)
+    → i < length sites → get_or sites i s ≡ s → (symbol_of s).index < end
+    → new ≡ old ++ option_to_list (call_of_role q listed parent (role (record_at (symbol_of s).bytes)))
+    → old ++ calls_until q listed parent end (map symbol_of (drop i sites)) ≡ all
+    → new ++ calls_until q listed parent end (map symbol_of (drop (i + 1) sites)) ≡ all
+one_more_call q listed parent end sites i s old new all l same below added before =
+    let call = option_to_list (call_of_role q listed parent (role (record_at (symbol_of s).bytes))) in
+    let rest = calls_until q listed parent end (map symbol_of (drop (i + 1) sites)) in
+    let head : drop i sites ≡ s ∷ drop (i + 1) sites = drop_more sites i s l ∙ ap (λ (x : Symbol). x ∷ drop (i + 1) sites) same in
+    let turn : calls_until q listed parent end (map symbol_of (drop i sites)) ≡ call ++ rest =
+    ap (λ (ss : List Symbol). calls_until q listed parent end (map symbol_of ss)) head ∙ ap (λ (b : Bool). cond b (call ++ rest) []) (lt-ltb (symbol_of s).index end below) in
+    ap (λ (l : List Call). l ++ rest) added ∙ (append_assoc old call rest ∙ (ap (λ (l : List Call). old ++ l) (sym turn) ∙ before))
+
+-- ---- the indices of sites rise
+
+above_by : (n : ℕ) (t : Entry) (ts : List Entry) (h : Role) → n < t.index → Above n (filter_map site_of ts) → Above n (cons_option (site_if t h) (filter_map site_of ts))
+above_by n t ts (at_site id annotations) l rest = (l, rest)
+above_by n t ts (at_procedure place size end) l rest = rest
+above_by n t ts (at_other place size end) l rest = rest
+above_by n t ts passed l rest = rest
+
+above_sites : (n : ℕ) (ts : List Entry) → Above n ts → Above n (filter_map site_of ts)
+above_sites n [] a = tt
+above_sites n (t ∷ ts) a = above_by n t ts (role (record_at t.bytes)) a.0 (above_sites n ts a.1)
+
+rises_by : (t : Entry) (ts : List Entry) (h : Role) → Above t.index (filter_map site_of ts) → Rises (filter_map site_of ts) → Rises (cons_option (site_if t h) (filter_map site_of ts))
+rises_by t ts (at_site id annotations) a r = (a, r)
+rises_by t ts (at_procedure place size end) a r = r
+rises_by t ts (at_other place size end) a r = r
+rises_by t ts passed a r = r
+
+pub rises_sites : (ts : List Entry) → Rises ts → Rises (filter_map site_of ts)
+rises_sites [] r = tt
+rises_sites (t ∷ ts) r = rises_by t ts (role (record_at t.bytes)) (above_sites t.index ts r.0) (rises_sites ts r.1)
+
+above_there : (n : ℕ) (ss : List Symbol) (j : ℕ) (d : Symbol) → Above n (map symbol_of ss) → j < length ss → n < place_of (get_or ss j d)
+above_there n [] j d a l = absurd (omega arith)
+above_there n (s ∷ ss) zero d a l = a.0
+above_there n (s ∷ ss) (suc j) d a l = above_there n ss j d a.1 (omega arith)
+
+pub rising : (ss : List Symbol) → Rises (map symbol_of ss) → AreRising ss
+rising [] r i j d m l = absurd (omega arith)
+rising (s ∷ ss) r zero zero d m l = omega arith
+rising (s ∷ ss) r zero (suc j) d m l = let a = above_there (place_of s) ss j d r.0 (omega arith) in omega arith
+rising (s ∷ ss) r (suc i) zero d m l = absurd (omega arith)
+rising (s ∷ ss) r (suc i) (suc j) d m l = rising ss r.1 i j d (omega arith) (omega arith)
+
+-- ---- those at or before an index
+
+pub upto_point : (ss : List Symbol) (index n : ℕ) → AreRising ss → n ≤ length ss
+    → (IsPartitionedBy (λ s. leb (place_of s) index) ss → IsPartitionPoint (λ s. leb (place_of s) index ≡ true) (λ s. leb (place_of s) index ≡ false) ss n)
+    → IsBehind index ss n
+upto_point ss index n up inside by_point =
+    let point = by_point (IsPartitionedBy-leb place_of ss index up) in record {
+      inside = inside;
+      upto = λ k d l. leb-true (place_of (get_or ss k d)) index (point.0 k d (omega arith) l);
+      behind = λ k d l m. leb-false (place_of (get_or ss k d)) index (point.1 k d l m);
+    }

@@ -1,5 +1,5 @@
 -- The calls of the list that begins at a procedure's symbol are the inlined calls at the place.
-use Rattle.std.proofs.Common.{◌≡◌, ℕ, List, [], ◌∷◌, Option, Some, None, Result, Ok, Err, ◌<◌, ◌++◌, ◌==◌, Bool, cond, filter_map, refl, sym, ap, subst, ◌∙◌, arith}
+use Rattle.std.proofs.Common.{◌≡◌, ℕ, List, [], ◌∷◌, Option, Some, None, Result, Ok, Err, ◌<◌, ◌++◌, ◌==◌, Bool, cond, filter_map, map, drop, refl, sym, ap, subst, ◌∙◌, arith}
 use Rattle.std.specs.Prelude.{find, IfOk}
 use Rattle.std.specs.Option.{option_map, option_or}
 use Rattle.std.proofs.lemmas.Bool.{eq-eqb, ne_eqb}
@@ -14,8 +14,10 @@ use Rattle.pdb.specs.Forms.{record_at}
 use Rattle.pdb_resolve.specs.ModuleCode.{Code, Role, role, other_of_role, symbols_in, inlinees_in, inlinee_with, procedure_of, other_of, code_covers, procedure_at, other_at, function_at, index_of, call_in, calls_in, inlined_at, says_if, says_at}
 use Rattle.pdb_resolve.specs.ModuleCode.Role.{at_procedure, at_other, at_site, passed}
 use Rattle.pdb_resolve.specs.AsIfEmpty.{items_of}
-use Rattle.pdb_resolve.specs.Kept.{calls_from, IsListed, head_says}
-use Rattle.pdb_resolve.proofs.Scopes.{Stands, stands, scope_calls, symbols_rise, Above, Rises, is_procedure}
+use Rattle.pdb.specs.Views.{symbol_of}
+use Rattle.pdb_symbols.specs.declared.symbol.Symbol.{Symbol}
+use Rattle.pdb_resolve.specs.Kept.{calls_among, calls_behind, sites_in, AreRising, IsBehind, IsListed, head_says}
+use Rattle.pdb_resolve.proofs.Scopes.{Stands, stands, enough, behind_calls, rises_sites, rising, symbols_rise, Above, Rises, is_procedure}
 
 pub on_ok : {X E : Type 0} (P Q : X → Type 0) → ((x : X) → P x → Q x) → (r : Result X E) → IfOk r P → IfOk r Q
 on_ok P Q h (Ok x) p = h x p
@@ -61,30 +63,48 @@ without_part q m index e (Err f) p h = no_calls q m (no_procedure q m (symbols_n
 pub without_symbols : (q : PdbInternalSectionOffset) (m : ModuleBytes) (index : ℕ) (e : Error) → symbols_at_of index m ≡ Err e → inlined_at q m ≡ []
 without_symbols q m index e h = without_part q m index e (symbols_part_of m) refl h
 
+-- ---- the indices of a module's sites rise
+
+rise_by : (m : ModuleBytes) (r : Result (List ℕ) Error) → symbols_part_of m ≡ r → Rises (symbols_in m)
+rise_by m (Ok part) p = subst Rises (sym (symbols_by m part p)) (symbols_rise part 4)
+rise_by m (Err e) p = subst Rises (sym (symbols_none m e p)) tt
+
+kept_rise : (m : ModuleBytes) (kept : List Symbol) → map symbol_of kept ≡ sites_in m → Rises (map symbol_of kept)
+kept_rise m kept same = subst Rises (sym same) (rises_sites (symbols_in m) (rise_by m (symbols_part_of m) refl))
+
+pub sites_rise : (m : ModuleBytes) (kept : List Symbol) → map symbol_of kept ≡ sites_in m → AreRising kept
+sites_rise m kept same = rising kept (kept_rise m kept same)
+
 -- ---- where one is found
 
-module _ (q : PdbInternalSectionOffset) (m : ModuleBytes) (index : ℕ) (left : Left Entry) where
-  with_part : (c : Code) → procedure_at q m ≡ Some c → c.index ≡ index → symbols_at_of index m ≡ Ok left → (r : Result (List ℕ) Error) → symbols_part_of m ≡ r → calls_from q (inlinee_with (inlinees_in m)) left.items ≡ inlined_at q m
+module _ (q : PdbInternalSectionOffset) (m : ModuleBytes) (index : ℕ) (left : Left Entry) (kept : List Symbol) (same : map symbol_of kept ≡ sites_in m) (n : ℕ) (behind : IsBehind index kept n) where
+  abbrev rest : List Entry
+  rest = map symbol_of (drop n kept)
+
+  with_part : (c : Code) → procedure_at q m ≡ Some c → c.index ≡ index → symbols_at_of index m ≡ Ok left → (r : Result (List ℕ) Error) → symbols_part_of m ≡ r → calls_among q (inlinee_with (inlinees_in m)) rest left.items ≡ inlined_at q m
   with_part c found is h (Err e) p = let f = at_none m index e p in absurd cc
   with_part c found is h (Ok part) p =
       let listed = inlinee_with (inlinees_in m) in
       let symbols : symbols_in m ≡ (symbols_from part 4).items = symbols_by m part p in
       let s : Stands procedure_of (symbols_from part 4).items c = stands procedure_of q (symbols_from part 4).items c (ap (λ (ss : List Entry). find (code_covers q) (filter_map procedure_of ss)) (sym symbols) ∙ found) in
-      let place : s.symbol.index ≡ index = sym (is_procedure s.symbol c s.says).index ∙ is in
+      let says = is_procedure s.symbol c s.says in
+      let place : s.symbol.index ≡ index = sym says.index ∙ is in
       let from = at_by m index part p in
       let left_is : left ≡ symbols_from part index = cc in
       let items : left.items ≡ s.symbol ∷ s.after =
       ap (λ (l : Left Entry). l.items) (left_is ∙ (ap (symbols_from part) (sym place) ∙ resumes_at part 4 s.before s.after s.symbol s.whole)) in
-      ap (calls_from q listed) items
-      ∙ (sym (scope_calls q listed c (symbols_from part 4).items (symbols_rise part 4) s)
-      ∙ (ap (filter_map (call_in q listed c)) (sym symbols)
-      ∙ sym (ap (calls_in q listed (symbols_in m)) found)))
+      ap (calls_among q listed rest) items
+      ∙ (ap (λ (x : Role). calls_behind q listed x rest) says.is
+      ∙ (sym (behind_calls q listed c kept n (kept_rise m kept same) (subst (λ (i : ℕ). IsBehind i kept n) (sym is) behind))
+      ∙ (ap (filter_map (call_in q listed c)) same
+      ∙ (sym (enough q listed c (symbols_in m))
+      ∙ sym (ap (calls_in q listed (symbols_in m)) found)))))
 
-  by_procedure : (o : Option Code) → procedure_at q m ≡ o → option_map index_of o ≡ Some index → symbols_at_of index m ≡ Ok left → calls_from q (inlinee_with (inlinees_in m)) left.items ≡ inlined_at q m
+  by_procedure : (o : Option Code) → procedure_at q m ≡ o → option_map index_of o ≡ Some index → symbols_at_of index m ≡ Ok left → calls_among q (inlinee_with (inlinees_in m)) rest left.items ≡ inlined_at q m
   by_procedure None found is h = absurd cc
   by_procedure (Some c) found is h = let same : c.index ≡ index = cc in with_part c found same h (symbols_part_of m) refl
 
-  pub calls_found : option_map index_of (procedure_at q m) ≡ Some index → symbols_at_of index m ≡ Ok left → calls_from q (inlinee_with (inlinees_in m)) left.items ≡ inlined_at q m
+  pub calls_found : option_map index_of (procedure_at q m) ≡ Some index → symbols_at_of index m ≡ Ok left → calls_among q (inlinee_with (inlinees_in m)) rest left.items ≡ inlined_at q m
   calls_found is h = by_procedure (procedure_at q m) refl is h
 
 -- ---- what a symbol says that is found

@@ -1,7 +1,6 @@
 -- A site's record says the function and the annotations that stand in it.
-use Rattle.std.proofs.Common.{◌≡◌, ◌≤◌, ℕ, Bool, true, false, List, length, Result, Ok, Err, refl, ap, sym, ◌∙◌, arith, leb}
-use Rattle.pdb.specs.Error.{Error}
-use Rattle.pdb.specs.Fields.{number_at, number}
+use Rattle.std.proofs.Common.{◌≡◌, ◌≤◌, ℕ, Bool, true, false, List, length, refl, ap, ◌∙◌, arith, leb}
+use Rattle.pdb.specs.Fields.{number_at}
 use Rattle.pdb.specs.Forms.{kind_at, record_at, fields_at}
 use Rattle.pdb_base.specs.Layouts.{together_at}
 use Rattle.pdb_symbols.specs.Kinds.{row}

@@ -1,5 +1,6 @@
 -- Words of private functions, and what is kept of a module.
-use Rattle.std.specs.Prelude.{◌≡◌, ◌≤◌, find, length, drop, ℕ, nat_le, nat_lt, if◌then◌else◌, List, [], ◌∷◌, ◌++◌, Option, None, map}
+use Rattle.std.specs.Prelude.{◌≡◌, ◌<◌, ◌≤◌, find, filter_map, get_or, length, drop, ℕ, nat_le, nat_lt, if◌then◌else◌, List, [], ◌∷◌, ◌++◌, Option, Some, None, map}
+use Rattle.std.specs.List.Sorted.{IsNonDecreasingBy}
 use Rattle.std.specs.Option.{option_map, option_to_list}
 use Rattle.pdb.specs.PdbInternalSectionOffset.{PdbInternalSectionOffset}
 use Rattle.pdb.specs.AnnotationViews.{annotation_bytes}
@@ -7,6 +8,9 @@ use Rattle.pdb.specs.Data.{Data}
 use Rattle.pdb.specs.Fields.{number}
 use Rattle.pdb.specs.Forms.{record_at}
 use Rattle.pdb.specs.SymbolList.{Entry}
+use Rattle.pdb.specs.ModuleStream.{ModuleBytes}
+use Rattle.pdb.specs.Views.{symbol_of}
+use Rattle.pdb_symbols.specs.declared.symbol.Symbol.{Symbol}
 use Rattle.pdb.specs.Inlinees.{InlineeEntry}
 use Rattle.pdb_resolve.specs.declared.range.CodeRange.{CodeRange}
 use Rattle.pdb_resolve.specs.declared.role.Role.{Role as Read}
@@ -14,7 +18,7 @@ use Rattle.pdb_resolve.specs.declared.role.Role.TheVariants.{Procedure, Other, S
 use Rattle.pdb_resolve.specs.declared.calls.InlinedCall.{InlinedCall}
 use Rattle.pdb_resolve.specs.Covering.{first_covering}
 use Rattle.pdb_resolve.specs.RangeOrder.{InOrder}
-use Rattle.pdb_resolve.specs.ModuleCode.{Code, Role, role, Call, call_of_role, index_of, code_covers, AreCodesApart, says}
+use Rattle.pdb_resolve.specs.ModuleCode.{Code, Role, role, Call, call_of_role, index_of, code_covers, symbols_in, AreCodesApart, says}
 use Rattle.pdb_resolve.specs.ModuleCode.Role.{at_procedure, at_other, at_site, passed}
 
 -- what a symbol is to the code
@@ -52,10 +56,34 @@ module _ (q : PdbInternalSectionOffset) (listed : ℕ → Option InlineeEntry) w
   calls_behind (at_procedure place length end) ts = calls_until place end ts
   calls_behind h ts = []
 
-  -- the calls of a list that begins with a procedure
-  abbrev pub calls_from : List Entry → List Call
-  calls_from [] = []
-  calls_from (s ∷ ss) = calls_behind (role (record_at s.bytes)) ss
+  -- the calls of the sites behind a procedure, with which a list begins
+  abbrev pub calls_among : List Entry → List Entry → List Call
+  calls_among sites [] = []
+  calls_among sites (s ∷ ss) = calls_behind (role (record_at s.bytes)) sites
+
+-- a symbol that is a site
+abbrev pub site_if : Entry → Role → Option Entry
+site_if s (at_site id annotations) = Some s
+site_if s h = None
+
+abbrev pub site_of : Entry → Option Entry
+site_of s = site_if s (role (record_at s.bytes))
+
+-- the sites of a module
+abbrev pub sites_in : ModuleBytes → List Entry
+sites_in m = filter_map site_of (symbols_in m)
+
+abbrev pub place_of : Symbol → ℕ
+place_of s = (symbol_of s).index
+
+abbrev pub AreRising : List Symbol → Type 0
+AreRising ss = IsNonDecreasingBy place_of ss
+
+-- the first n of these symbols are those at or before an index
+pub record IsBehind (index : ℕ) (ss : List Symbol) (n : ℕ) : Type 0 where
+  pub inside : n ≤ length ss
+  pub upto : (k : ℕ) (d : Symbol) → k < n → place_of (get_or ss k d) ≤ index
+  pub behind : (k : ℕ) (d : Symbol) → n ≤ k → k < length ss → index < place_of (get_or ss k d)
 
 -- ranges that are kept find what these pieces of code have, and stand in order where those don't overlap
 pub record IsKeptOf (cs : List Code) (rs : List CodeRange) : Type 0 where

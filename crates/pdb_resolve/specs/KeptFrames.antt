@@ -1,11 +1,14 @@
 -- What contracts see of frames, and of the tables of names.
-use Rattle.std.specs.Prelude.{ℕ, List, Option}
-use Rattle.std.specs.Option.{option_map}
-use Rattle.pdb.specs.Qualified.{shown_qualified}
+use Rattle.std.specs.Prelude.{◌≡◌, ℕ, List, Option, Some, None}
+use Rattle.std.specs.Option.{option_map, unwrap_or}
+use Rattle.pdb.specs.LineInfo.{LineInfo}
+use Rattle.pdb.specs.LineProgram.{ProgramOf}
+use Rattle.pdb.specs.Qualified.{Qualified, shown_qualified}
 use Rattle.pdb.specs.Text.{name_bytes}
 use Rattle.pdb_resolve.specs.declared.frames.Frame.{Frame as FrameRead}
 use Rattle.pdb_resolve.specs.declared.frames.FunctionNames.{FunctionNames}
-use Rattle.pdb_resolve.specs.Frames.{Frame, Names}
+use Rattle.pdb_resolve.specs.declared.frames.NamedFile.{NamedFile}
+use Rattle.pdb_resolve.specs.Frames.{Frame, Names, file_name, file_in}
 
 -- what a frame shows
 abbrev pub shown_frame : FrameRead → Frame
@@ -14,3 +17,12 @@ shown_frame f = record { name = option_map shown_qualified f.name; file = option
 -- the names of functions and of files
 abbrev pub names_of : FunctionNames → Option (List ℕ) → Names
 names_of n strings = record { ids = n.ids; types = n.types; strings = strings }
+
+-- a frame with a line record in a file of this name
+abbrev pub frame_named : Option (List ℕ) → Option Qualified → LineInfo → Frame
+frame_named file name r = record { name = name; file = file; line = r.line_start; column = unwrap_or r.column_start 0 }
+
+-- a file has the name that its index tells
+abbrev pub IsNamedIn : Option (List ℕ) → Option ProgramOf → Option NamedFile → Type 0
+IsNamedIn strings program None = Unit {0}
+IsNamedIn strings program (Some f) = option_map name_bytes f.name ≡ file_name strings (file_in program f.index.0)

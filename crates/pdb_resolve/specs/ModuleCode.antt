@@ -1,5 +1,5 @@
 -- What stands at a place of a module's code: the function, the line, the inlined calls.
-use Rattle.std.specs.Prelude.{◌≡◌, ◌⊎◌, All, ℕ, Bool, true, false, ◌+◌, ◌&&◌, ◌==◌, nat_le, nat_lt, if◌then◌else◌, List, [], Option, Some, None, Result, Ok, Err, find, filter_map}
+use Rattle.std.specs.Prelude.{◌≡◌, ◌⊎◌, All, ℕ, Bool, true, false, ◌+◌, ◌&&◌, ◌==◌, nat_le, nat_lt, if◌then◌else◌, List, [], Option, Some, None, Result, Ok, find, filter_map}
 use Rattle.std.specs.Option.{option_map, option_or}
 use Rattle.pdb.specs.Error.{Error}
 use Rattle.pdb.specs.Left.{Left, ended}

@@ -6,7 +6,7 @@ ghost use Rattle.pdb.specs.AnnotationViews.{annotation_bytes};
 ghost use Rattle.pdb.specs.Views.{symbol_of, symbols_left};
 ghost use Rattle.pdb.specs.Forms.{record_at};
 ghost use Rattle.pdb_resolve.specs.ModuleCode.{first_line, lines_from, role, call_of, call_of_role, inlinee_with};
-ghost use Rattle.pdb_resolve.specs.Kept.{shown_call, shown_role, calls_until, calls_from};
+ghost use Rattle.pdb_resolve.specs.Kept.{shown_call, shown_role, calls_until, calls_among, AreRising, IsBehind};
 
 use crate::known::Known;
 use crate::lines::first_inlined_line;
@@ -82,47 +82,51 @@ fn add<'a>(
     }
 }
 
-/// The calls of the symbols that an iterator has left, up to the end of their procedure's scope.
+/// The calls of sites up to the end of their procedure's scope.
 fn calls_until<'a>(
     alloc: Global,
     known: &Known<'a>,
-    mut symbols: SymbolIter<'a>,
+    sites: &[Symbol<'a>],
     place: PdbInternalSectionOffset,
     parent: PdbInternalSectionOffset,
     end: SymbolIndex,
 ) -> Result<Vec<InlinedCall>>
-    ensures calls { IfOk result (λ calls. map shown_call calls.items ≡ calls_until place (inlinee_with known.now) parent end.0 (symbols_left symbols.entry).items) }
+    ensures calls { IfOk result (λ calls. map shown_call calls.items ≡ calls_until place (inlinee_with known.now) parent end.0 (map symbol_of sites.now)) }
     ensures refused { IfErr result (λ e. e ≡ Error.OutOfMemory) }
 {
     let mut calls = Vec::new(alloc);
-    loop {
-        match symbols.next() {
-            Ok(Some(symbol)) => {
-                if symbol.index().0 >= end.0 {
-                    return Ok(calls);
-                }
-                add(alloc, &mut calls, known, place, parent, &symbol)?;
-            }
-            Ok(None) => return Ok(calls),
-            Err(_) => return Ok(calls),
+    for symbol in sites {
+        if symbol.index().0 >= end.0 {
+            return Ok(calls);
         }
+        add(alloc, &mut calls, known, place, parent, symbol)?;
     }
+    Ok(calls)
 }
 
-/// The calls of a procedure, with whose symbol an iterator begins.
+/// How many of a module's sites stand at or before an index.
+pub(crate) fn count_upto(sites: &[Symbol<'_>], index: u32) -> usize
+    requires { AreRising sites.now }
+    ensures { IsBehind index sites.now result }
+{
+    sites.partition_point(|site| site.index().0 <= index)
+}
+
+/// The calls of a procedure, with whose symbol an iterator begins, of the sites behind it.
 pub(crate) fn calls_from<'a>(
     alloc: Global,
     known: &Known<'a>,
     mut symbols: SymbolIter<'a>,
+    sites: &[Symbol<'a>],
     place: PdbInternalSectionOffset,
 ) -> Result<Vec<InlinedCall>>
-    ensures calls { IfOk result (λ calls. map shown_call calls.items ≡ calls_from place (inlinee_with known.now) (symbols_left symbols.entry).items) }
+    ensures calls { IfOk result (λ calls. map shown_call calls.items ≡ calls_among place (inlinee_with known.now) (map symbol_of sites.now) (symbols_left symbols.entry).items) }
     ensures refused { IfErr result (λ e. e ≡ Error.OutOfMemory) }
 {
     match symbols.next() {
         Ok(Some(symbol)) => match role_of(alloc, &symbol) {
             Ok(Role::Procedure(span)) => {
-                calls_until(alloc, known, symbols, place, span.place, span.end)
+                calls_until(alloc, known, sites, place, span.place, span.end)
             }
             Ok(_) => Ok(Vec::new(alloc)),
             Err(_) => Err(Error::OutOfMemory),

@@ -8,13 +8,13 @@ ghost use Rattle.pdb.specs.Text.{name_bytes};
 ghost use Rattle.pdb_resolve.specs.ModuleCode.{program_in, line_at};
 ghost use Rattle.pdb_resolve.specs.Frames.{plain, file_name as file_name_of, frame_of, inlined_frame};
 ghost use Rattle.pdb_resolve.specs.Kept.{shown_call};
-ghost use Rattle.pdb_resolve.specs.KeptFrames.{shown_frame, names_of};
+ghost use Rattle.pdb_resolve.specs.KeptFrames.{shown_frame, names_of, frame_named, IsNamedIn};
 
 use crate::calls::InlinedCall;
 use crate::module_code::ModuleCode;
 use pdb::{
-    Error, FileInfo, ItemFinder, LineInfo, PdbInternalSectionOffset, QualifiedName, RawString,
-    Result, StringTable, qualified_name,
+    Error, FileIndex, FileInfo, ItemFinder, LineInfo, PdbInternalSectionOffset, QualifiedName,
+    RawString, Result, StringTable, qualified_name,
 };
 
 /// A function whose code stands at a place, and the line there. Names are bytes as the file has them.
@@ -47,6 +47,49 @@ fn file_name<'a>(
     strings?.get(file?.name).ok()
 }
 
+/// A file of a module, and its name.
+#[derive(Clone, Copy)]
+pub(crate) struct NamedFile<'a> {
+    pub(crate) index: FileIndex,
+    pub(crate) name: Option<RawString<'a>>,
+}
+
+/// The file of an index, which may be the one that was named last.
+fn named_file<'a>(
+    code: &ModuleCode<'a>,
+    strings: Option<&'a StringTable<'a>>,
+    last: Option<NamedFile<'a>>,
+    index: FileIndex,
+) -> NamedFile<'a>
+    requires { IsNamedIn (option_copied strings) (program_in code.now) last }
+    ensures index { result.index ≡ index }
+    ensures name { IsNamedIn (option_copied strings.entry) (program_in code.now) (Some result) }
+{
+    match last {
+        Some(file) if file.index.0 == index.0 => file,
+        _ => NamedFile {
+            index,
+            name: file_name(strings, code.file(index)),
+        },
+    }
+}
+
+/// The frame of a line record in a file of this name.
+fn frame_in<'a>(
+    file: Option<RawString<'a>>,
+    name: Option<QualifiedName<'a>>,
+    line: &LineInfo,
+) -> Frame<'a>
+    ensures { shown_frame result ≡ frame_named (option_map name_bytes file.entry) (option_map shown_qualified name.entry) line.now }
+{
+    Frame {
+        name,
+        file,
+        line: line.line_start,
+        column: line.column_start.unwrap_or(0),
+    }
+}
+
 /// The frame of a line record.
 fn line_frame<'a>(
     code: &ModuleCode<'a>,
@@ -56,12 +99,8 @@ fn line_frame<'a>(
 ) -> Frame<'a>
     ensures { shown_frame result ≡ frame_of (option_copied strings.entry) (program_in code.now) (option_map shown_qualified name.entry) (Some line.now) }
 {
-    Frame {
-        name,
-        file: file_name(strings, code.file(line.file_index)),
-        line: line.line_start,
-        column: line.column_start.unwrap_or(0),
-    }
+    let file = file_name(strings, code.file(line.file_index));
+    frame_in(file, name, line)
 }
 
 /// A frame without a line.
@@ -97,9 +136,12 @@ pub(crate) fn push_inlined<'a>(
     ensures refused { IfErr result (λ e. e ≡ Error.OutOfMemory) }
 {
     let mut left = calls;
+    let mut last = None;
     while let Some((call, before)) = left.split_last() {
         let name = qualified_name(&names.ids, &names.types, call.id);
-        push_frame(frames, line_frame(code, strings, name, &call.line))?;
+        let file = named_file(code, strings, last, call.line.file_index);
+        push_frame(frames, frame_in(file.name, name, &call.line))?;
+        last = Some(file);
         left = before;
     }
     Ok(())

@@ -9,17 +9,17 @@ ghost use Rattle.pdb.specs.Data.{shown};
 ghost use Rattle.pdb.specs.Text.{name_bytes};
 ghost use Rattle.pdb.specs.FileViews.{shown_file};
 ghost use Rattle.pdb_resolve.specs.Frames.{file_in};
-ghost use Rattle.pdb.specs.Views.{symbols_left};
-ghost use Rattle.pdb_resolve.specs.Kept.{shown_call, AreRangesOf, IsListed, head_says};
+ghost use Rattle.pdb.specs.Views.{symbol_of, symbols_left};
+ghost use Rattle.pdb_resolve.specs.Kept.{shown_call, AreRangesOf, IsListed, head_says, site_of, sites_in};
 
-use crate::calls::{InlinedCall, calls_from};
+use crate::calls::{InlinedCall, calls_from, count_upto};
 use crate::known::Known;
 use crate::ranges::Ranges;
 use crate::rows::{Rows, rows_of};
 use pdb::{
     Error, FallibleIterator, FileIndex, FileInfo, Inlinee, InlineeIterator, LineInfo, LinePlaces,
-    ModuleInfo, PdbInternalSectionOffset, RawString, Result, Steps, SymbolData, SymbolIndex,
-    SymbolIter,
+    ModuleInfo, PdbInternalSectionOffset, RawString, Result, Steps, Symbol, SymbolData,
+    SymbolIndex, SymbolIter,
 };
 use std::alloc::Global;
 use std::marker::Model;
@@ -30,6 +30,8 @@ pub struct ModuleCode<'a> {
     info: &'a ModuleInfo<'a>,
     procedures: Ranges,
     others: Ranges,
+    // The sites of inlined functions.
+    sites: Vec<Symbol<'a>>,
     program: Option<LinePlaces<'a>>,
     known: Known<'a>,
 }
@@ -38,20 +40,23 @@ impl<'a> Model for ModuleCode<'a> {
     ghost use Rattle.std.specs.Prelude.{◌≡◌};
     ghost use Rattle.pdb.specs.ModuleStream.{ModuleBytes};
     ghost use Rattle.pdb_resolve.specs.ModuleCode.{procedures_in, others_in, program_in, inlinees_in, inlinee_with};
-    ghost use Rattle.pdb_resolve.specs.Kept.{IsKeptOf};
+    ghost use Rattle.std.specs.Prelude.{map};
+    ghost use Rattle.pdb.specs.Views.{symbol_of};
+    ghost use Rattle.pdb_resolve.specs.Kept.{IsKeptOf, sites_in};
 
     ghost Value = { ModuleBytes };
 
     ghost view = { λ x. x.info.now };
 
-    ghost invariant = { λ x. IsKeptOf (procedures_in x.info.now) x.procedures × IsKeptOf (others_in x.info.now) x.others × (x.program ≡ program_in x.info.now) × (inlinee_with x.known ≡ inlinee_with (inlinees_in x.info.now)) };
+    ghost invariant = { λ x. IsKeptOf (procedures_in x.info.now) x.procedures × IsKeptOf (others_in x.info.now) x.others × (x.program ≡ program_in x.info.now) × (inlinee_with x.known ≡ inlinee_with (inlinees_in x.info.now)) × (map symbol_of x.sites.items ≡ sites_in x.info.now) };
 }
 
-/// The ranges of a module's code; none where its symbols are refused.
+/// The ranges and the sites of a module's code; none where its symbols are refused.
 #[tactic(auto, unfolding(crate::specs::ModuleCode::symbols_in))]
-fn read_rows(alloc: Global, info: &ModuleInfo<'_>) -> Result<Rows>
-    ensures procedures { IfOk result (λ rows. AreRangesOf (filter_map procedure_of (symbols_in info.now)) rows.procedures.items) }
-    ensures others { IfOk result (λ rows. AreRangesOf (filter_map other_of (symbols_in info.now)) rows.others.items) }
+fn read_rows<'a>(alloc: Global, info: &'a ModuleInfo<'a>) -> Result<Rows<'a>>
+    ensures procedures { IfOk result (λ rows. AreRangesOf (filter_map procedure_of (symbols_in info.entry.now)) rows.procedures.items) }
+    ensures others { IfOk result (λ rows. AreRangesOf (filter_map other_of (symbols_in info.entry.now)) rows.others.items) }
+    ensures sites { IfOk result (λ rows. map symbol_of rows.sites.items ≡ filter_map site_of (symbols_in info.entry.now)) }
     ensures refused { IfErr result (λ e. e ≡ Error.OutOfMemory) }
 {
     match info.symbols() {
@@ -59,6 +64,7 @@ fn read_rows(alloc: Global, info: &ModuleInfo<'_>) -> Result<Rows>
         Err(_) => Ok(Rows {
             procedures: Vec::new(alloc),
             others: Vec::new(alloc),
+            sites: Vec::new(alloc),
         }),
     }
 }
@@ -143,6 +149,7 @@ impl<'a> ModuleCode<'a> {
             info,
             procedures,
             others,
+            sites: rows.sites,
             program,
             known,
         })
@@ -206,7 +213,11 @@ impl<'a> ModuleCode<'a> {
             return Ok(Vec::new(alloc));
         };
         match self.info.symbols_at(SymbolIndex(index)) {
-            Ok(symbols) => calls_from(alloc, &self.known, symbols, place),
+            Ok(symbols) => {
+                let sites = self.sites.as_slice();
+                let (_, behind) = sites.split_at(count_upto(sites, index));
+                calls_from(alloc, &self.known, symbols, behind, place)
+            }
             Err(_) => Ok(Vec::new(alloc)),
         }
     }

@@ -4,18 +4,20 @@ ghost use Rattle.std.specs.Prelude.{◌≡◌, ◌++◌, [], ◌∷◌, map, fil
 ghost use Rattle.std.specs.Option.{option_map, option_to_list};
 ghost use Rattle.pdb.specs.Views.{symbol_of, symbols_left};
 ghost use Rattle.pdb_resolve.specs.ModuleCode.{procedure_of, other_of};
-ghost use Rattle.pdb_resolve.specs.Kept.{range_parts, code_parts, AreRangesOf};
+ghost use Rattle.pdb_resolve.specs.Kept.{range_parts, code_parts, AreRangesOf, site_of};
 
 use crate::range::CodeRange;
 use crate::role::{Role, Span, role_of};
 use pdb::{Error, FallibleIterator, Result, Symbol, SymbolIndex, SymbolIter};
 use std::alloc::Global;
 
-/// The ranges of a module's procedures, and of its thunks and separated code. The payload is the symbol's index.
+/// The ranges of a module's procedures, and of its thunks and separated code, whose payload is the symbol's index; and
+/// the sites of its inlined functions.
 #[derive(Drop)]
-pub(crate) struct Rows {
+pub(crate) struct Rows<'t> {
     pub(crate) procedures: Vec<CodeRange>,
     pub(crate) others: Vec<CodeRange>,
+    pub(crate) sites: Vec<Symbol<'t>>,
 }
 
 /// One more range.
@@ -30,30 +32,45 @@ fn push(rows: &mut Vec<CodeRange>, span: Span, index: SymbolIndex) -> Result<()>
     }
 }
 
+/// One more site.
+fn push_site<'t>(sites: &mut Vec<Symbol<'t>>, symbol: &Symbol<'t>) -> Result<()>
+    ensures pushed { OnOk result (map symbol_of sites.new.items ≡ map symbol_of sites.old.items ++ symbol_of symbol.now ∷ []) }
+    ensures refused { IfErr result (λ e. e ≡ Error.OutOfMemory) }
+{
+    match sites.push(*symbol) {
+        Ok(()) => Ok(()),
+        Err(_) => Err(Error::OutOfMemory),
+    }
+}
+
 /// One more symbol.
-fn add(alloc: Global, rows: &mut Rows, symbol: &Symbol<'_>) -> Result<()>
+fn add<'t>(alloc: Global, rows: &mut Rows<'t>, symbol: &Symbol<'t>) -> Result<()>
     ensures procedures { OnOk result (map range_parts rows.new.procedures.items ≡ map range_parts rows.old.procedures.items ++ map code_parts (option_to_list (procedure_of (symbol_of symbol.now)))) }
     ensures others { OnOk result (map range_parts rows.new.others.items ≡ map range_parts rows.old.others.items ++ map code_parts (option_to_list (other_of (symbol_of symbol.now)))) }
+    ensures sites { OnOk result (map symbol_of rows.new.sites.items ≡ map symbol_of rows.old.sites.items ++ option_to_list (site_of (symbol_of symbol.now))) }
     ensures refused { IfErr result (λ e. e ≡ Error.OutOfMemory) }
 {
     let index = symbol.index();
     match role_of(alloc, symbol) {
         Ok(Role::Procedure(span)) => push(&mut rows.procedures, span, index),
         Ok(Role::Other(span)) => push(&mut rows.others, span, index),
-        Ok(_) => Ok(()),
+        Ok(Role::Site(_)) => push_site(&mut rows.sites, symbol),
+        Ok(Role::Passed) => Ok(()),
         Err(_) => Err(Error::OutOfMemory),
     }
 }
 
-/// The ranges of the symbols that an iterator has left, up to its fault.
-pub(crate) fn rows_of(alloc: Global, mut symbols: SymbolIter<'_>) -> Result<Rows>
+/// The ranges and the sites of the symbols that an iterator has left, up to its fault.
+pub(crate) fn rows_of<'t>(alloc: Global, mut symbols: SymbolIter<'t>) -> Result<Rows<'t>>
     ensures procedures { IfOk result (λ rows. AreRangesOf (filter_map procedure_of (symbols_left symbols.entry).items) rows.procedures.items) }
     ensures others { IfOk result (λ rows. AreRangesOf (filter_map other_of (symbols_left symbols.entry).items) rows.others.items) }
+    ensures sites { IfOk result (λ rows. map symbol_of rows.sites.items ≡ filter_map site_of (symbols_left symbols.entry).items) }
     ensures refused { IfErr result (λ e. e ≡ Error.OutOfMemory) }
 {
     let mut rows = Rows {
         procedures: Vec::new(alloc),
         others: Vec::new(alloc),
+        sites: Vec::new(alloc),
     };
     loop {
         match symbols.next() {

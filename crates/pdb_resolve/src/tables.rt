@@ -91,8 +91,11 @@ fn outer_name<'a, 's, S: Source<'s>>(
     ensures name { IfOk result (λ n. option_map name_bytes n ≡ outer_name (public_of_file pdb.old.file place) place code.now) }
     ensures refused { IfErr result (λ e. OnlyFails (MayFail pdb.old pdb.new) e) }
 {
+    if let Some(name) = code.function_name(alloc, place)? {
+        return Ok(Some(name));
+    }
     match code.function(place) {
-        Some(_) => code.function_name(alloc, place),
+        Some(_) => Ok(None),
         None => globals.find(alloc, pdb, place),
     }
 }

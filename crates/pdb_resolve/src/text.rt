@@ -1,6 +1,7 @@
 //! The text of frames.
 
 ghost use Rattle.std.specs.Prelude.{◌≡◌, ◌++◌, codes, map, flat_map, OnOk};
+ghost use Rattle.std.specs.Fmt.{decimal};
 ghost use Rattle.std.specs.Option.{option_map};
 ghost use Rattle.pdb.specs.Qualified.{shown_qualified};
 ghost use Rattle.pdb.specs.Text.{name_bytes};
@@ -48,6 +49,20 @@ fn put_file(out: &mut Vec<u8>, file: Option<RawString<'_>>) -> Result<(), AllocE
     }
 }
 
+/// The end of a frame's second line: the column behind a `:`. Most have none, which is told as 0.
+#[inline]
+#[tactic(auto, using(std::proofs::lemmas::Fmt::decimal_digit))]
+fn put_column(out: &mut Vec<u8>, column: u32) -> Result<(), AllocError>
+    ensures { OnOk result (out.new.items ≡ out.old.items ++ (codes ":" ++ decimal column ++ codes "\n")) }
+{
+    if column < 10 {
+        return out.extend_from_slice(&[b':', b'0' + column as u8, b'\n']);
+    }
+    out.push(b':')?;
+    put_decimal(out, u64::from(column))?;
+    put_line_end(out)
+}
+
 /// A frame's name on a line, and its file, line and column on the next, with `:` between them.
 pub fn put_frame(out: &mut Vec<u8>, frame: &Frame<'_>) -> Result<(), AllocError>
     ensures { OnOk result (out.new.items ≡ out.old.items ++ frame_text (shown_frame frame.now)) }
@@ -57,9 +72,7 @@ pub fn put_frame(out: &mut Vec<u8>, frame: &Frame<'_>) -> Result<(), AllocError>
     put_file(out, frame.file)?;
     out.push(b':')?;
     put_decimal(out, u64::from(frame.line))?;
-    out.push(b':')?;
-    put_decimal(out, u64::from(frame.column))?;
-    put_line_end(out)
+    put_column(out, frame.column)
 }
 
 /// The text of the frames of an address: each frame's two lines, and an empty line.

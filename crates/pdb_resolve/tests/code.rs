@@ -257,3 +257,51 @@ fn records_without_bytes_or_length_cover_nothing(rt: HostRuntime) -> Result<()> 
         (Some(code), Some("a"), &[(0x1001, 11)]),
     )
 }
+
+/// The ids that are inlined at these offsets in section 1, one after another.
+fn ids_at(alloc: Global, code: &ModuleCode<'_>, offsets: &[u32]) -> Result<Vec<(u32, u32)>> {
+    let mut ids = Vec::new(alloc);
+    for offset in offsets {
+        let calls = code.inlined(alloc, PdbInternalSectionOffset::new(1, *offset))?;
+        for call in calls.as_slice() {
+            ids.push((*offset, call.id.0))?;
+        }
+    }
+    Ok(ids)
+}
+
+#[test]
+fn sites_are_those_of_their_procedure_in_any_order(rt: HostRuntime) -> Result<()> {
+    let alloc = rt.alloc();
+    let mut symbols = Symbols::new(alloc)?;
+    // In front of all procedures. A site's record has 20 bytes, and a procedure's 41.
+    symbols.site(0x1001, FROM_4)?;
+    // Its scope has another procedure in it, and that one's site, which counts from this one's offset too.
+    symbols.procedure(0x100, 0x40, 24 + 41 + 20 + 41 + 20, b"\x01\0\0a\0")?;
+    symbols.site(0x1001, FROM_4)?;
+    symbols.procedure(0x200, 0x40, 24 + 41 + 20 + 41 + 20, b"\x01\0\0b\0")?;
+    symbols.site(0x1002, FROM_4)?;
+    // It has no site: the last one stands behind its end.
+    symbols.procedure(0x300, 0x40, 146 + 41, b"\x01\0\0c\0")?;
+    symbols.site(0x1002, FROM_4)?;
+    let size = symbols.next();
+    let mut bytes = symbols.bytes.clone()?;
+    bytes.extend_from_slice(&INLINEES)?;
+    let info = info_of(&rt, bytes.as_slice(), (size, 0, 36))?;
+    let code = ModuleCode::new(alloc, &info)?;
+    let ids = ids_at(
+        alloc,
+        &code,
+        &[0x304, 0x204, 0x104, 0x20c, 0x10b, 0x304, 0x204],
+    )?;
+    let wanted = [
+        (0x204, 0x1002),
+        (0x104, 0x1001),
+        (0x104, 0x1002),
+        (0x10b, 0x1001),
+        (0x10b, 0x1002),
+        (0x204, 0x1002),
+    ];
+    assert!(rt; ids.as_slice() == wanted.as_slice());
+    Ok(())
+}

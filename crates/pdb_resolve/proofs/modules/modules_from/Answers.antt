@@ -1,4 +1,4 @@
-use Rattle.std.proofs.Common.{◌≡◌, map, length, ap, sym, ◌∙◌, arith}
+use Rattle.std.proofs.Common.{◌≡◌, map, length, ap, ◌∙◌, arith}
 use Rattle.std.specs.Prelude.{option_copied}
 use Rattle.pdb_resolve.specs.FileParts.{modules_where, modules_listed}
 use Rattle.pdb_resolve.proofs.Kepts.{none_kept, none_many, none_there}

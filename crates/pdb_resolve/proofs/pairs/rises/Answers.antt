@@ -1,4 +1,4 @@
-use Rattle.std.proofs.Common.{◌-◌, refl, arith}
+use Rattle.std.proofs.Common.{refl, arith}
 use Rattle.pdb_resolve.proofs.TablePairs.{start_in, rises_numbers, numbers_rise, falls_not, never_from}
 use Rattle.pdb_resolve.proofs.pairs.rises.Goals as goal
 

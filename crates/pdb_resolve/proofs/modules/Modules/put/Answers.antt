@@ -1,4 +1,4 @@
-use Rattle.std.proofs.Common.{Box, Global, map, ap, arith, ◌∙◌}
+use Rattle.std.proofs.Common.{map, ap, arith, ◌∙◌}
 use Rattle.std.specs.Prelude.{option_copied}
 use Rattle.std.proofs.lemmas.List.{length-map}
 use Rattle.pdb_resolve.proofs.Kepts.{info_set}
