@@ -251,6 +251,38 @@ fn a_name_or_padding_that_is_not_all_there_ends_the_modules(rt: HostRuntime) -> 
     Ok(())
 }
 
+/// How many modules bytes list that are read where they stand.
+fn count_in_place(bytes: &[u8]) -> Result<usize> {
+    modules_of_bytes(bytes)?.count()
+}
+
+#[test]
+fn modules_are_read_where_their_bytes_stand(rt: HostRuntime) -> Result<()> {
+    let bytes = two_modules(rt.alloc())?;
+    let mut modules = modules_of_bytes(&bytes)?;
+    let module = modules.next()?.expect(&rt, "a module");
+    assert_module(&rt, &module, b"a", b"bc");
+    let module = modules.next()?.expect(&rt, "a second module");
+    assert_module(&rt, &module, b"", b"def");
+    assert_ended(&rt, &mut modules);
+    let cut = &dbi()[..63];
+    is(
+        &rt,
+        "no header",
+        &count_in_place(cut),
+        &Err(Error::UnexpectedEof),
+    );
+    let cut = &dbi()[..139];
+    is(
+        &rt,
+        "no module",
+        &count_in_place(cut),
+        &Err(Error::UnexpectedEof),
+    );
+    is(&rt, "one module", &count_in_place(dbi()), &Ok(1));
+    Ok(())
+}
+
 #[test]
 fn modules_that_are_not_all_there_are_refused(rt: HostRuntime) {
     for k in 64..=184 {

@@ -1,8 +1,8 @@
 //! Inlined functions, found by their ids.
 
 use crate::tests::streams::lines_info;
-use crate::{Inlinee, InlineeFinder};
-use pdb_base::{FallibleIterator, IdIndex, Result};
+use crate::{Inlinee, InlineeFinder, ModuleInfo};
+use pdb_base::{Error, FallibleIterator, Feature, IdIndex, Result, Stream};
 use std::fmt::Debug;
 use std::process::Abort;
 
@@ -46,5 +46,38 @@ fn functions_are_found_by_their_ids(rt: HostRuntime) -> Result<()> {
 fn no_function_is_found_where_none_is_listed(rt: HostRuntime) -> Result<()> {
     let finder = InlineeFinder::new(Vec::new(rt.alloc()))?;
     is(&rt, "none", &told(finder.find(IdIndex(0))), &None);
+    Ok(())
+}
+
+/// A module whose stream is that of the five functions, with these sizes of its parts.
+fn sized<'s>(rt: &impl Abort, sizes: (u32, u32, u32)) -> ModuleInfo<'s> {
+    let stream = Stream::new(FIVE).expect(rt, "a short stream");
+    ModuleInfo::with_sizes(stream, sizes.0, sizes.1, sizes.2)
+}
+
+#[test]
+fn a_module_is_had_by_the_sizes_of_its_parts(rt: HostRuntime) -> Result<()> {
+    let end = Some(Error::UnexpectedEof);
+    let older = Some(Error::UnimplementedFeature(Feature::C11LinePrograms));
+    is(
+        &rt,
+        "all",
+        &sized(&rt, (0, 0, 72)).inlinees()?.count(),
+        &Ok(5),
+    );
+    is(
+        &rt,
+        "symbols",
+        &sized(&rt, (73, 0, 0)).symbols().err(),
+        &end,
+    );
+    is(&rt, "lines", &sized(&rt, (0, 0, 73)).inlinees().err(), &end);
+    let info = sized(&rt, (0, 72, 0));
+    is(
+        &rt,
+        "older lines",
+        &info.line_program(rt.alloc()).err(),
+        &older,
+    );
     Ok(())
 }

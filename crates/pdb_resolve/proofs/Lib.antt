@@ -3,7 +3,6 @@ pub mod Orders
 pub mod Halves
 pub mod Sorts
 pub mod Firsts
-pub mod Listed
 pub mod Pieces
 pub mod Scopes
 pub mod Asking

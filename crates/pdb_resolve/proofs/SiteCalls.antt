@@ -11,7 +11,8 @@ use Rattle.pdb.specs.ModuleStream.{ModuleBytes, symbols_at_of, symbols_part_of}
 use Rattle.pdb.specs.SymbolList.{Entry, symbols_from}
 use Rattle.pdb_symbols.proofs.SymbolLaws.{resumes_at}
 use Rattle.pdb.specs.Forms.{record_at}
-use Rattle.pdb_resolve.specs.ModuleCode.{Code, Role, role, other_of_role, symbols_in, inlinees_in, inlinee_with, procedure_of, other_of, code_covers, procedure_at, other_at, function_at, index_of, call_in, calls_in, inlined_at, says_if, says_at}
+use Rattle.pdb_resolve.specs.ModuleCode.{Code, Role, role, other_of_role, symbols_in, inlinees_in, procedure_of, other_of, code_covers, procedure_at, other_at, function_at, index_of, call_in, calls_in, inlined_at, says_if, says_at}
+use Rattle.pdb.specs.Inlinees.{inlinee_with}
 use Rattle.pdb_resolve.specs.ModuleCode.Role.{at_procedure, at_other, at_site, passed}
 use Rattle.pdb_resolve.specs.AsIfEmpty.{items_of}
 use Rattle.pdb.specs.Views.{symbol_of}

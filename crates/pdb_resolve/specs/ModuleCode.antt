@@ -2,15 +2,15 @@
 use Rattle.std.specs.Prelude.{◌≡◌, ◌⊎◌, All, ℕ, Bool, true, false, ◌+◌, ◌&&◌, ◌==◌, nat_le, nat_lt, if◌then◌else◌, List, [], Option, Some, None, Result, Ok, find, filter_map}
 use Rattle.std.specs.Option.{option_map, option_or}
 use Rattle.pdb.specs.Error.{Error}
-use Rattle.pdb.specs.Left.{Left, ended}
+use Rattle.pdb.specs.Left.{Left}
 use Rattle.pdb.specs.PdbInternalSectionOffset.{PdbInternalSectionOffset}
 use Rattle.pdb.specs.Data.{Data}
 use Rattle.pdb.specs.Data.Data.{Procedure, Thunk, SeparatedCode, InlineSite}
 use Rattle.pdb.specs.Forms.{record_at}
 use Rattle.pdb.specs.SymbolList.{Entry}
 use Rattle.pdb.specs.ModuleStream.{ModuleBytes, symbols_of, line_program_of, inlinees_of}
-use Rattle.pdb.specs.Inlinees.{InlineeEntry}
-use Rattle.pdb.specs.Inlined.{inlined_lines}
+use Rattle.pdb.specs.Inlinees.{InlineeEntry, inlinee_with}
+use Rattle.pdb.specs.Inlined.{lines_of_site}
 use Rattle.pdb.specs.LineInfo.{LineInfo}
 use Rattle.pdb.specs.LineProgram.{ProgramOf}
 use Rattle.pdb.specs.LineOrder.{lines_for}
@@ -129,15 +129,6 @@ line_at q m = line_in q (program_in m)
 
 -- ---- inlined calls at a place
 
--- the first inlined function with an id
-abbrev pub inlinee_with : List InlineeEntry → ℕ → Option InlineeEntry
-inlinee_with xs id = find (λ x. x.index == id) xs
-
--- the records of a site with these annotations in a procedure that begins there; none where its function isn't listed
-abbrev pub lines_from : PdbInternalSectionOffset → List ℕ → Option InlineeEntry → Left LineInfo
-lines_from parent annotations None = ended
-lines_from parent annotations (Some x) = inlined_lines parent (record { 0 = x.file_index }) x.line annotations
-
 -- a call: the id of its function, and the record of its line
 pub record Call : Type 0 where
   pub id : ℕ
@@ -149,7 +140,7 @@ call_of id line = record { id = id; line = line }
 module _ (q : PdbInternalSectionOffset) (listed : ℕ → Option InlineeEntry) where
   -- the call of a record of a procedure that begins there
   abbrev pub call_of_role : PdbInternalSectionOffset → Role → Option Call
-  call_of_role parent (at_site id annotations) = option_map (call_of id) (first_line q (lines_from parent annotations (listed id)).items)
+  call_of_role parent (at_site id annotations) = option_map (call_of id) (first_line q (lines_of_site parent annotations (listed id)).items)
   call_of_role parent h = None
 
   abbrev pub between : Code → Entry → Bool

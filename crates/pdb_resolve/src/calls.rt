@@ -5,15 +5,16 @@ ghost use Rattle.std.specs.Option.{option_map, option_to_list};
 ghost use Rattle.pdb.specs.AnnotationViews.{annotation_bytes};
 ghost use Rattle.pdb.specs.Views.{symbol_of, symbols_left};
 ghost use Rattle.pdb.specs.Forms.{record_at};
-ghost use Rattle.pdb_resolve.specs.ModuleCode.{first_line, lines_from, role, call_of, call_of_role, inlinee_with};
+ghost use Rattle.pdb_resolve.specs.ModuleCode.{first_line, role, call_of, call_of_role};
+ghost use Rattle.pdb.specs.Inlined.{lines_of_site};
+ghost use Rattle.pdb.specs.Inlinees.{inlinee_with};
 ghost use Rattle.pdb_resolve.specs.Kept.{shown_call, shown_role, calls_until, calls_among, AreRising, IsBehind};
 
-use crate::known::Known;
 use crate::lines::first_inlined_line;
 use crate::role::{Role, role_of};
 use pdb::{
-    Error, FallibleIterator, IdIndex, InlineSiteSymbol, LineInfo, PdbInternalSectionOffset, Result,
-    Symbol, SymbolIndex, SymbolIter,
+    Error, FallibleIterator, IdIndex, InlineSiteSymbol, InlineeFinder, LineInfo,
+    PdbInternalSectionOffset, Result, Symbol, SymbolIndex, SymbolIter,
 };
 use std::alloc::Global;
 
@@ -28,14 +29,14 @@ pub struct InlinedCall {
 
 /// The first record of a site that covers a place, in a procedure that begins at `parent`.
 fn site_line<'a>(
-    known: &Known<'a>,
+    known: &InlineeFinder<'a>,
     place: PdbInternalSectionOffset,
     parent: PdbInternalSectionOffset,
     site: &InlineSiteSymbol<'a>,
 ) -> Option<LineInfo>
-    ensures { result ≡ first_line place (lines_from parent (annotation_bytes site.now.annotations) (inlinee_with known.now site.now.inlinee.0)).items }
+    ensures { result ≡ first_line place (lines_of_site parent (annotation_bytes site.now.annotations) (inlinee_with known.now site.now.inlinee.0)).items }
 {
-    match known.get(site.inlinee.0) {
+    match known.find(site.inlinee) {
         Some(inlinee) => first_inlined_line(inlinee.lines(parent, site), place),
         None => None,
     }
@@ -64,7 +65,7 @@ fn push(calls: &mut Vec<InlinedCall>, id: IdIndex, line: LineInfo) -> Result<()>
 fn add<'a>(
     alloc: Global,
     calls: &mut Vec<InlinedCall>,
-    known: &Known<'a>,
+    known: &InlineeFinder<'a>,
     place: PdbInternalSectionOffset,
     parent: PdbInternalSectionOffset,
     symbol: &Symbol<'a>,
@@ -85,7 +86,7 @@ fn add<'a>(
 /// The calls of sites up to the end of their procedure's scope.
 fn calls_until<'a>(
     alloc: Global,
-    known: &Known<'a>,
+    known: &InlineeFinder<'a>,
     sites: &[Symbol<'a>],
     place: PdbInternalSectionOffset,
     parent: PdbInternalSectionOffset,
@@ -115,7 +116,7 @@ pub(crate) fn count_upto(sites: &[Symbol<'_>], index: u32) -> usize
 /// The calls of a procedure, with whose symbol an iterator begins, of the sites behind it.
 pub(crate) fn calls_from<'a>(
     alloc: Global,
-    known: &Known<'a>,
+    known: &InlineeFinder<'a>,
     mut symbols: SymbolIter<'a>,
     sites: &[Symbol<'a>],
     place: PdbInternalSectionOffset,

@@ -6,7 +6,6 @@ mod calls;
 mod frames;
 mod global_names;
 mod kept_file;
-mod known;
 pub mod laws;
 mod lines;
 mod module_code;

@@ -4,7 +4,8 @@ ghost use Rattle.std.specs.Prelude.{◌≡◌, ◌+◌, ◌≤◌, ◌<◌, ◌^
 ghost use Rattle.std.specs.Option.{option_map};
 ghost use Rattle.pdb.specs.PdbInternalSectionOffset.{PdbInternalSectionOffset};
 ghost use Rattle.pdb.specs.ModuleViews.{inlinees_left};
-ghost use Rattle.pdb_resolve.specs.ModuleCode.{symbols_in, inlinees_in, program_in, inlinee_with, function_at, line_at, inlined_at, procedure_of, other_of, procedures_in, others_in, AreCodesApart, says_at, procedure_name_at, name_at};
+ghost use Rattle.pdb_resolve.specs.ModuleCode.{symbols_in, inlinees_in, program_in, function_at, line_at, inlined_at, procedure_of, other_of, procedures_in, others_in, AreCodesApart, says_at, procedure_name_at, name_at};
+ghost use Rattle.pdb.specs.Inlinees.{inlinee_with};
 ghost use Rattle.pdb.specs.Data.{shown};
 ghost use Rattle.pdb.specs.Text.{name_bytes};
 ghost use Rattle.pdb.specs.FileViews.{shown_file};
@@ -13,13 +14,12 @@ ghost use Rattle.pdb.specs.Views.{symbol_of, symbols_left};
 ghost use Rattle.pdb_resolve.specs.Kept.{shown_call, AreRangesOf, IsListed, head_says, site_of, sites_in};
 
 use crate::calls::{InlinedCall, calls_from, count_upto};
-use crate::known::Known;
 use crate::ranges::Ranges;
 use crate::rows::{Rows, rows_of};
 use pdb::{
-    Error, FallibleIterator, FileIndex, FileInfo, Inlinee, InlineeIterator, LineInfo, LinePlaces,
-    ModuleInfo, PdbInternalSectionOffset, RawString, Result, Steps, Symbol, SymbolData,
-    SymbolIndex, SymbolIter,
+    Error, FallibleIterator, FileIndex, FileInfo, Inlinee, InlineeFinder, InlineeIterator,
+    LineInfo, LinePlaces, ModuleInfo, PdbInternalSectionOffset, RawString, Result, Steps, Symbol,
+    SymbolData, SymbolIndex, SymbolIter,
 };
 use std::alloc::Global;
 use std::marker::Model;
@@ -33,13 +33,14 @@ pub struct ModuleCode<'a> {
     // The sites of inlined functions.
     sites: Vec<Symbol<'a>>,
     program: Option<LinePlaces<'a>>,
-    known: Known<'a>,
+    known: InlineeFinder<'a>,
 }
 
 impl<'a> Model for ModuleCode<'a> {
     ghost use Rattle.std.specs.Prelude.{◌≡◌};
     ghost use Rattle.pdb.specs.ModuleStream.{ModuleBytes};
-    ghost use Rattle.pdb_resolve.specs.ModuleCode.{procedures_in, others_in, program_in, inlinees_in, inlinee_with};
+    ghost use Rattle.pdb_resolve.specs.ModuleCode.{procedures_in, others_in, program_in, inlinees_in};
+    ghost use Rattle.pdb.specs.Inlinees.{inlinee_with};
     ghost use Rattle.std.specs.Prelude.{map};
     ghost use Rattle.pdb.specs.Views.{symbol_of};
     ghost use Rattle.pdb_resolve.specs.Kept.{IsKeptOf, sites_in};
@@ -119,7 +120,7 @@ fn first_said<'t>(alloc: Global, mut symbols: SymbolIter<'t>) -> Result<Option<S
 
 /// A module's inlined functions by their ids; none where they are refused.
 #[tactic(auto, unfolding(crate::specs::ModuleCode::inlinees_in))]
-fn read_known<'a>(alloc: Global, info: &'a ModuleInfo<'a>) -> Result<Known<'a>>
+fn read_known<'a>(alloc: Global, info: &'a ModuleInfo<'a>) -> Result<InlineeFinder<'a>>
     ensures known { IfOk result (λ known. inlinee_with known ≡ inlinee_with (inlinees_in info.entry.now)) }
     ensures refused { IfErr result (λ e. e ≡ Error.OutOfMemory) }
 {
@@ -127,7 +128,7 @@ fn read_known<'a>(alloc: Global, info: &'a ModuleInfo<'a>) -> Result<Known<'a>>
         Ok(inlinees) => listed(alloc, inlinees)?,
         Err(_) => Vec::new(alloc),
     };
-    match Known::of(inlinees) {
+    match InlineeFinder::new(inlinees) {
         Ok(known) => Ok(known),
         Err(_) => Err(Error::OutOfMemory),
     }

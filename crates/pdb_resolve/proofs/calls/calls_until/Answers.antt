@@ -1,5 +1,5 @@
 use Rattle.std.proofs.Common.{map, sym, arith}
-use Rattle.pdb_resolve.specs.ModuleCode.{inlinee_with}
+use Rattle.pdb.specs.Inlinees.{inlinee_with}
 use Rattle.pdb_resolve.specs.Kept.{shown_call}
 use Rattle.pdb_resolve.proofs.Scopes.{one_more_call}
 use Rattle.pdb_resolve.proofs.calls.calls_until.Goals as goal

@@ -2,7 +2,8 @@ use Rattle.std.proofs.Common.{◌≡◌, ℕ, List, Option, sym, ap, subst, ◌�
 use Rattle.pdb.specs.Views.{symbol_of, symbols_left}
 use Rattle.pdb.specs.Inlinees.{InlineeEntry}
 use Rattle.pdb_symbols.specs.declared.symbol.Symbol.{Symbol}
-use Rattle.pdb_resolve.specs.ModuleCode.{inlinee_with, inlined_at}
+use Rattle.pdb_resolve.specs.ModuleCode.{inlined_at}
+use Rattle.pdb.specs.Inlinees.{inlinee_with}
 use Rattle.pdb_resolve.specs.Kept.{shown_call, calls_among, AreRising, IsBehind}
 use Rattle.pdb_resolve.proofs.SiteCalls.{on_ok, calls_found, sites_rise, without_symbols}
 use Rattle.pdb_resolve.proofs.module_code.ModuleCode.inlined.Goals as goal
