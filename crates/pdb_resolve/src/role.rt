@@ -54,14 +54,11 @@ fn site_role(bytes: &[u8], from: usize) -> Role<'_>
     })
 }
 
-/// The role of a symbol that starts no site; want of memory is passed on. All that have one start a scope.
-fn other_role<'t>(alloc: Global, symbol: &Symbol<'t>) -> Result<Role<'t>>
+/// The role of a symbol, by all that its record says; want of memory is passed on.
+fn parsed_role<'t>(alloc: Global, symbol: &Symbol<'t>) -> Result<Role<'t>>
     ensures is { IfOk result (λ h. shown_role h ≡ role (record_at (symbol_of symbol.now).bytes)) }
     ensures refused { IfErr result (λ e. e ≡ Error.OutOfMemory) }
 {
-    if !symbol.starts_scope() {
-        return Ok(Role::Passed);
-    }
     match symbol.parse(alloc) {
         Ok(SymbolData::Procedure(s)) => Ok(Role::Procedure(Span {
             place: s.offset,
@@ -85,7 +82,20 @@ fn other_role<'t>(alloc: Global, symbol: &Symbol<'t>) -> Result<Role<'t>>
     }
 }
 
+/// The role of a symbol that starts no site; want of memory is passed on. All that have one start a scope.
+#[inline(always)]
+fn other_role<'t>(alloc: Global, symbol: &Symbol<'t>) -> Result<Role<'t>>
+    ensures is { IfOk result (λ h. shown_role h ≡ role (record_at (symbol_of symbol.now).bytes)) }
+    ensures refused { IfErr result (λ e. e ≡ Error.OutOfMemory) }
+{
+    if !symbol.starts_scope() {
+        return Ok(Role::Passed);
+    }
+    parsed_role(alloc, symbol)
+}
+
 /// The role of a symbol; want of memory is passed on.
+#[inline(always)]
 pub(crate) fn role_of<'t>(alloc: Global, symbol: &Symbol<'t>) -> Result<Role<'t>>
     ensures is { IfOk result (λ h. shown_role h ≡ role (record_at (symbol_of symbol.now).bytes)) }
     ensures refused { IfErr result (λ e. e ≡ Error.OutOfMemory) }

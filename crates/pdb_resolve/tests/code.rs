@@ -1,9 +1,13 @@
 //! Code of modules that are put together record by record.
 
-use crate::ModuleCode;
+use crate::frames::push_inlined;
 use crate::tests::files::is;
 use crate::tests::modules::info_of;
-use pdb::{PdbInternalSectionOffset, Result};
+use crate::{FunctionNames, InlinedCall, ModuleCode};
+use pdb::{
+    FileIndex, IdIndex, ItemFinder, LineInfo, LineInfoKind, PdbInternalSectionOffset, Result,
+    Stream, StringTable,
+};
 use std::alloc::Global;
 use std::process::Abort;
 
@@ -303,5 +307,57 @@ fn sites_are_those_of_their_procedure_in_any_order(rt: HostRuntime) -> Result<()
         (0x204, 0x1002),
     ];
     assert!(rt; ids.as_slice() == wanted.as_slice());
+    Ok(())
+}
+
+/// The files of a module, whose names stand at 1 and at 5 of the string table.
+static FILES: [u8; 24] = [
+    0xf4, 0, 0, 0, 16, 0, 0, 0, 1, 0, 0, 0, 0, 0, 0, 0, 5, 0, 0, 0, 0, 0, 0, 0,
+];
+
+/// The call of a function whose line is in a file.
+fn call_in(file: u32) -> InlinedCall {
+    let line = LineInfo {
+        offset: PdbInternalSectionOffset::new(1, 0),
+        length: Some(1),
+        file_index: FileIndex(file),
+        line_start: 1,
+        line_end: 1,
+        column_start: None,
+        column_end: None,
+        kind: LineInfoKind::Statement,
+    };
+    InlinedCall {
+        id: IdIndex(0x1001),
+        line,
+    }
+}
+
+#[test]
+fn frames_have_the_files_of_their_own_lines(rt: HostRuntime) -> Result<()> {
+    let alloc = rt.alloc();
+    let mut bytes = Vec::new(alloc);
+    bytes.extend_from_slice(&[4, 0, 0, 0])?;
+    bytes.extend_from_slice(&FILES)?;
+    let info = info_of(&rt, bytes.as_slice(), (4, 0, 24))?;
+    let code = ModuleCode::new(alloc, &info)?;
+    let table = b"\xfe\xef\xfe\xef\x01\0\0\0\x09\0\0\0\0a.c\0b.c\0";
+    let strings = StringTable::parse(Stream::new(table).expect(&rt, "a short stream"))?;
+    let names = FunctionNames {
+        ids: ItemFinder::empty(alloc),
+        types: ItemFinder::empty(alloc),
+    };
+    // There is no file at 16.
+    let mut calls = Vec::new(alloc);
+    for file in [16, 8, 0, 0, 8] {
+        calls.push(call_in(file))?;
+    }
+    let mut frames = Vec::new(alloc);
+    push_inlined(&mut frames, &code, &names, Some(&strings), calls.as_slice())?;
+    let wanted: [Option<&[u8]>; 5] = [Some(b"b.c"), Some(b"a.c"), Some(b"a.c"), Some(b"b.c"), None];
+    is(&rt, "frames", &frames.len(), &5);
+    for (frame, wanted) in frames.as_slice().iter().zip(&wanted) {
+        is(&rt, "file", &frame.file.map(|it| it.as_bytes()), wanted);
+    }
     Ok(())
 }
