@@ -58,6 +58,7 @@ pub use pdb_dbi::NameIter;
 pub use pdb_dbi::PDBInformation;
 pub use pdb_dbi::StreamName;
 pub use pdb_dbi::StreamNames;
+pub use pdb_dbi::modules_of_bytes;
 pub use pdb_items::BuildInfoId;
 pub use pdb_items::FunctionId;
 pub use pdb_items::IdData;

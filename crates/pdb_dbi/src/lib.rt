@@ -9,6 +9,7 @@ mod header;
 mod information;
 pub mod laws;
 mod machine;
+mod module_list;
 mod modules;
 mod names;
 
@@ -18,5 +19,6 @@ pub use extra_streams::DBIExtraStreams;
 pub use header::{DBIHeader, HeaderVersion};
 pub use information::PDBInformation;
 pub use machine::MachineType;
+pub use module_list::modules_of_bytes;
 pub use modules::{Module, ModuleIter};
 pub use names::{NameIter, StreamName, StreamNames};

@@ -69,6 +69,23 @@ impl<'s> ModuleInfo<'s> {
         }
     }
 
+    /// The stream of a module with these sizes of its parts. Nothing of it is read yet.
+    pub fn with_sizes(
+        stream: Stream<'s>,
+        symbols_size: u32,
+        lines_size: u32,
+        c13_lines_size: u32,
+    ) -> Self
+        ensures { result ≡ record { bytes = stream.entry; symbols_size = symbols_size; lines_size = lines_size; c13_lines_size = c13_lines_size } }
+    {
+        ModuleInfo {
+            stream,
+            symbols_size,
+            lines_size,
+            c13_lines_size,
+        }
+    }
+
     // The symbols part.
     #[tactic(auto, unfolding(crate::specs::ModuleStream::symbols_part_of))]
     fn symbols_part(&self) -> Result<&[u8]>
