@@ -1,0 +1,33 @@
+-- Refusals as numbers.
+use Rattle.std.proofs.Common.{◌≡◌, ℕ, List, inl, inr, ◌⊎◌, Result, Ok, Err, refl, sym}
+use Rattle.pdb.specs.Error.{Error}
+use Rattle.pdb.specs.Error.TheVariants.{IoError, OutOfMemory}
+use Rattle.pdb.specs.Refusal.{Fails, number_of}
+use Rattle.pdb.specs.LineProgram.{ProgramOf}
+use Rattle.pdb_c.specs.Boundary.{Told, Copied, IsCopied}
+use Rattle.pdb_c.specs.LineRows.{LinesTold}
+use Rattle.pdb_c.specs.declared.lines.PdbLine.{PdbLine}
+
+pub told_read : {Y : Type 0} (old y : Y) (read : Result Y Error) → read ≡ Ok y → Told 0 old y read
+told_read old y read h = rw h (inl (refl, refl))
+
+pub told_refused : {Y : Type 0} (e : Error) (old : Y) (read : Result Y Error) → Fails ⊥ e read → Told (number_of e) old old read
+told_refused IoError old read f = absurd f
+told_refused OutOfMemory old (Ok x) f = inr (refl, refl)
+told_refused OutOfMemory old (Err d) f = (inr refl, refl)
+told_refused e old read f = rw f (inl refl, refl)
+
+pub copied_read : (code : ℕ) (old new bytes : List ℕ) (size : ℕ) (read : Result (List ℕ) Error) → read ≡ Ok bytes → IsCopied code old new size bytes → Copied code old new size read
+copied_read code old new bytes size read h c = rw h (inl c)
+
+pub copied_refused : (e : Error) (old : List ℕ) (read : Result (List ℕ) Error) → Fails ⊥ e read → Copied (number_of e) old old 0 read
+copied_refused IoError old read f = absurd f
+copied_refused OutOfMemory old (Ok x) f = inr (refl, (refl, refl))
+copied_refused OutOfMemory old (Err d) f = (inr refl, (refl, refl))
+copied_refused e old read f = rw f (inl refl, (refl, refl))
+
+pub lines_refused : (e : Error) (old : List PdbLine) (read : Result ProgramOf Error) → Fails ⊥ e read → LinesTold (number_of e) old old 0 read
+lines_refused IoError old read f = absurd f
+lines_refused OutOfMemory old (Ok x) f = inr (refl, refl, refl)
+lines_refused OutOfMemory old (Err d) f = (inr refl, refl, refl)
+lines_refused e old read f = rw f (inl refl, refl, refl)

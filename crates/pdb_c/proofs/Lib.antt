@@ -1,0 +1,7 @@
+pub mod Putting
+pub mod Codes
+pub mod Records
+pub mod StreamSteps
+pub mod ListSteps
+pub mod SymbolSteps
+pub mod FrameSteps

@@ -1,0 +1,20 @@
+-- What rows say of records.
+use Rattle.std.proofs.Common.{◌≡◌, ℕ, List, Result, Ok, Err, refl, sym, ap, subst, ◌∙◌}
+use Rattle.pdb.specs.Error.{Error}
+use Rattle.pdb.specs.Error.TheVariants.{IoError, OutOfMemory}
+use Rattle.pdb.specs.Refusal.{Fails, number_of}
+use Rattle.pdb.specs.Data.{Data}
+use Rattle.pdb.specs.SymbolList.{Entry}
+use Rattle.pdb.specs.Forms.{kind_at, record_at}
+use Rattle.pdb_c.specs.declared.symbols.PdbSymbol.{PdbSymbol}
+use Rattle.pdb_c.specs.Symbols.{symbol_entry, SaysData, SaysRecord, SaysItself}
+
+pub says_read : (y : PdbSymbol) (s : Entry) (d : Data) → symbol_entry y ≡ s → y.kind ≡ kind_at s.bytes → y.refused ≡ 0 → record_at s.bytes ≡ Ok d → SaysData y d → SaysItself y
+says_read y s d at k r read says =
+    let same : y.record_bytes.now ≡ s.bytes = ap (λ (x : Entry). x.bytes) at in
+    record { kind = k ∙ ap kind_at (sym same); says = subst (λ (x : Result Data Error). SaysRecord y x) (sym (ap record_at same ∙ read)) (r, says) }
+
+pub says_refused : (y : PdbSymbol) (s : Entry) (e : Error) → symbol_entry y ≡ s → y.kind ≡ kind_at s.bytes → y.refused ≡ number_of e → record_at s.bytes ≡ Err e → SaysItself y
+says_refused y s e at k r read =
+    let same : y.record_bytes.now ≡ s.bytes = ap (λ (x : Entry). x.bytes) at in
+    record { kind = k ∙ ap kind_at (sym same); says = subst (λ (x : Result Data Error). SaysRecord y x) (sym (ap record_at same ∙ read)) r }

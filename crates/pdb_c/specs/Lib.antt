@@ -1,0 +1,9 @@
+pub mod Rooms
+pub mod Boundary
+pub mod Lists
+pub mod Keys
+pub mod Numbers
+pub mod Streams
+pub mod Symbols
+pub mod LineRows
+pub mod FrameRows

@@ -1,0 +1,26 @@
+-- Lists that are put in a room whole.
+use Rattle.std.specs.Prelude.{◌≡◌, ◌⊎◌, ℕ, List, length, map, Option, Some, None, Result, Ok, Err, nat_lt, if◌then◌else◌}
+use Rattle.pdb.specs.Error.{Error}
+use Rattle.pdb.specs.Refusal.{number_of}
+use Rattle.pdb.specs.Left.{Left}
+use Rattle.pdb_c.specs.Rooms.{over}
+
+-- 0, or the number of the fault behind a list
+abbrev pub fault_code : Option Error → ℕ
+fault_code None = 0
+fault_code (Some e) = number_of e
+
+-- 31 where the room is too small for a list, or else its fault
+abbrev pub list_code : ℕ → ℕ → Option Error → ℕ
+list_code room count fault = if nat_lt room count then 31 else fault_code fault
+
+-- A call put a list's items, as far as the room reaches: each as a row that is seen as `says` says of the item.
+pub record IsListed {X Y Z : Type 0} (view : X → Y) (says : Z → Y) (c : ℕ) (old new : List X) (n : ℕ) (left : Left Z) : Type 0 where
+  pub rows : map view new ≡ over (map says left.items) (map view old)
+  pub count : n ≡ length left.items
+  pub code : c ≡ list_code (length old) (length left.items) left.fault
+
+-- The same of a list that may be refused, in a call that takes no memory: then nothing is put.
+abbrev pub Listed : {X Y Z : Type 0} → (X → Y) → (Z → Y) → ℕ → List X → List X → ℕ → Result (Left Z) Error → Type 0
+Listed view says code old new count (Ok left) = IsListed view says code old new count left
+Listed view says code old new count (Err e) = (code ≡ number_of e) × (new ≡ old) × (count ≡ 0)

@@ -1,0 +1,27 @@
+//! The reader of PDB files for callers in C: `include/pdb.h` declares the exports. No call keeps anything, and what a
+//! record lends borrows the bytes that the caller passed.
+#![tactic(auto)]
+
+mod answers;
+mod bytes;
+mod fields;
+mod frames;
+mod information;
+mod key;
+mod lines;
+mod modules;
+mod names;
+mod rooms;
+mod streams;
+mod symbols;
+
+pub use frames::{PdbAddress, PdbFrame, pdb_frames};
+pub use information::{
+    PdbDebugInformation, PdbInformation, pdb_debug_information, pdb_information,
+};
+pub use key::pdb_key;
+pub use lines::{PdbLine, pdb_lines};
+pub use modules::{PdbModule, pdb_modules};
+pub use names::{PdbName, pdb_name};
+pub use streams::{PdbStream, pdb_named_stream, pdb_streams};
+pub use symbols::{PdbSymbol, pdb_global_symbols, pdb_symbols};

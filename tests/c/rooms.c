@@ -1,0 +1,152 @@
+/* rooms FILE: rooms of every size from 0 to what is needed, filled with 0xff before each call: what fits is put, what is
+ * behind it stays, and the answer tells how much there is. Then eight threads that ask at once, of which each has the
+ * sums that one has. */
+#include "pdb.h"
+#include <pthread.h>
+#include <stdio.h>
+#include <stdlib.h>
+#include <string.h>
+
+static uint8_t *file;
+static size_t file_size;
+static unsigned failed;
+
+static void *filled(size_t n) {
+    void *p = malloc(n ? n : 1);
+    memset(p, 0xff, n ? n : 1);
+    return p;
+}
+
+static void want(int ok, const char *what, size_t at) {
+    if (!ok && failed++ < 20) printf("%s %zu\n", what, at);
+}
+
+/* What a call put in a room of so many rows of this width, of which it has more: the front of all, and 0xff behind it. */
+static void front(const char *what, const void *got, const void *all, size_t room, size_t needed, size_t width, pdb_code code) {
+    size_t fits = room < needed ? room : needed;
+    want(!memcmp(got, all, fits * width), what, room);
+    for (size_t i = fits * width; i < (room + 1) * width; i++) want(((const uint8_t *)got)[i] == 0xff, what, room);
+    want(code == (room < needed ? PDB_ROOM : PDB_DONE), what, room);
+}
+
+static uint8_t *stream(uint16_t number, size_t *size) {
+    pdb_stream row;
+    pdb_streams(file, file_size, &number, 1, &row, 1, filled(1), 0, size);
+    uint8_t *all = filled(*size);
+    want(pdb_streams(file, file_size, &number, 1, &row, 1, all, *size, size) == 0, "stream", number);
+    return all;
+}
+
+static void streams(void) {
+    uint16_t numbers[] = {3, 0xffff, 1, 3, 0xfffe};
+    size_t size, again;
+    pdb_stream rows[5];
+    pdb_streams(file, file_size, numbers, 5, rows, 5, filled(1), 0, &size);
+    uint8_t *all = filled(size);
+    want(pdb_streams(file, file_size, numbers, 5, rows, 5, all, size, &size) == 0, "streams", size);
+    want(rows[4].code == PDB_STREAM_NOT_FOUND && rows[1].size == 0 && rows[1].code == 0 && rows[3].at == rows[0].size + rows[2].size, "rows", 5);
+    for (size_t room = 0; room <= size; room += room < 64 || room + 64 > size ? 1 : 61) {
+        uint8_t *got = filled(room + 1);
+        front("room of streams", got, all, room, size, 1, pdb_streams(file, file_size, numbers, 5, rows, 5, got, room, &again));
+        want(again == size, "size", room);
+        free(got);
+    }
+    for (size_t room = 0; room <= 5; room++) {
+        pdb_stream *got = filled((room + 1) * sizeof *got);
+        front("rows of streams", got, rows, room, 5, sizeof *got, pdb_streams(file, file_size, numbers, 5, got, room, all, size, &again));
+        free(got);
+    }
+    free(all);
+}
+
+static void modules_and_lines(void) {
+    size_t size, count, again;
+    uint8_t *dbi = stream(3, &size);
+    pdb_module *all = filled(64 * sizeof *all);
+    want(pdb_modules(dbi, size, all, 64, &count) == 0, "modules", 64);
+    for (size_t room = 0; room <= count; room++) {
+        pdb_module *got = filled((room + 1) * sizeof *got);
+        front("modules", got, all, room, count, sizeof *got, pdb_modules(dbi, size, got, room, &again));
+        want(again == count, "count of modules", room);
+        free(got);
+    }
+    for (size_t k = 0; k < count; k++) {
+        if (all[k].stream == PDB_NO_STREAM) continue;
+        size_t n, lines;
+        uint8_t *bytes = stream((uint16_t)all[k].stream, &n);
+        const pdb_module *m = &all[k];
+        pdb_line *rows = filled((n / 8 + 1) * sizeof *rows);
+        want(pdb_lines(bytes, n, m->symbols_size, m->lines_size, m->c13_lines_size, rows, n / 8, &lines) == 0, "lines", k);
+        for (size_t room = 0; room <= lines; room++) {
+            pdb_line *got = filled((room + 1) * sizeof *got);
+            front("lines", got, rows, room, lines, sizeof *got, pdb_lines(bytes, n, m->symbols_size, m->lines_size, m->c13_lines_size, got, room, &again));
+            free(got);
+        }
+        uint32_t at = PDB_SYMBOLS_AT;
+        pdb_symbol *symbols = filled((n / 4 + 1) * sizeof *symbols);
+        want(pdb_symbols(bytes, n, m->symbols_size, &at, symbols, n / 4 + 1, &count) == PDB_END, "symbols", k);
+        for (size_t room = 1; room <= count; room++) {
+            pdb_symbol *got = filled((room + 1) * sizeof *got);
+            size_t seen = 0;
+            pdb_code code = PDB_DONE;
+            for (at = PDB_SYMBOLS_AT; code == PDB_DONE; seen += again) {
+                code = pdb_symbols(bytes, n, m->symbols_size, &at, got, room, &again);
+                for (size_t i = 0; i < again; i++) want(got[i].index == symbols[seen + i].index && got[i].name.size == symbols[seen + i].name.size, "symbols", room);
+            }
+            want(code == PDB_END && seen == count, "symbols seen", room);
+            free(got);
+        }
+        free(symbols);
+        free(rows);
+        free(bytes);
+        size_t dbi_count;
+        pdb_modules(dbi, size, all, 64, &dbi_count);
+        count = dbi_count;
+    }
+    free(all);
+    free(dbi);
+}
+
+static uint64_t frames(size_t n, size_t room, size_t names_room) {
+    pdb_address *asked = filled(n * sizeof *asked);
+    for (size_t k = 0; k < n; k++) asked[k] = (pdb_address){(uint32_t)(0x1000 + 7 * k), 0, PDB_ADDRESS};
+    size_t count, size;
+    pdb_frame *rows = filled((room + 1) * sizeof *rows);
+    uint8_t *names = filled(names_room + 1);
+    pdb_code code = pdb_frames(file, file_size, asked, n, rows, room, &count, names, names_room, &size);
+    want(code == (room < count || names_room < size ? PDB_ROOM : PDB_DONE), "frames", room);
+    uint64_t sum = count * 31 + size;
+    for (size_t i = 0; i < (room < count ? room : count) * sizeof *rows; i++) sum = sum * 33 + ((uint8_t *)rows)[i];
+    for (size_t i = 0; i < (names_room < size ? names_room : size); i++) sum = sum * 33 + names[i];
+    want(names[names_room] == 0xff && ((uint8_t *)(rows + room))[0] == 0xff, "behind frames", room);
+    free(names);
+    free(rows);
+    free(asked);
+    return sum;
+}
+
+static void *ask(void *wanted) {
+    for (int k = 0; k < 4; k++)
+        if (frames(60, 4000, 400000) != *(uint64_t *)wanted) failed++;
+    return 0;
+}
+
+int main(int count, char **words) {
+    FILE *in = count > 1 ? fopen(words[1], "rb") : 0;
+    if (!in) return 3;
+    fseek(in, 0, SEEK_END);
+    file_size = (size_t)ftell(in);
+    rewind(in);
+    file = malloc(file_size);
+    if (fread(file, 1, file_size, in) != file_size) return 3;
+    fclose(in);
+    streams();
+    modules_and_lines();
+    for (size_t room = 0; room < 24; room++) frames(8, room, 5 * room);
+    uint64_t sum = frames(60, 4000, 400000);
+    pthread_t threads[8];
+    for (int k = 0; k < 8; k++) pthread_create(&threads[k], 0, ask, &sum);
+    for (int k = 0; k < 8; k++) pthread_join(threads[k], 0);
+    printf("failed %u\n", failed);
+    return failed != 0;
+}
