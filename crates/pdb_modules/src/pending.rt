@@ -17,19 +17,17 @@ pub(crate) struct Lines {
     pub pending: Option<LineInfo>,
 }
 
-impl Lines {
-    // The pending record has this length, if it has none yet and is of the kind that is seen.
-    #[inline]
-    fn give_length(&mut self, size: u32)
-        ensures { self.new ≡ record self.old { pending = option_map (sized self.old.seen size) self.old.pending } }
-    {
-        if let Some(line) = &mut self.pending {
-            if line.length.is_none() && line.kind == self.seen.kind {
-                line.length = Some(size);
-            }
-        }
+// A record has this length, if it has none yet and is of the kind that is seen.
+#[inline]
+fn give_length(line: &mut LineInfo, seen: &Seen, size: u32)
+    ensures { line.new ≡ sized seen.now size line.old }
+{
+    if line.length.is_none() && line.kind == seen.kind {
+        line.length = Some(size);
     }
+}
 
+impl Lines {
     // Emits a record of this length, and gives the one before it, whose code ends here.
     #[inline]
     pub(crate) fn emit(&mut self, length: Option<u32>) -> Option<LineInfo>
@@ -37,9 +35,8 @@ impl Lines {
         ensures pending { self.new ≡ record self.old { pending = Some (record_of self.old.section self.old.seen length) } }
     {
         if let Some(last) = &mut self.pending {
-            if last.length.is_none() && last.kind == self.seen.kind {
-                last.length = Some(self.seen.code_offset().wrapping_sub(last.offset.offset));
-            }
+            let size = self.seen.code_offset().wrapping_sub(last.offset.offset);
+            give_length(last, &self.seen, size);
         }
         let line = self.seen.record(self.section, length);
         self.pending.replace(line)
@@ -59,7 +56,9 @@ impl Lines {
             | BinaryAnnotation::ChangeCodeOffsetAndLineOffset(..) => Some(None),
             BinaryAnnotation::ChangeCodeLengthAndCodeOffset(size, _) => Some(Some(size)),
             BinaryAnnotation::ChangeCodeLength(size) => {
-                self.give_length(size);
+                if let Some(line) = &mut self.pending {
+                    give_length(line, &self.seen, size);
+                }
                 None
             }
             _ => None,
