@@ -125,11 +125,28 @@ fn without_end(line: &[u8]) -> &[u8]
     line.strip_suffix(b"\n").unwrap_or(line)
 }
 
+/// Where a line is read and its text is composed, kept from line to line.
+#[derive(Drop)]
+pub struct LineRooms {
+    line: Vec<u8>,
+    text: Vec<u8>,
+}
+
+impl LineRooms {
+    /// Empty rooms, which take no memory yet.
+    pub fn new(alloc: Global) -> Self {
+        LineRooms {
+            line: Vec::new(alloc),
+            text: Vec::new(alloc),
+        }
+    }
+}
+
 /// Reads the next line of a reader, and writes the text that answers it; answers whether there was one.
 pub fn answer_line<'s, S: Source<'s>, R: BufRead, W: Write>(
-    alloc: Global,
     resolver: &mut Resolver<'_, 's, S>,
     base: u64,
+    rooms: &mut LineRooms,
     input: &mut R,
     out: &mut W,
 ) -> Result<bool, Stop>
@@ -142,13 +159,12 @@ pub fn answer_line<'s, S: Source<'s>, R: BufRead, W: Write>(
     // A beginning of that text was written.
     ensures refused { IfSome (R.remaining input.old) (λ xs. OnErr result (WroteFront (W.contents out.old) (W.contents out.new) (of_first_line (line_text resolver.old.file base) xs))) }
 {
-    let mut line = Vec::new(alloc);
-    if read_line(input, &mut line)? == 0 {
+    if read_line(input, &mut rooms.line)? == 0 {
         return Ok(false);
     }
-    let mut text = Vec::new(alloc);
-    put_answer(resolver, base, without_end(&line), &mut text)?;
-    write_out(out, &text)?;
+    rooms.text.clear();
+    put_answer(resolver, base, without_end(&rooms.line), &mut rooms.text)?;
+    write_out(out, &rooms.text)?;
     Ok(true)
 }
 
@@ -167,8 +183,9 @@ pub fn answer_lines<'s, S: Source<'s>, R: BufRead, W: Write>(
     // A beginning of the texts was written.
     ensures refused { IfSome (R.remaining input.old) (λ xs. OnErr result (WroteFront (W.contents out.old) (W.contents out.new) (flat_map (line_text resolver.old.file base) (lines_of xs)))) }
 {
+    let mut rooms = LineRooms::new(alloc);
     for _ in 0..u64::MAX {
-        if !answer_line(alloc, resolver, base, input, out)? {
+        if !answer_line(resolver, base, &mut rooms, input, out)? {
             return Ok(());
         }
     }
