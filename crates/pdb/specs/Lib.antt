@@ -14,6 +14,8 @@ pub use Rattle.pdb_base.specs.declared.error.Error
 pub use Rattle.pdb_base.specs.declared.error.Part
 pub use Rattle.pdb_symbols.specs.Data
 pub use Rattle.pdb_symbols.specs.Forms
+pub use Rattle.pdb_symbols.specs.Headings
+pub use Rattle.pdb_symbols.specs.declared.form.Form
 pub use Rattle.pdb_symbols.specs.SymbolList
 pub use Rattle.pdb_symbols.specs.Views
 pub use Rattle.pdb_dbi.specs.declared.contributions.DBISectionContribution

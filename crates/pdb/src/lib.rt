@@ -108,6 +108,8 @@ pub use pdb_symbols::DataReferenceSymbol;
 pub use pdb_symbols::DataSymbol;
 pub use pdb_symbols::ExportSymbol;
 pub use pdb_symbols::ExportSymbolFlags;
+pub use pdb_symbols::Form;
+pub use pdb_symbols::Heading;
 pub use pdb_symbols::InlineSiteSymbol;
 pub use pdb_symbols::LabelSymbol;
 pub use pdb_symbols::LocalSymbol;

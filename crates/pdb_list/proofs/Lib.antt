@@ -6,3 +6,4 @@ pub mod LinePieces
 pub mod ModuleLists
 pub mod Numbers
 pub mod Sites
+pub mod Headings

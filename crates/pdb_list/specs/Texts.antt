@@ -16,9 +16,11 @@ use Rattle.pdb.specs.Information.{Information}
 use Rattle.pdb.specs.Names.{Name, names_of}
 use Rattle.pdb.specs.Modules.{ModuleEntry, modules_in}
 use Rattle.pdb.specs.Contributions.{contributions_in}
-use Rattle.pdb.specs.Data.{Data, name_of}
-use Rattle.pdb.specs.Data.Data.{ScopeEnd, ObjName, RegisterVariable, Constant, UserDefinedType, MultiRegisterVariable, DataItem, Public, Procedure, ThreadStorage, Compiler, UsingNamespace, ProcedureReference, DataReference, AnnotationReference, Trampoline, Export, Local, BuildInfo, InlineSite, InlineSiteEnd, ProcedureEnd, Label, Block, RegisterRelative, Thunk, SeparatedCode}
+use Rattle.pdb.specs.Data.{Data}
+use Rattle.pdb.specs.Form.{Form}
+use Rattle.pdb.specs.Form.TheVariants as form
 use Rattle.pdb.specs.Forms.{kind_at, record_at}
+use Rattle.pdb.specs.Headings.{Titled, title_of}
 use Rattle.pdb.specs.SymbolList.{Entry, symbols_from}
 use Rattle.pdb.specs.ImageSectionHeader.{ImageSectionHeader}
 use Rattle.pdb.specs.SectionHeader.{name_of as section_name}
@@ -146,34 +148,34 @@ sections_text file = told (sections_in file) section_list_text
 -- ---- symbols
 
 -- the name of a form
-abbrev pub form_text : Data → List ℕ
-form_text ScopeEnd = codes "ScopeEnd"
-form_text (ObjName signature name) = codes "ObjName"
-form_text (RegisterVariable type_index register name) = codes "RegisterVariable"
-form_text (Constant managed type_index value name) = codes "Constant"
-form_text (UserDefinedType type_index name) = codes "UserDefinedType"
-form_text (MultiRegisterVariable type_index registers) = codes "MultiRegisterVariable"
-form_text (DataItem global managed type_index offset name) = codes "Data"
-form_text (Public code function managed msil offset name) = codes "Public"
-form_text (Procedure s) = codes "Procedure"
-form_text (ThreadStorage global type_index offset name) = codes "ThreadStorage"
-form_text (Compiler s) = codes "CompileFlags"
-form_text (UsingNamespace name) = codes "UsingNamespace"
-form_text (ProcedureReference global sum_name symbol_index of_module name) = codes "ProcedureReference"
-form_text (DataReference sum_name symbol_index of_module name) = codes "DataReference"
-form_text (AnnotationReference sum_name symbol_index of_module name) = codes "AnnotationReference"
-form_text (Trampoline s) = codes "Trampoline"
-form_text (Export ordinal flags name) = codes "Export"
-form_text (Local type_index flags name) = codes "Local"
-form_text (BuildInfo s) = codes "BuildInfo"
-form_text (InlineSite s) = codes "InlineSite"
-form_text InlineSiteEnd = codes "InlineSiteEnd"
-form_text ProcedureEnd = codes "ProcedureEnd"
-form_text (Label offset flags name) = codes "Label"
-form_text (Block parent end len offset name) = codes "Block"
-form_text (RegisterRelative offset type_index register name) = codes "RegisterRelative"
-form_text (Thunk s) = codes "Thunk"
-form_text (SeparatedCode s) = codes "SeparatedCode"
+abbrev pub form_text : Form → List ℕ
+form_text form.ScopeEnd = codes "ScopeEnd"
+form_text form.ObjName = codes "ObjName"
+form_text form.RegisterVariable = codes "RegisterVariable"
+form_text form.Constant = codes "Constant"
+form_text form.UserDefinedType = codes "UserDefinedType"
+form_text form.MultiRegisterVariable = codes "MultiRegisterVariable"
+form_text form.Data = codes "Data"
+form_text form.Public = codes "Public"
+form_text form.Procedure = codes "Procedure"
+form_text form.ThreadStorage = codes "ThreadStorage"
+form_text form.CompileFlags = codes "CompileFlags"
+form_text form.UsingNamespace = codes "UsingNamespace"
+form_text form.ProcedureReference = codes "ProcedureReference"
+form_text form.DataReference = codes "DataReference"
+form_text form.AnnotationReference = codes "AnnotationReference"
+form_text form.Trampoline = codes "Trampoline"
+form_text form.Export = codes "Export"
+form_text form.Local = codes "Local"
+form_text form.BuildInfo = codes "BuildInfo"
+form_text form.InlineSite = codes "InlineSite"
+form_text form.InlineSiteEnd = codes "InlineSiteEnd"
+form_text form.ProcedureEnd = codes "ProcedureEnd"
+form_text form.Label = codes "Label"
+form_text form.Block = codes "Block"
+form_text form.RegisterRelative = codes "RegisterRelative"
+form_text form.Thunk = codes "Thunk"
+form_text form.SeparatedCode = codes "SeparatedCode"
 
 -- a space before a name, and the name, where there is one
 abbrev pub space_text : Option (List ℕ) → List ℕ
@@ -188,9 +190,13 @@ bytes_of (Some name) = name
 abbrev pub refused_text : Error → List ℕ
 refused_text e = codes "refused " ++ decimal (number_of e)
 
+-- the name of a form, and a record's name, where it has one
+abbrev pub title_text : Titled → List ℕ
+title_text t = form_text t.0 ++ space_text t.1 ++ bytes_of t.1
+
 -- what a record says, or its refusal
 abbrev pub record_text : Result Data Error → List ℕ
-record_text (Ok d) = form_text d ++ space_text (name_of d) ++ bytes_of (name_of d)
+record_text (Ok d) = title_text (title_of d)
 record_text (Err e) = refused_text e
 
 -- the line of a symbol

@@ -1,80 +1,68 @@
 //! The lines of symbols.
 
 ghost use Rattle.std.specs.Prelude.{◌≡◌, ◌≢◌, ◌++◌, true, OnOk, codes};
+ghost use Rattle.std.specs.Option.{option_map};
 ghost use Rattle.pdb.specs.Error.TheVariants.{OutOfMemory};
 ghost use Rattle.pdb.specs.Source.{Continues};
-ghost use Rattle.pdb.specs.Data.{shown, name_of};
 ghost use Rattle.pdb.specs.Forms.{record_at};
+ghost use Rattle.pdb.specs.Headings.{shown_heading};
 ghost use Rattle.pdb.specs.Views.{symbol_of, symbols_left};
 ghost use Rattle.pdb.specs.Text.{name_bytes};
 ghost use Rattle.pdb_text.specs.Digits.{hex};
-ghost use Rattle.pdb_list.specs.Texts.{globals_text, form_text, space_text, bytes_of, refused_text, record_text, symbol_text, symbols_text};
+ghost use Rattle.pdb_list.specs.Texts.{globals_text, form_text, space_text, bytes_of, refused_text, record_text, symbol_text, symbols_text, title_text};
 ghost use Rattle.pdb_list.specs.ModuleTexts.{symbols_of_text};
 
 use crate::text::{put_error, put_refusal, put_refused_line};
 use pdb::{
-    Error, FallibleIterator, ModuleInfo, PDB, RawString, Source, Symbol, SymbolData, SymbolIter,
+    Error, FallibleIterator, Form, Heading, ModuleInfo, PDB, RawString, Source, Symbol, SymbolIter,
 };
 use pdb_text::{hex4, hex8, put_line_end};
 use std::alloc::{AllocError, Global};
 
-/// A form's name with a space behind it, a symbol's name, and the end of the line.
-#[inline(always)]
-fn put_named<const N: usize>(
-    out: &mut Vec<u8>,
-    form: [u8; N],
-    name: RawString<'_>,
-) -> Result<(), AllocError>
-    ensures { OnOk result (out.new.items ≡ out.old.items ++ (form.entry ++ name_bytes name.entry ++ codes "\n")) }
+/// The name of a form.
+fn put_form(out: &mut Vec<u8>, form: Form) -> Result<(), AllocError>
+    ensures { OnOk result (out.new.items ≡ out.old.items ++ form_text form) }
 {
-    out.extend_from_slice(&form)?;
-    out.extend_from_slice(name.as_bytes())?;
-    put_line_end(out)
+    match form {
+        Form::ScopeEnd => out.extend_from_slice(b"ScopeEnd"),
+        Form::ObjName => out.extend_from_slice(b"ObjName"),
+        Form::RegisterVariable => out.extend_from_slice(b"RegisterVariable"),
+        Form::Constant => out.extend_from_slice(b"Constant"),
+        Form::UserDefinedType => out.extend_from_slice(b"UserDefinedType"),
+        Form::MultiRegisterVariable => out.extend_from_slice(b"MultiRegisterVariable"),
+        Form::Data => out.extend_from_slice(b"Data"),
+        Form::Public => out.extend_from_slice(b"Public"),
+        Form::Procedure => out.extend_from_slice(b"Procedure"),
+        Form::ThreadStorage => out.extend_from_slice(b"ThreadStorage"),
+        Form::CompileFlags => out.extend_from_slice(b"CompileFlags"),
+        Form::UsingNamespace => out.extend_from_slice(b"UsingNamespace"),
+        Form::ProcedureReference => out.extend_from_slice(b"ProcedureReference"),
+        Form::DataReference => out.extend_from_slice(b"DataReference"),
+        Form::AnnotationReference => out.extend_from_slice(b"AnnotationReference"),
+        Form::Trampoline => out.extend_from_slice(b"Trampoline"),
+        Form::Export => out.extend_from_slice(b"Export"),
+        Form::Local => out.extend_from_slice(b"Local"),
+        Form::BuildInfo => out.extend_from_slice(b"BuildInfo"),
+        Form::InlineSite => out.extend_from_slice(b"InlineSite"),
+        Form::InlineSiteEnd => out.extend_from_slice(b"InlineSiteEnd"),
+        Form::ProcedureEnd => out.extend_from_slice(b"ProcedureEnd"),
+        Form::Label => out.extend_from_slice(b"Label"),
+        Form::Block => out.extend_from_slice(b"Block"),
+        Form::RegisterRelative => out.extend_from_slice(b"RegisterRelative"),
+        Form::Thunk => out.extend_from_slice(b"Thunk"),
+        Form::SeparatedCode => out.extend_from_slice(b"SeparatedCode"),
+    }
 }
 
-/// A record's form, its name where it has one, and the end of the line.
-fn put_data(out: &mut Vec<u8>, parsed: &SymbolData<'_>) -> Result<(), AllocError>
-    ensures { OnOk result (out.new.items ≡ out.old.items ++ form_text (shown parsed.now) ++ space_text (name_of (shown parsed.now)) ++ bytes_of (name_of (shown parsed.now)) ++ codes "\n") }
+/// A space and a name, where there is one, and the end of the line.
+fn put_name(out: &mut Vec<u8>, name: Option<RawString<'_>>) -> Result<(), AllocError>
+    ensures { OnOk result (out.new.items ≡ out.old.items ++ space_text (option_map name_bytes name.entry) ++ bytes_of (option_map name_bytes name.entry) ++ codes "\n") }
 {
-    match parsed {
-        SymbolData::ScopeEnd => out.extend_from_slice(b"ScopeEnd\n"),
-        SymbolData::ObjName(symbol) => put_named(out, *b"ObjName ", symbol.name),
-        SymbolData::RegisterVariable(_) => out.extend_from_slice(b"RegisterVariable\n"),
-        SymbolData::Constant(symbol) => put_named(out, *b"Constant ", symbol.name),
-        SymbolData::UserDefinedType(symbol) => put_named(out, *b"UserDefinedType ", symbol.name),
-        SymbolData::MultiRegisterVariable(_) => out.extend_from_slice(b"MultiRegisterVariable\n"),
-        SymbolData::Data(symbol) => put_named(out, *b"Data ", symbol.name),
-        SymbolData::Public(symbol) => put_named(out, *b"Public ", symbol.name),
-        SymbolData::Procedure(symbol) => put_named(out, *b"Procedure ", symbol.name),
-        SymbolData::ThreadStorage(symbol) => put_named(out, *b"ThreadStorage ", symbol.name),
-        SymbolData::CompileFlags(_) => out.extend_from_slice(b"CompileFlags\n"),
-        SymbolData::UsingNamespace(symbol) => put_named(out, *b"UsingNamespace ", symbol.name),
-        SymbolData::ProcedureReference(symbol) => match symbol.name {
-            Some(name) => put_named(out, *b"ProcedureReference ", name),
-            None => out.extend_from_slice(b"ProcedureReference\n"),
-        },
-        SymbolData::DataReference(symbol) => match symbol.name {
-            Some(name) => put_named(out, *b"DataReference ", name),
-            None => out.extend_from_slice(b"DataReference\n"),
-        },
-        SymbolData::AnnotationReference(symbol) => put_named(
-            out,
-            *b"AnnotationReference ",
-            symbol.name,
-        ),
-        SymbolData::Trampoline(_) => out.extend_from_slice(b"Trampoline\n"),
-        SymbolData::Export(symbol) => put_named(out, *b"Export ", symbol.name),
-        SymbolData::Local(symbol) => put_named(out, *b"Local ", symbol.name),
-        SymbolData::BuildInfo(_) => out.extend_from_slice(b"BuildInfo\n"),
-        SymbolData::InlineSite(_) => out.extend_from_slice(b"InlineSite\n"),
-        SymbolData::InlineSiteEnd => out.extend_from_slice(b"InlineSiteEnd\n"),
-        SymbolData::ProcedureEnd => out.extend_from_slice(b"ProcedureEnd\n"),
-        SymbolData::Label(symbol) => put_named(out, *b"Label ", symbol.name),
-        SymbolData::Block(symbol) => put_named(out, *b"Block ", symbol.name),
-        SymbolData::RegisterRelative(symbol) => put_named(out, *b"RegisterRelative ", symbol.name),
-        SymbolData::Thunk(symbol) => put_named(out, *b"Thunk ", symbol.name),
-        SymbolData::SeparatedCode(_) => out.extend_from_slice(b"SeparatedCode\n"),
+    if let Some(name) = name {
+        out.push(b' ')?;
+        out.extend_from_slice(name.as_bytes())?;
     }
+    put_line_end(out)
 }
 
 /// A refusal in a symbol's line; want of memory is passed on.
@@ -87,12 +75,20 @@ fn put_refused(out: &mut Vec<u8>, e: Error) -> Result<(), AllocError>
     }
 }
 
+/// A record's form, its name where it has one, and the end of the line.
+fn put_heading(out: &mut Vec<u8>, heading: Heading<'_>) -> Result<(), AllocError>
+    ensures { OnOk result (out.new.items ≡ out.old.items ++ title_text (shown_heading heading.entry) ++ codes "\n") }
+{
+    put_form(out, heading.form)?;
+    put_name(out, heading.name)
+}
+
 /// What a symbol's record says: its form and name; or `refused` and the refusal's number; and the end of the line.
 fn put_record(alloc: Global, out: &mut Vec<u8>, symbol: &Symbol<'_>) -> Result<(), AllocError>
     ensures { OnOk result (out.new.items ≡ out.old.items ++ record_text (record_at (symbol_of symbol.now).bytes) ++ codes "\n") }
 {
-    match symbol.parse(alloc) {
-        Ok(parsed) => put_data(out, &parsed),
+    match symbol.heading(alloc) {
+        Ok(heading) => put_heading(out, heading),
         Err(e) => put_refused(out, e),
     }
 }

@@ -28,7 +28,7 @@ prefix_refusal b e n q (inr (inl h)) = let p = h.1 in absurd cc
 prefix_refusal b e n q (inr (inr h)) = let p = h.2 in let same : h.0 ≡ n = cc in subst (λ m. IsUnlistedPrefix b m) same h.1
 
 -- no record is refused by its source
-fails_of : (b : List ℕ) (e : Error) → record_at b ≡ Err e → Fails ⊥ e (record_at b)
+pub fails_of : (b : List ℕ) (e : Error) → record_at b ≡ Err e → Fails ⊥ e (record_at b)
 fails_of b IoError h = not_by_source (record_refused b IoError h)
   where
     not_by_source : Refusal b IoError → ⊥

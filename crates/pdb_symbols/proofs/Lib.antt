@@ -1,6 +1,8 @@
 pub mod Parts
 pub mod FormTable
 pub mod Records
+pub mod Headings
+pub mod HeadingClauses
 pub mod Memory
 pub mod ScopeLaws
 pub mod Clauses

@@ -10,6 +10,7 @@ pub mod Parts
 pub mod Groups
 pub mod FormTable
 pub mod Forms
+pub mod Headings
 pub mod Scopes
 pub mod Memory
 pub mod SymbolList

@@ -12,7 +12,7 @@ ghost use Rattle.pdb_symbols.specs.Groups.{optional_index, span, two_places};
 use pdb_base::{ParseBuffer, PdbInternalSectionOffset, RawString, Result, SymbolIndex};
 
 // Kinds below this one have names behind a byte of length; the others have names before a zero byte.
-const FIRST_WITH_ZERO_ENDED_NAMES: u16 = 0x1100;
+pub(crate) const FIRST_WITH_ZERO_ENDED_NAMES: u16 = 0x1100;
 
 #[inline]
 #[tactic(auto, unfolding(crate::specs::Parts::offset_at))]

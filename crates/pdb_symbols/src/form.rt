@@ -3,35 +3,62 @@
 ghost use Rattle.std.specs.Prelude.{◌≡◌};
 ghost use Rattle.pdb_symbols.specs.Kinds.{row, row_in, older_rows, middle_rows, newer_rows};
 
-// How the fields of a record stand.
-#[derive(Clone, Copy)]
-pub(crate) enum Form {
+/// The form of a record: how its fields stand behind its kind, and which variant of `SymbolData` it says.
+#[derive(Clone, Copy, Debug, Eq, PartialEq)]
+pub enum Form {
+    /// The end of a scope: `S_END` (0x0006).
     ScopeEnd,
+    /// The name of an object file.
     ObjName,
+    /// A variable in a register.
     RegisterVariable,
+    /// A constant.
     Constant,
+    /// A name for a type.
     UserDefinedType,
+    /// A variable in several registers.
     MultiRegisterVariable,
+    /// Data at a fixed place.
     Data,
+    /// A symbol that other modules can see.
     Public,
+    /// A procedure.
     Procedure,
+    /// Data of which each thread has its own.
     ThreadStorage,
+    /// How a module was compiled.
     CompileFlags,
+    /// A namespace that is used.
     UsingNamespace,
+    /// A reference to a procedure of a module.
     ProcedureReference,
+    /// A reference to data of a module.
     DataReference,
+    /// A reference to an annotation of a module.
     AnnotationReference,
+    /// A jump that the linker made.
     Trampoline,
+    /// A symbol that the image exports.
     Export,
+    /// A local variable.
     Local,
+    /// What a module was built with.
     BuildInfo,
+    /// An inlined call.
     InlineSite,
+    /// The end of an inlined call: `S_INLINESITE_END` (0x114e).
     InlineSiteEnd,
+    /// The end of a procedure: `S_PROC_ID_END` (0x114f).
     ProcedureEnd,
+    /// A label in code.
     Label,
+    /// A block of a procedure.
     Block,
+    /// A variable at an offset from a register's value.
     RegisterRelative,
+    /// A thunk.
     Thunk,
+    /// Code of a procedure that stands apart from it.
     SeparatedCode,
 }
 

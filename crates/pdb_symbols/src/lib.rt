@@ -8,6 +8,7 @@ mod data;
 mod fields;
 mod flags;
 mod form;
+mod heading;
 mod language;
 pub mod laws;
 mod parse;
@@ -33,6 +34,8 @@ pub use data::SymbolData;
 pub use flags::{
     CompileFlags, ExportSymbolFlags, LocalVariableFlags, ProcedureFlags, SeparatedCodeFlags,
 };
+pub use form::Form;
+pub use heading::Heading;
 pub use language::SourceLanguage;
 pub use procedures::{
     BlockSymbol, InlineSiteSymbol, LabelSymbol, ProcedureSymbol, SeparatedCodeSymbol,

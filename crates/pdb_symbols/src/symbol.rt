@@ -4,6 +4,7 @@ ghost use Rattle.std.specs.Prelude.{◌≡◌, ◌≤◌, length};
 ghost use Rattle.pdb_base.specs.Fields.{number};
 
 use crate::data::SymbolData;
+use crate::heading::{Heading, read_heading};
 use crate::parse::parse_record;
 use crate::scopes::{kind_ends_scope, kind_starts_scope};
 use pdb_base::{Result, SymbolIndex};
@@ -39,6 +40,7 @@ impl<'t> Symbol<'t> {
     ghost use Rattle.pdb_symbols.specs.Kinds.{is_in};
     ghost use Rattle.pdb_symbols.specs.Scopes.{starts_of, ends_of, StartsScope, EndsScope};
     ghost use Rattle.pdb_symbols.specs.Forms.{Is, IsUnlistedKind, IsUnlistedPrefix, Refusal, kind_at, record_at};
+    ghost use Rattle.pdb_symbols.specs.Headings.{heading_at, shown_heading};
     ghost use Rattle.pdb_symbols.specs.Views.{symbol_of};
 
     /// The record of these bytes, its kind among them, at a place of its list. None below two bytes, since these have
@@ -131,6 +133,19 @@ impl<'t> Symbol<'t> {
         ensures memory { IfErr result (λ e. e ≡ Error.OutOfMemory → IsTrue (is_in (0x110a ∷ 0x1005 ∷ 0x1117 ∷ 0x1014 ∷ []) (kind_at (symbol_of self.now).bytes))) }
     {
         parse_record(alloc, self.bytes)
+    }
+
+    /// The record's form and its name, as `parse` has them, without the other fields: of most forms these aren't read.
+    /// It is refused as `parse` is, and takes memory for the same kinds.
+    #[inline(always)]
+    #[tactic(auto, using(crate::proofs::HeadingClauses::heading_reads))]
+    pub fn heading(&self, alloc: Global) -> Result<Heading<'t>>
+        // The answer is the form and the name of what the bytes say, or the same refusal, want of memory aside.
+        ensures reads { Gives shown_heading ⊥ result (heading_at (symbol_of self.now).bytes) }
+        // Memory is wanted for variables in several registers alone.
+        ensures memory { IfErr result (λ e. e ≡ Error.OutOfMemory → IsTrue (is_in (0x110a ∷ 0x1005 ∷ 0x1117 ∷ 0x1014 ∷ []) (kind_at (symbol_of self.now).bytes))) }
+    {
+        read_heading(alloc, self.bytes)
     }
 }
 

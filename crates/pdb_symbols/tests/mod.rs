@@ -4,6 +4,7 @@ mod annotations;
 mod compilers;
 mod damaged;
 mod enums;
+mod headings;
 mod lists;
 mod procedures;
 mod references;

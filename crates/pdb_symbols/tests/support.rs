@@ -1,6 +1,6 @@
 //! What the tests of records share.
 
-use crate::{Symbol, SymbolData};
+use crate::{Heading, Symbol, SymbolData};
 use pdb_base::{Error, RawString, Result, SymbolIndex};
 use std::alloc::Global;
 use std::fmt::Debug;
@@ -38,6 +38,14 @@ pub fn parsed(alloc: Global, bytes: &[u8]) -> Result<SymbolData<'_>> {
     }
 }
 
+/// What heads the record of these bytes.
+pub fn headed(alloc: Global, bytes: &[u8]) -> Result<Heading<'_>> {
+    match Symbol::new(SymbolIndex(0), bytes) {
+        Some(symbol) => symbol.heading(alloc),
+        None => Err(Error::SymbolTooShort),
+    }
+}
+
 /// The record of these bytes says this and has this name, and a copy of what it says is equal.
 pub fn says(
     rt: &impl Abort,
@@ -50,6 +58,7 @@ pub fn says(
     let found = parsed(alloc, bytes)?;
     is(rt, label, &found, wanted);
     is(rt, label, &found.name(), &name.map(RawString::from));
+    is(rt, label, &headed(alloc, bytes)?.name, &found.name());
     let copy = found.try_clone(alloc)?;
     is(rt, label, &copy, wanted);
     Ok(())
@@ -78,4 +87,5 @@ pub fn says_exactly(
 /// The record of these bytes is refused so.
 pub fn is_refused(rt: &impl Abort, alloc: Global, label: &str, bytes: &[u8], wanted: Error) {
     is(rt, label, &parsed(alloc, bytes).err(), &Some(wanted));
+    is(rt, label, &headed(alloc, bytes).err(), &Some(wanted));
 }
