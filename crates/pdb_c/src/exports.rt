@@ -32,11 +32,7 @@ fn shown(export: CrossModuleExport) -> PdbExport
 }
 
 /// Puts the exports that are left, and counts them.
-fn fill(
-    mut exports: CrossModuleExportIter<'_>,
-    records: &mut [PdbExport],
-    count: &mut usize,
-) -> u32
+fn fill(mut exports: CrossModuleExportIter<'_>, records: &mut [PdbExport], count: &mut usize) -> u32
     ensures { IsListed (λ r. r) export_row result records.old records.new count.new (exports_left exports.entry) }
 {
     let mut n = 0usize;

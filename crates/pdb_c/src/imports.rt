@@ -2,7 +2,7 @@
 
 ghost use Rattle.std.specs.Prelude.{◌≡◌, ◌≤◌, ◌<◌, length, map, Ok, Err};
 ghost use Rattle.pdb.specs.Refusal.{Gives};
-ghost use Rattle.pdb.specs.ImportViews.{module_of};
+ghost use Rattle.pdb_modules.specs.ImportViews.{module_of};
 ghost use Rattle.pdb.specs.ModuleStream.{imports_of};
 ghost use Rattle.pdb_c.specs.Rooms.{over};
 ghost use Rattle.pdb_c.specs.Lists.{IsListed, whole_list};

@@ -144,11 +144,7 @@ pub extern "C" fn pdb_inlinees(
 }
 
 /// Puts the line records that are left, and counts them.
-fn fill_lines(
-    mut lines: InlineeLineIterator<'_>,
-    records: &mut [PdbLine],
-    count: &mut usize,
-) -> u32
+fn fill_lines(mut lines: InlineeLineIterator<'_>, records: &mut [PdbLine], count: &mut usize) -> u32
     ensures { IsListed (λ r. r) inlined_row result records.old records.new count.new (inlined_left lines.entry) }
 {
     let mut n = 0usize;

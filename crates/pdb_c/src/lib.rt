@@ -12,6 +12,7 @@ mod imports;
 mod information;
 mod inlinees;
 mod key;
+mod layout;
 mod lines;
 mod modules;
 mod names;

@@ -13,7 +13,8 @@ ghost use Rattle.pdb_c.specs.Symbols.{symbol_entry, form_number, parent_of, end_
 
 use crate::answers::{DONE, END, LARGE, OUT_OF_MEMORY, code_of};
 use crate::fields::{
-    annotations_of, code_size_of, end_of, form_number, inlinee_of, parent_of, place_of, type_index_of,
+    annotations_of, code_size_of, end_of, form_number, inlinee_of, parent_of, place_of,
+    type_index_of,
 };
 use pdb::{
     Error, FallibleIterator, Feature, ParseBuffer, Result, Symbol, SymbolData, SymbolIndex,

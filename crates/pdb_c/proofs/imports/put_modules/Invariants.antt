@@ -1,5 +1,5 @@
 use Rattle.std.proofs.Common.{◌≡◌, length, drop, map}
-use Rattle.pdb.specs.ImportViews.{module_of}
+use Rattle.pdb_modules.specs.ImportViews.{module_of}
 use Rattle.pdb_c.specs.CrossRows.{import_row}
 use Rattle.pdb_c.specs.Rooms.{over, put}
 use Rattle.pdb_c.proofs.imports.put_modules.Given as goal
