@@ -116,14 +116,14 @@ static void records_of(const pdb_symbol *y) {
     free(all);
 }
 
-/* The symbols that start a scope and those that end one are pairs, and an end is told as it stands. */
+/* The symbols that start a scope and those that end one are pairs. */
 static void scopes(const pdb_symbol *symbols, size_t count) {
-    uint32_t ends[64];
     size_t depth = 0;
     for (size_t i = 0; i < count; i++) {
         want(symbols[i].starts_scope + symbols[i].ends_scope <= 1, "scope", symbols[i].index);
-        if (symbols[i].starts_scope && depth < 64) ends[depth++] = symbols[i].end;
-        if (symbols[i].ends_scope && depth > 0) want(ends[--depth] == symbols[i].index, "end of a scope", symbols[i].index);
+        want(depth + symbols[i].starts_scope >= symbols[i].ends_scope, "end of a scope", symbols[i].index);
+        depth += symbols[i].starts_scope;
+        depth -= symbols[i].ends_scope;
     }
     want(depth == 0, "scopes", depth);
 }
