@@ -1,4 +1,5 @@
-/* list FILE COMMAND..: the lines that `pdb_list FILE COMMAND..` has for info, modules, globals, symbols K and lines K.
+/* list FILE COMMAND..: the lines that `pdb_list FILE COMMAND..` has for info, modules, globals, symbols K, lines K, files K,
+ * inlinees K, imports K INDEX and exports K.
  *
  *     cc -Iinclude examples/list.c c/out/libpdb.a -o list
  */
@@ -135,20 +136,141 @@ static void number(int is_told, uint32_t n) {
     else printf(" -");
 }
 
+static void line(const pdb_line *l) {
+    printf("line %04x:%08x", l->section, l->offset);
+    number(l->has_length, l->length);
+    printf(" %u %u %u", l->file, l->line_start, l->line_end);
+    number(l->has_column_start, l->column_start);
+    number(l->has_column_end, l->column_end);
+    printf(l->is_statement ? " S\n" : " E\n");
+}
+
+/* Room for so many rows of what takes as many bytes of lines data. */
+static size_t most(const pdb_module *m, size_t size, size_t bytes) {
+    size_t part = m->c13_lines_size;
+    return (part < size ? part : size) / bytes;
+}
+
 static void lines(const uint8_t *bytes, size_t size, const pdb_module *m) {
-    size_t count, most = m->c13_lines_size / 8;
-    if (most > size / 8) most = size / 8;
-    pdb_line *rows = room(most * sizeof *rows);
-    pdb_code code = memory(pdb_lines(bytes, size, m->symbols_size, m->lines_size, m->c13_lines_size, rows, most, &count));
+    size_t count, n = most(m, size, 8);
+    pdb_line *rows = room(n * sizeof *rows);
+    pdb_code code = memory(pdb_lines(bytes, size, m->symbols_size, m->lines_size, m->c13_lines_size, rows, n, &count));
+    for (size_t i = 0; i < count; i++) line(&rows[i]);
+    if (code) told(code);
+    free(rows);
+}
+
+static void files(const uint8_t *bytes, size_t size, const pdb_module *m) {
+    static const char *const kinds[] = {"none", "md5", "sha1", "sha256"};
+    size_t count, n = most(m, size, 6);
+    pdb_file *rows = room(n * sizeof *rows);
+    pdb_code code = memory(pdb_files(bytes, size, m->symbols_size, m->lines_size, m->c13_lines_size, rows, n, &count));
     for (size_t i = 0; i < count; i++) {
-        const pdb_line *l = &rows[i];
-        printf("line %04x:%08x", l->section, l->offset);
-        number(l->has_length, l->length);
-        printf(" %u %u %u", l->file, l->line_start, l->line_end);
-        number(l->has_column_start, l->column_start);
-        number(l->has_column_end, l->column_end);
-        printf(l->is_statement ? " S\n" : " E\n");
+        printf("file %u %s%s", rows[i].name, kinds[rows[i].kind], rows[i].checksum.size ? " " : "");
+        for (size_t b = 0; b < rows[i].checksum.size; b++) printf("%02x", rows[i].checksum.data[b]);
+        printf("\n");
     }
+    if (code) told(code);
+    free(rows);
+}
+
+static const pdb_inlinee *listed;
+
+static int by_id(const void *a, const void *b) {
+    size_t x = *(const size_t *)a, y = *(const size_t *)b;
+    if (listed[x].id != listed[y].id) return listed[x].id < listed[y].id ? -1 : 1;
+    return x < y ? -1 : x > y;
+}
+
+/* The first function of an id, by the places of the functions in the order of their ids. */
+static const pdb_inlinee *inlinee_of(const size_t *places, size_t count, uint32_t id) {
+    size_t low = 0, high = count;
+    while (low < high) {
+        size_t middle = low + (high - low) / 2;
+        if (listed[places[middle]].id < id) low = middle + 1;
+        else high = middle;
+    }
+    return low < count && listed[places[low]].id == id ? &listed[places[low]] : 0;
+}
+
+/* The records of an inlined call; 0, or the fault of its annotations. */
+static pdb_code site(const pdb_symbol *y, const pdb_symbol *procedure, const pdb_inlinee *inlinee) {
+    size_t count;
+    printf("site %08x %08x\n", y->index, y->inlinee);
+    if (!procedure || !inlinee) return 0;
+    pdb_line *rows = room(y->annotations.size * sizeof *rows);
+    pdb_code code = pdb_inlined_lines(y->annotations.data, y->annotations.size, procedure->section, procedure->offset,
+                                      inlinee->file, inlinee->line, rows, y->annotations.size, &count);
+    for (size_t i = 0; i < count; i++) line(&rows[i]);
+    free(rows);
+    return code;
+}
+
+static void sites(const uint8_t *bytes, size_t size, const pdb_module *m, const size_t *places, size_t known) {
+    static pdb_symbol rows[ROWS];
+    pdb_symbol procedure;
+    int inside = 0;
+    uint32_t at = PDB_SYMBOLS_AT;
+    size_t count;
+    pdb_code code;
+    do {
+        code = memory(pdb_symbols(bytes, size, m->symbols_size, &at, rows, ROWS, &count));
+        for (size_t i = 0; i < count; i++) {
+            if (rows[i].form == PDB_PROCEDURE) {
+                procedure = rows[i];
+                inside = 1;
+            } else if (rows[i].form == PDB_INLINE_SITE) {
+                pdb_code fault = site(&rows[i], inside ? &procedure : 0, inlinee_of(places, known, rows[i].inlinee));
+                if (fault) {
+                    told(fault);
+                    return;
+                }
+            }
+        }
+    } while (code == PDB_DONE);
+    if (code != PDB_END) told(code);
+}
+
+static void inlinees(const uint8_t *bytes, size_t size, const pdb_module *m) {
+    size_t count, n = most(m, size, 12);
+    pdb_inlinee *rows = room(n * sizeof *rows);
+    pdb_code code = memory(pdb_inlinees(bytes, size, m->symbols_size, m->lines_size, m->c13_lines_size, rows, n, &count));
+    for (size_t i = 0; i < count; i++) printf("inlinee %08x\n", rows[i].id);
+    if (code) told(code);
+    else {
+        size_t *places = room(count * sizeof *places);
+        for (size_t i = 0; i < count; i++) places[i] = i;
+        listed = rows;
+        qsort(places, count, sizeof *places, by_id);
+        sites(bytes, size, m, places, count);
+        free(places);
+    }
+    free(rows);
+}
+
+static uint32_t wanted; /* the index of `imports` */
+
+static void imports(const uint8_t *bytes, size_t size, const pdb_module *m) {
+    size_t count, n = most(m, size, 8);
+    pdb_import *rows = room(n * sizeof *rows);
+    pdb_code code = memory(pdb_imports(bytes, size, m->symbols_size, m->lines_size, m->c13_lines_size, rows, n, &count));
+    size_t place = wanted >> 20 & 0x7ff, number = wanted & 0xfffff;
+    if (code) told(code);
+    else if (wanted < 0x80000000) told(PDB_NOT_A_CROSS_MODULE_REF);
+    else if (place >= count || number >= rows[place].numbers.size / 4) told(PDB_CROSS_MODULE_REF_NOT_FOUND);
+    else {
+        const uint8_t *b = rows[place].numbers.data + 4 * number;
+        printf("import %u %08x\n", rows[place].name, b[0] | b[1] << 8 | b[2] << 16 | (uint32_t)b[3] << 24);
+    }
+    free(rows);
+}
+
+static void exports(const uint8_t *bytes, size_t size, const pdb_module *m) {
+    size_t count, n = most(m, size, 8);
+    pdb_export *rows = room(n * sizeof *rows);
+    pdb_code code = memory(pdb_exports(bytes, size, m->symbols_size, m->lines_size, m->c13_lines_size, rows, n, &count));
+    for (size_t i = 0; i < count; i++)
+        printf("export %s %08x %08x\n", rows[i].local >> 31 ? "id" : "type", rows[i].local, rows[i].global);
     if (code) told(code);
     free(rows);
 }
@@ -264,6 +386,14 @@ int main(int count, char **words) {
         else if (!strcmp(words[i], "globals")) globals(&f);
         else if (!strcmp(words[i], "symbols") && i + 1 < count) of_module(&f, strtoul(words[++i], 0, 10), symbols);
         else if (!strcmp(words[i], "lines") && i + 1 < count) of_module(&f, strtoul(words[++i], 0, 10), lines);
+        else if (!strcmp(words[i], "files") && i + 1 < count) of_module(&f, strtoul(words[++i], 0, 10), files);
+        else if (!strcmp(words[i], "inlinees") && i + 1 < count) of_module(&f, strtoul(words[++i], 0, 10), inlinees);
+        else if (!strcmp(words[i], "exports") && i + 1 < count) of_module(&f, strtoul(words[++i], 0, 10), exports);
+        else if (!strcmp(words[i], "imports") && i + 2 < count) {
+            wanted = (uint32_t)strtoul(words[i + 2], 0, 10);
+            of_module(&f, strtoul(words[i + 1], 0, 10), imports);
+            i += 2;
+        }
         else return 2;
     }
     free(f.modules);

@@ -12,8 +12,9 @@
  *   - Pointers have 64 bits.
  * A room and a record that is passed to be filled may hold any bytes: nothing reads them.
  *
- * Lent    pdb_module, pdb_symbol and a name of pdb_name point into the bytes that were passed in that call, and are good
- *         for as long as these stay where they are, unchanged. Names do not end with a zero byte that counts: use sizes.
+ * Lent    pdb_module, pdb_symbol, pdb_file, pdb_import and a name of pdb_name point into the bytes that were passed in that
+ *         call, and are good for as long as these stay where they are, unchanged. Names do not end with a zero byte that
+ *         counts: use sizes.
  * Memory  Calls that may take memory say so. All of it is freed before they return. Where malloc refuses, they answer
  *         PDB_OUT_OF_MEMORY; nothing aborts, and the same call may be made again. What a room then has isn't told.
  * Answers 0, or the number of a refusal from 1 to 22, or one of the codes behind them. Where a room is too small the call
@@ -129,21 +130,24 @@ pdb_code pdb_modules(const uint8_t *dbi, size_t dbi_size, pdb_module *records, s
 /* ---- Symbols, as many as there is room for. */
 
 typedef struct pdb_symbol {
-    pdb_bytes record;     /* with its kind, without its length; lent by stream */
-    pdb_bytes name;       /* lent by stream */
-    uint32_t index;       /* where the record stands */
-    uint32_t parent;      /* the index of the symbol in whose scope it stands, or 0 */
-    uint32_t end;         /* the index of the symbol that ends its scope, or 0 */
-    uint32_t offset;      /* its place in the image: an offset in a section */
-    uint32_t code_size;   /* bytes of code, or 0 */
-    uint32_t type_index;  /* or 0 */
-    uint32_t inlinee;     /* the id of the function that was inlined, or 0 */
+    pdb_bytes record;      /* with its kind, without its length; lent by stream */
+    pdb_bytes name;        /* lent by stream */
+    pdb_bytes annotations; /* of an inlined call, for pdb_inlined_lines; lent by stream */
+    uint32_t index;        /* where the record stands */
+    uint32_t parent;       /* the index of the symbol in whose scope it stands, or 0 */
+    uint32_t end;          /* the index of the symbol that ends its scope, or 0 */
+    uint32_t offset;       /* its place in the image: an offset in a section */
+    uint32_t code_size;    /* bytes of code, or 0 */
+    uint32_t type_index;   /* or 0 */
+    uint32_t inlinee;      /* the id of the function that was inlined, or 0 */
     uint16_t section;
-    uint16_t kind;        /* S_.. of cvinfo.h */
-    uint8_t form;         /* 1 to 27, in the order below; 0 where the record is refused */
-    uint8_t refused;      /* 0, or why the record can't be read */
-    uint8_t has_name;     /* 1 or 0 */
+    uint16_t kind;         /* S_.. of cvinfo.h */
+    uint8_t form;          /* 1 to 27, in the order below; 0 where the record is refused */
+    uint8_t refused;       /* 0, or why the record can't be read */
+    uint8_t has_name;      /* 1 or 0 */
     uint8_t has_place;
+    uint8_t starts_scope;  /* 1 where records of its kind start a scope, or end one: what stands between is inside */
+    uint8_t ends_scope;
 } pdb_symbol;
 
 enum {
@@ -185,6 +189,68 @@ typedef struct pdb_line {
  * (*count is 0), or a fault behind the *count lines before it. Takes memory. */
 pdb_code pdb_lines(const uint8_t *stream, size_t stream_size, uint32_t symbols_size, uint32_t lines_size,
                    uint32_t c13_lines_size, pdb_line *records, size_t room, size_t *count);
+
+/* ---- Files of a module's stream, with checksums of their contents. */
+
+typedef struct pdb_file {
+    pdb_bytes checksum; /* its bytes; lent by stream */
+    size_t index;       /* the place of its record: file of pdb_line and of pdb_inlinee */
+    uint32_t name;      /* the place of its name in the string table */
+    uint32_t kind;      /* 0 is no checksum, PDB_MD5, PDB_SHA1 or PDB_SHA256 */
+} pdb_file;
+
+enum { PDB_MD5 = 1, PDB_SHA1 = 2, PDB_SHA256 = 3 };
+
+/* The files; *count is how many there are, at most a sixth of c13_lines_size. A refusal is that of the lines (*count is 0),
+ * or a fault behind the *count files before it. Takes memory. */
+pdb_code pdb_files(const uint8_t *stream, size_t stream_size, uint32_t symbols_size, uint32_t lines_size,
+                   uint32_t c13_lines_size, pdb_file *records, size_t room, size_t *count);
+
+/* ---- Inlined functions of a module's stream. */
+
+typedef struct pdb_inlinee {
+    uint32_t id;           /* that of pdb_symbol's inlinee; the first function of an id counts */
+    uint32_t line;         /* where the function begins */
+    uint32_t file;         /* by the place of its checksum */
+    uint32_t file_name;    /* the place of the file's name in the string table */
+    uint32_t file_refused; /* 0, or why the file has no name */
+} pdb_inlinee;
+
+/* The functions that are inlined; *count is how many there are, at most a twelfth of c13_lines_size. A refusal is that of the
+ * list (*count is 0), or a fault behind the *count functions before it. Takes memory. */
+pdb_code pdb_inlinees(const uint8_t *stream, size_t stream_size, uint32_t symbols_size, uint32_t lines_size,
+                      uint32_t c13_lines_size, pdb_inlinee *records, size_t room, size_t *count);
+
+/* The line records of an inlined call: its symbol's annotations, the place of the procedure around it (of the last
+ * PDB_PROCEDURE before it), and the file and line of its function. *count is how many there are, at most as many as the
+ * annotations have bytes. A record's file_name and file_refused are 0: pdb_files has its file's name. A refusal is a fault of
+ * the annotations, behind the *count records before it. Takes no memory. */
+pdb_code pdb_inlined_lines(const uint8_t *annotations, size_t annotations_size, uint16_t section, uint32_t offset,
+                           uint32_t file, uint32_t line, pdb_line *records, size_t room, size_t *count);
+
+/* ---- What modules import from one another, by a module's stream. */
+
+typedef struct pdb_import {
+    pdb_bytes numbers; /* types and ids, each local to that module: four bytes each, the lowest first; lent by stream */
+    uint32_t name;     /* the place of the other module's name in the string table */
+} pdb_import;
+
+/* The modules from which something is imported; *count is how many there are, at most an eighth of c13_lines_size. An index
+ * with the top bit set refers to one: bits 20 to 30 are its place in the list, bits 0 to 19 that of the number. Nothing is
+ * put where the list is refused, or has a fault. Takes memory. */
+pdb_code pdb_imports(const uint8_t *stream, size_t stream_size, uint32_t symbols_size, uint32_t lines_size,
+                     uint32_t c13_lines_size, pdb_import *records, size_t room, size_t *count);
+
+typedef struct pdb_export {
+    uint32_t local;  /* local to the module; an id where its top bit is set, and else a type */
+    uint32_t global; /* the number that the whole file knows */
+} pdb_export;
+
+/* What the module exports; *count is how much there is, at most an eighth of c13_lines_size. Takes memory. */
+pdb_code pdb_exports(const uint8_t *stream, size_t stream_size, uint32_t symbols_size, uint32_t lines_size,
+                     uint32_t c13_lines_size, pdb_export *records, size_t room, size_t *count);
+
+/* ---- The string table. */
 
 /* The name at a place of the string table, whose bytes are names; lent by them. Takes no memory. */
 pdb_code pdb_name(const uint8_t *names, size_t names_size, uint32_t place, pdb_bytes *out);

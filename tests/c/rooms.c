@@ -59,6 +59,75 @@ static void streams(void) {
     free(all);
 }
 
+/* One call of a list of a module, in rooms of each size. */
+#define EACH_ROOM(name, row, width)                                                                                      \
+    static void each_room_of_##name(const uint8_t *bytes, size_t n, const pdb_module *m) {                              \
+        size_t count, again;                                                                                            \
+        row *all = filled((n / width + 1) * sizeof *all);                                                               \
+        want(name(bytes, n, m->symbols_size, m->lines_size, m->c13_lines_size, all, n / width, &count) == 0, #name, n); \
+        for (size_t room = 0; room <= count; room++) {                                                                  \
+            row *got = filled((room + 1) * sizeof *got);                                                                \
+            pdb_code code = name(bytes, n, m->symbols_size, m->lines_size, m->c13_lines_size, got, room, &again);       \
+            front(#name, got, all, room, count, sizeof *got, code);                                                     \
+            want(again == count, "count of " #name, room);                                                              \
+            free(got);                                                                                                  \
+        }                                                                                                               \
+        free(all);                                                                                                      \
+    }
+
+EACH_ROOM(pdb_files, pdb_file, 6)
+EACH_ROOM(pdb_inlinees, pdb_inlinee, 12)
+EACH_ROOM(pdb_exports, pdb_export, 8)
+
+/* Imports as the others, but by their fields, since bytes of a row are none's. */
+static void each_room_of_imports(const uint8_t *bytes, size_t n, const pdb_module *m) {
+    size_t count, again;
+    pdb_import *all = filled((n / 8 + 1) * sizeof *all);
+    want(pdb_imports(bytes, n, m->symbols_size, m->lines_size, m->c13_lines_size, all, n / 8, &count) == 0, "imports", n);
+    for (size_t room = 0; room <= count; room++) {
+        pdb_import *got = filled((room + 1) * sizeof *got);
+        pdb_code code = pdb_imports(bytes, n, m->symbols_size, m->lines_size, m->c13_lines_size, got, room, &again);
+        for (size_t i = 0; i < room; i++)
+            want(got[i].name == all[i].name && got[i].numbers.data == all[i].numbers.data && got[i].numbers.size == all[i].numbers.size, "imports", i);
+        want(got[room].name == 0xffffffff && code == (room < count ? PDB_ROOM : PDB_DONE) && again == count, "imports", room);
+        free(got);
+    }
+    free(all);
+}
+
+static void lists_of(const uint8_t *bytes, size_t n, const pdb_module *m) {
+    each_room_of_pdb_files(bytes, n, m);
+    each_room_of_pdb_inlinees(bytes, n, m);
+    each_room_of_pdb_exports(bytes, n, m);
+    each_room_of_imports(bytes, n, m);
+}
+
+/* The records of an inlined call, in rooms of each size. */
+static void records_of(const pdb_symbol *y) {
+    size_t n = y->annotations.size, count, again;
+    pdb_line *all = filled((n + 1) * sizeof *all);
+    want(pdb_inlined_lines(y->annotations.data, n, 1, 2, 3, 4, all, n, &count) == 0, "inlined lines", y->index);
+    for (size_t room = 0; room <= count; room++) {
+        pdb_line *got = filled((room + 1) * sizeof *got);
+        front("inlined lines", got, all, room, count, sizeof *got, pdb_inlined_lines(y->annotations.data, n, 1, 2, 3, 4, got, room, &again));
+        want(again == count, "count of inlined lines", room);
+        free(got);
+    }
+    free(all);
+}
+
+/* The symbols that start a scope and those that end one are pairs. */
+static void scopes(const pdb_symbol *symbols, size_t count) {
+    size_t depth = 0;
+    for (size_t i = 0; i < count; i++) {
+        want(symbols[i].starts_scope + symbols[i].ends_scope <= 1, "scope", symbols[i].index);
+        want(depth + symbols[i].starts_scope >= symbols[i].ends_scope, "end of a scope", symbols[i].index);
+        depth += symbols[i].starts_scope;
+        depth -= symbols[i].ends_scope;
+    }
+    want(depth == 0, "scopes", depth);
+}
+
 static void modules_and_lines(void) {
     size_t size, count, again;
     uint8_t *dbi = stream(3, &size);
@@ -82,6 +151,7 @@ static void modules_and_lines(void) {
             front("lines", got, rows, room, lines, sizeof *got, pdb_lines(bytes, n, m->symbols_size, m->lines_size, m->c13_lines_size, got, room, &again));
             free(got);
         }
+        lists_of(bytes, n, m);
         uint32_t at = PDB_SYMBOLS_AT;
         pdb_symbol *symbols = filled((n / 4 + 1) * sizeof *symbols);
         want(pdb_symbols(bytes, n, m->symbols_size, &at, symbols, n / 4 + 1, &count) == PDB_END, "symbols", k);
@@ -96,6 +166,9 @@ static void modules_and_lines(void) {
             want(code == PDB_END && seen == count, "symbols seen", room);
             free(got);
         }
+        scopes(symbols, count);
+        for (size_t i = 0; i < count; i++)
+            if (symbols[i].form == PDB_INLINE_SITE) records_of(&symbols[i]);
         free(symbols);
         free(rows);
         free(bytes);

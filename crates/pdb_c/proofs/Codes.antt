@@ -5,6 +5,7 @@ use Rattle.pdb.specs.Error.TheVariants.{IoError, OutOfMemory}
 use Rattle.pdb.specs.Refusal.{Fails, number_of}
 use Rattle.pdb.specs.LineProgram.{ProgramOf}
 use Rattle.pdb_c.specs.Boundary.{Told, Copied, IsCopied}
+use Rattle.pdb_c.specs.Lists.{Obtained}
 use Rattle.pdb_c.specs.LineRows.{LinesTold}
 use Rattle.pdb_c.specs.declared.lines.PdbLine.{PdbLine}
 
@@ -31,3 +32,20 @@ lines_refused IoError old read f = absurd f
 lines_refused OutOfMemory old (Ok x) f = inr (refl, refl, refl)
 lines_refused OutOfMemory old (Err d) f = (inr refl, refl, refl)
 lines_refused e old read f = rw f (inl refl, refl, refl)
+
+-- ---- lists in calls that may take memory
+
+pub obtained : {X A : Type 0} (owes : A → Type 0) (code count : ℕ) (old new : List X) (read : Result A Error) (x : A) → read ≡ Ok x → owes x → Obtained owes code old new count read
+obtained owes code count old new read x h o = rw h (inl o)
+
+pub obtained_none : {X A : Type 0} (owes : A → Type 0) (old : List X) (read : Result A Error) → Obtained owes 22 old old 0 read
+obtained_none owes old (Ok x) = inr (refl, refl, refl)
+obtained_none owes old (Err e) = (inr refl, refl, refl)
+
+pub answered : {X A : Type 0} (owes : A → Type 0) (e : Error) (old : List X) (read : Result A Error) → read ≡ Err e → Obtained owes (number_of e) old old 0 read
+answered owes e old read h = rw h (inl refl, refl, refl)
+
+pub refused : {X A : Type 0} (owes : A → Type 0) (e : Error) (old : List X) (read : Result A Error) → Fails ⊥ e read → Obtained owes (number_of e) old old 0 read
+refused owes IoError old read f = absurd f
+refused owes OutOfMemory old read f = obtained_none owes old read
+refused owes e old read f = rw f (inl refl, refl, refl)

@@ -83,3 +83,7 @@ put_last {A = A} n xs room all none h = sym (put_none n room) ∙ ap (λ (ys : L
 -- what is left begins with the item there
 pub drop_next : {A : Type 0} (xs : List A) (n : ℕ) (d : A) → n < length xs → drop n xs ≡ get_or xs n d ∷ drop (n + 1) xs
 drop_next xs n d h = rw (add-one, drop-cons xs n d) refl
+
+pub put_start : {A : Type 0} (xs room : List A) → put 0 xs room ≡ over xs room
+put_start xs [] = refl
+put_start xs (y ∷ room) = refl

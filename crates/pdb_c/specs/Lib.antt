@@ -6,4 +6,7 @@ pub mod Numbers
 pub mod Streams
 pub mod Symbols
 pub mod LineRows
+pub mod FileRows
+pub mod InlineeRows
+pub mod CrossRows
 pub mod FrameRows

@@ -33,24 +33,32 @@ abbrev pub file_code : Result FileOf Error → ℕ
 file_code (Ok file) = 0
 file_code (Err e) = number_of e
 
--- a line record of a program with these checksums of files
-abbrev pub line_row : List ℕ → LineInfo → PdbLine
-line_row checksums l = record {
+-- a line record whose file's name stands at a place, or is refused
+abbrev pub named_row : ℕ → ℕ → LineInfo → PdbLine
+named_row place refused l = record {
   offset = l.offset.offset;
   section = l.offset.section;
-  file_refused = file_code (file_at checksums l.file_index.0);
+  file_refused = refused;
   has_length = told l.length;
   has_column_start = told l.column_start;
   has_column_end = told l.column_end;
   is_statement = is_statement l.kind;
   length = unwrap_or l.length 0;
   file = l.file_index.0;
-  file_name = name_place (file_at checksums l.file_index.0);
+  file_name = place;
   line_start = l.line_start;
   line_end = l.line_end;
   column_start = unwrap_or l.column_start 0;
   column_end = unwrap_or l.column_end 0;
 }
+
+-- a line record of a program with these checksums of files
+abbrev pub line_row : List ℕ → LineInfo → PdbLine
+line_row checksums l = named_row (name_place (file_at checksums l.file_index.0)) (file_code (file_at checksums l.file_index.0)) l
+
+-- a line record of an inlined function: of its file the index alone is told
+abbrev pub inlined_row : LineInfo → PdbLine
+inlined_row l = named_row 0 0 l
 
 -- what a call put of the lines of a module
 abbrev pub LinesTold : ℕ → List PdbLine → List PdbLine → ℕ → Result ProgramOf Error → Type 0

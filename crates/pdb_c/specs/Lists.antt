@@ -4,6 +4,7 @@ use Rattle.pdb.specs.Error.{Error}
 use Rattle.pdb.specs.Refusal.{number_of}
 use Rattle.pdb.specs.Left.{Left}
 use Rattle.pdb_c.specs.Rooms.{over}
+use Rattle.pdb_c.specs.Boundary.{IsRefused}
 
 -- 0, or the number of the fault behind a list
 abbrev pub fault_code : Option Error → ℕ
@@ -24,3 +25,12 @@ pub record IsListed {X Y Z : Type 0} (view : X → Y) (says : Z → Y) (c : ℕ)
 abbrev pub Listed : {X Y Z : Type 0} → (X → Y) → (Z → Y) → ℕ → List X → List X → ℕ → Result (Left Z) Error → Type 0
 Listed view says code old new count (Ok left) = IsListed view says code old new count left
 Listed view says code old new count (Err e) = (code ≡ number_of e) × (new ≡ old) × (count ≡ 0)
+
+-- A list without a fault behind it.
+abbrev pub whole_list : {Z : Type 0} → List Z → Left Z
+whole_list items = record { items = items; fault = None }
+
+-- What a call owes that may take memory, where reading gives a value: `owes` says it, or memory was refused and nothing is put. Where reading is refused nothing is put.
+abbrev pub Obtained : {X A : Type 0} → (A → Type 0) → ℕ → List X → List X → ℕ → Result A Error → Type 0
+Obtained owes code old new count (Ok x) = owes x ⊎ ((code ≡ 22) × (new ≡ old) × (count ≡ 0))
+Obtained owes code old new count (Err e) = IsRefused code e × (new ≡ old) × (count ≡ 0)

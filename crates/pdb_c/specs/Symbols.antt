@@ -1,5 +1,5 @@
 -- Symbols as rows.
-use Rattle.std.specs.Prelude.{◌≡◌, ◌⊎◌, ◌==◌, if◌then◌else◌, ℕ, List, [], length, map, take, drop, Option, Some, None, Result, Ok, Err}
+use Rattle.std.specs.Prelude.{◌≡◌, ◌⊎◌, ◌==◌, if◌then◌else◌, ℕ, List, [], length, map, take, drop, Bool, Option, Some, None, Result, Ok, Err}
 use Rattle.std.specs.List.{All}
 use Rattle.pdb.specs.Error.{Error}
 use Rattle.pdb.specs.Refusal.{number_of}
@@ -7,6 +7,7 @@ use Rattle.pdb.specs.Left.{Left, Follows, Ends}
 use Rattle.pdb.specs.PdbInternalSectionOffset.{PdbInternalSectionOffset}
 use Rattle.pdb.specs.SymbolList.{Entry}
 use Rattle.pdb.specs.Forms.{kind_at, record_at}
+use Rattle.pdb.specs.Scopes.{starts_of, ends_of}
 use Rattle.pdb.specs.Data.{Data, ScopeEnd, ObjName, RegisterVariable, Constant, UserDefinedType, MultiRegisterVariable, DataItem, Public, Procedure, ThreadStorage, Compiler, UsingNamespace, ProcedureReference, DataReference, AnnotationReference, Trampoline, Export, Local, BuildInfo, InlineSite, InlineSiteEnd, ProcedureEnd, Label, Block, RegisterRelative, Thunk, SeparatedCode, name_of}
 use Rattle.pdb.specs.ModuleStream.{ModuleBytes}
 use Rattle.pdb_base.specs.declared.index.SymbolIndex.{SymbolIndex}
@@ -101,6 +102,15 @@ abbrev pub inlinee_of : Data → ℕ
 inlinee_of (InlineSite s) = s.inlinee.0
 inlinee_of d = 0
 
+-- the annotations of an inlined call; none of another record
+abbrev pub annotations_of : Data → List ℕ
+annotations_of (InlineSite s) = s.annotations
+annotations_of d = []
+
+-- 1 where it holds
+abbrev pub one_if : Bool → ℕ
+one_if holds = if holds then 1 else 0
+
 -- ---- rows
 
 -- a symbol's place and bytes
@@ -124,6 +134,7 @@ pub record SaysData (y : PdbSymbol) (d : Data) : Type 0 where
   pub parent : y.parent ≡ parent_of d
   pub end : y.end ≡ end_of d
   pub inlinee : y.inlinee ≡ inlinee_of d
+  pub annotations : y.annotations.now ≡ annotations_of d
 
 -- what a row says where its record is read so, or refused
 abbrev pub SaysRecord : PdbSymbol → Result Data Error → Type 0
@@ -133,6 +144,8 @@ SaysRecord y (Err e) = y.refused ≡ number_of e
 -- a row says what its record's bytes say
 pub record SaysItself (y : PdbSymbol) : Type 0 where
   pub kind : y.kind ≡ kind_at y.record_bytes.now
+  pub starts : y.starts_scope ≡ one_if (starts_of (kind_at y.record_bytes.now))
+  pub ends : y.ends_scope ≡ one_if (ends_of (kind_at y.record_bytes.now))
   pub says : SaysRecord y (record_at y.record_bytes.now)
 
 -- ---- lists

@@ -2,7 +2,7 @@
 
 ghost use Rattle.std.specs.Prelude.{◌≡◌};
 ghost use Rattle.pdb.specs.Data.{shown};
-ghost use Rattle.pdb_c.specs.Symbols.{form_number, place_of, code_size_of, type_index_of, index_or_none, parent_of, end_of, inlinee_of};
+ghost use Rattle.pdb_c.specs.Symbols.{form_number, place_of, code_size_of, type_index_of, index_or_none, parent_of, end_of, inlinee_of, annotations_of};
 
 use pdb::{PdbInternalSectionOffset, SymbolData, SymbolIndex};
 
@@ -133,5 +133,15 @@ pub fn inlinee_of(said: &SymbolData<'_>) -> u32
     match said {
         SymbolData::InlineSite(symbol) => symbol.inlinee.0,
         _ => 0,
+    }
+}
+
+/// The annotations of an inlined call; none of another record.
+pub fn annotations_of<'a>(said: &SymbolData<'a>) -> &'a [u8]
+    ensures { result.now ≡ annotations_of (shown said.now) }
+{
+    match said {
+        SymbolData::InlineSite(symbol) => symbol.annotations.as_bytes(),
+        _ => &[],
     }
 }

@@ -4,21 +4,31 @@
 
 mod answers;
 mod bytes;
+mod exports;
 mod fields;
+mod files;
 mod frames;
+mod imports;
 mod information;
+mod inlinees;
 mod key;
+mod layout;
 mod lines;
 mod modules;
 mod names;
+mod parts;
 mod rooms;
 mod streams;
 mod symbols;
 
+pub use exports::{PdbExport, pdb_exports};
+pub use files::{PdbFile, pdb_files};
 pub use frames::{PdbAddress, PdbFrame, pdb_frames};
+pub use imports::{PdbImport, pdb_imports};
 pub use information::{
     PdbDebugInformation, PdbInformation, pdb_debug_information, pdb_information,
 };
+pub use inlinees::{PdbInlinee, pdb_inlined_lines, pdb_inlinees};
 pub use key::pdb_key;
 pub use lines::{PdbLine, pdb_lines};
 pub use modules::{PdbModule, pdb_modules};

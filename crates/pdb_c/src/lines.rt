@@ -6,7 +6,7 @@ ghost use Rattle.pdb.specs.Files.{file_at};
 ghost use Rattle.pdb.specs.LineViews.{lines_left};
 ghost use Rattle.pdb.specs.ModuleStream.{line_program_of};
 ghost use Rattle.pdb_c.specs.Lists.{IsListed};
-ghost use Rattle.pdb_c.specs.LineRows.{told, is_statement, name_place, file_code, line_row, LinesTold, module_bytes};
+ghost use Rattle.pdb_c.specs.LineRows.{told, is_statement, name_place, file_code, named_row, line_row, LinesTold, module_bytes};
 
 use crate::answers::{LARGE, code_of, list_code};
 use crate::rooms::put_row;
@@ -79,10 +79,10 @@ fn file_of(program: &LineProgram<'_>, file: FileIndex) -> (u32, u16)
     }
 }
 
-fn shown(program: &LineProgram<'_>, line: &LineInfo) -> PdbLine
-    ensures { result ≡ line_row program.now.checksums line.now }
+/// The row of a record, where the name of its file stands at a place, or is refused.
+pub fn named_row(file_name: u32, file_refused: u16, line: &LineInfo) -> PdbLine
+    ensures { result ≡ named_row file_name file_refused line.now }
 {
-    let (file_name, file_refused) = file_of(program, line.file_index);
     PdbLine {
         offset: line.offset.offset,
         section: line.offset.section,
@@ -99,6 +99,13 @@ fn shown(program: &LineProgram<'_>, line: &LineInfo) -> PdbLine
         column_start: line.column_start.unwrap_or(0),
         column_end: line.column_end.unwrap_or(0),
     }
+}
+
+fn shown(program: &LineProgram<'_>, line: &LineInfo) -> PdbLine
+    ensures { result ≡ line_row program.now.checksums line.now }
+{
+    let (file_name, file_refused) = file_of(program, line.file_index);
+    named_row(file_name, file_refused, line)
 }
 
 /// Puts the lines that are left, and counts them.

@@ -1,18 +1,20 @@
 //! Symbols, as many as there is room for in one call.
 
-ghost use Rattle.std.specs.Prelude.{◌≡◌, ◌+◌, ◌≤◌, ◌<◌, ◌⊎◌, ℕ, List, length, Ok, Err, IfOk, IfSome};
+ghost use Rattle.std.specs.Prelude.{◌≡◌, ◌+◌, ◌≤◌, ◌<◌, ◌⊎◌, ℕ, List, [], length, Ok, Err, IfOk, IfSome};
 ghost use Rattle.pdb.specs.Error.{Error};
 ghost use Rattle.pdb.specs.Refusal.{Answers, number_of};
 ghost use Rattle.pdb.specs.Data.{shown as says};
 ghost use Rattle.pdb.specs.Forms.{record_at, kind_at};
+ghost use Rattle.pdb.specs.Scopes.{starts_of, ends_of};
 ghost use Rattle.pdb.specs.SymbolList.{symbols_from};
 ghost use Rattle.pdb.specs.Views.{symbol_of, symbols_left, symbols_bytes, symbols_place};
 ghost use Rattle.pdb.specs.ModuleStream.{checked_part, symbols_part_of};
-ghost use Rattle.pdb_c.specs.Symbols.{symbol_entry, form_number, parent_of, end_of, code_size_of, type_index_of, inlinee_of, SaysData, SaysItself, Given, symbols_alone};
+ghost use Rattle.pdb_c.specs.Symbols.{symbol_entry, form_number, parent_of, end_of, code_size_of, type_index_of, inlinee_of, annotations_of, one_if, SaysData, SaysItself, Given, symbols_alone};
 
 use crate::answers::{DONE, END, LARGE, OUT_OF_MEMORY, code_of};
 use crate::fields::{
-    code_size_of, end_of, form_number, inlinee_of, parent_of, place_of, type_index_of,
+    annotations_of, code_size_of, end_of, form_number, inlinee_of, parent_of, place_of,
+    type_index_of,
 };
 use pdb::{
     Error, FallibleIterator, Feature, ParseBuffer, Result, Symbol, SymbolData, SymbolIndex,
@@ -29,6 +31,8 @@ pub struct PdbSymbol<'a> {
     pub record_bytes: &'a [u8],
     /// The name, where it has one.
     pub name: &'a [u8],
+    /// The annotations of an inlined call.
+    pub annotations: &'a [u8],
     /// Where the record stands.
     pub index: u32,
     /// The symbol in whose scope it stands, or 0.
@@ -55,6 +59,16 @@ pub struct PdbSymbol<'a> {
     pub has_name: u8,
     /// 1 where it has a place in the image.
     pub has_place: u8,
+    /// 1 where records of its kind start a scope.
+    pub starts_scope: u8,
+    /// 1 where records of its kind end a scope.
+    pub ends_scope: u8,
+}
+
+fn one_if(holds: bool) -> u8
+    ensures { result ≡ one_if holds }
+{
+    if holds { 1 } else { 0 }
 }
 
 /// The row of a record that is refused for this, or says nothing.
@@ -64,10 +78,14 @@ fn bare<'a>(symbol: &Symbol<'a>, refused: u8) -> PdbSymbol<'a>
     ensures refused { result.refused ≡ refused }
     ensures no_name { result.has_name ≡ 0 }
     ensures no_place { result.has_place ≡ 0 }
+    ensures no_annotations { result.annotations.now ≡ [] }
+    ensures starts { result.starts_scope ≡ one_if (starts_of (kind_at (symbol_of symbol.now).bytes)) }
+    ensures ends { result.ends_scope ≡ one_if (ends_of (kind_at (symbol_of symbol.now).bytes)) }
 {
     PdbSymbol {
         record_bytes: symbol.raw_bytes(),
         name: &[],
+        annotations: &[],
         index: symbol.index().0,
         parent: 0,
         end: 0,
@@ -81,12 +99,14 @@ fn bare<'a>(symbol: &Symbol<'a>, refused: u8) -> PdbSymbol<'a>
         refused,
         has_name: 0,
         has_place: 0,
+        starts_scope: one_if(symbol.starts_scope()),
+        ends_scope: one_if(symbol.ends_scope()),
     }
 }
 
 /// What a record says, but its name and its place.
 fn put_numbers<'a>(out: &mut PdbSymbol<'a>, said: &SymbolData<'a>)
-    ensures { out.new ≡ record { record_bytes = out.old.record_bytes; name = out.old.name; index = out.old.index; parent = parent_of (says said.now); end = end_of (says said.now); offset = out.old.offset; code_size = code_size_of (says said.now); type_index = type_index_of (says said.now); inlinee = inlinee_of (says said.now); section = out.old.section; kind = out.old.kind; form = form_number (says said.now); refused = out.old.refused; has_name = out.old.has_name; has_place = out.old.has_place } }
+    ensures { out.new ≡ record { record_bytes = out.old.record_bytes; name = out.old.name; annotations = out.old.annotations; index = out.old.index; parent = parent_of (says said.now); end = end_of (says said.now); offset = out.old.offset; code_size = code_size_of (says said.now); type_index = type_index_of (says said.now); inlinee = inlinee_of (says said.now); section = out.old.section; kind = out.old.kind; form = form_number (says said.now); refused = out.old.refused; has_name = out.old.has_name; has_place = out.old.has_place; starts_scope = out.old.starts_scope; ends_scope = out.old.ends_scope } }
 {
     out.form = form_number(said);
     out.parent = parent_of(said);
@@ -101,10 +121,13 @@ fn row_of<'a>(symbol: &Symbol<'a>, said: &SymbolData<'a>) -> PdbSymbol<'a>
     ensures entry { symbol_entry result ≡ symbol_of symbol.now }
     ensures kind { result.kind ≡ kind_at (symbol_of symbol.now).bytes }
     ensures refused { result.refused ≡ 0 }
+    ensures starts { result.starts_scope ≡ one_if (starts_of (kind_at (symbol_of symbol.now).bytes)) }
+    ensures ends { result.ends_scope ≡ one_if (ends_of (kind_at (symbol_of symbol.now).bytes)) }
     ensures says { SaysData result (says said.now) }
 {
     let mut out = bare(symbol, 0);
     put_numbers(&mut out, said);
+    out.annotations = annotations_of(said);
     if let Some(name) = said.name() {
         out.name = name.as_bytes();
         out.has_name = 1;

@@ -12,7 +12,7 @@ use Rattle.pdb_base.specs.Tiling.{listing}
 use Rattle.pdb_base.proofs.Places.{bind_ok, slice_is}
 use Rattle.pdb_base.proofs.Readings.{ReadsInside, read_item, read_fault, read_end}
 use Rattle.pdb_base.proofs.Tilings.{few, listing_end}
-use Rattle.pdb_modules.specs.declared.files.Entry.{Entry}
+use Rattle.pdb_modules.specs.declared.files.FileRecord.{FileRecord}
 use Rattle.pdb_modules.specs.Files.{FileEntry, FileOf, known_kind, entry_at, entry_length, entries, entries_from, file_of, files_left, files_of}
 use Rattle.pdb_modules.specs.FileViews.{bytes_of_entry}
 
@@ -22,11 +22,11 @@ aligned_inside b p n u e = elim (cases_lt (length b) (p + padding p n)) [
   | inr there ↦ there
 ]
 
-abbrev made : List ℕ → List ℕ → ℕ → FileEntry
-made header digest kind = record { name = number header 0 4; kind = kind; digest = digest }
+abbrev made : ℕ → List ℕ → List ℕ → ℕ → FileEntry
+made p header digest kind = record { place = p; name = number header 0 4; kind = kind; digest = digest }
 
 abbrev padded : List ℕ → ℕ → List ℕ → List ℕ → ℕ → Result FileEntry Error
-padded b p header digest kind = aligned_at b (p + 6 + number header 4 1) 4 >>= λ u. Ok (made header digest kind)
+padded b p header digest kind = aligned_at b (p + 6 + number header 4 1) 4 >>= λ u. Ok (made p header digest kind)
 
 abbrev of_kind : List ℕ → ℕ → List ℕ → List ℕ → Result FileEntry Error
 of_kind b p header digest = known_kind (number header 5 1) >>= padded b p header digest
@@ -40,8 +40,8 @@ entry_ends b p x e =
     let (header, e1, rest1) = bind_ok (bytes_at b p 6) (with_digest b p) x e in
     let (digest, e2, rest2) = bind_ok (bytes_at b (p + 6) (number header 4 1)) (of_kind b p header) x rest1 in
     let (kind, e3, rest3) = bind_ok (known_kind (number header 5 1)) (padded b p header digest) x rest2 in
-    let (u, e4, rest4) = bind_ok (aligned_at b (p + 6 + number header 4 1) 4) (λ u. Ok (made header digest kind)) x rest3 in
-    let is : made header digest kind ≡ x = cc in
+    let (u, e4, rest4) = bind_ok (aligned_at b (p + 6 + number header 4 1) 4) (λ u. Ok (made p header digest kind)) x rest3 in
+    let is : made p header digest kind ≡ x = cc in
     let slice = slice_is b (p + 6) (number header 4 1) digest e2 in
     let long : length digest ≡ number header 4 1 = ap length slice.value ∙ (length-take (number header 4 1) (drop (p + 6) b) ∙ within b p (number header 4 1) slice.there) in
     rw (← is) (rw long (aligned_inside b (p + 6 + number header 4 1) 4 u e4))
@@ -65,7 +65,7 @@ unfolding files_of
 none_of_nothing = no_files [] 0 (omega arith)
 
 module _ (old new : Cursor) where
-  pub file_item : (x : Entry) (f : FileOf) → f ≡ file_of (bytes_of_entry x) → Reads bytes_of_entry old new (Ok x) (entry_at old.bytes old.place) (entry_length old.place) → Follows (files_left (entries_from old.bytes old.place)) (f ∷ []) (files_left (entries_from new.bytes new.place))
+  pub file_item : (x : FileRecord) (f : FileOf) → f ≡ file_of (bytes_of_entry x) → Reads bytes_of_entry old new (Ok x) (entry_at old.bytes old.place) (entry_length old.place) → Follows (files_left (entries_from old.bytes old.place)) (f ∷ []) (files_left (entries_from new.bytes new.place))
   unfolding entries_from
   file_item x f is reads =
       let item = read_item entry_at entry_length entries_within bytes_of_entry (listing entries old.bytes old.place) old new refl x reads in

@@ -2,14 +2,14 @@
 use Rattle.std.proofs.Common.{◌≡◌, Bool, true, false, ◌&&◌, refl}
 use Rattle.std.specs.Cmp.{IsPartialEquivalence, partial_equiv_from_equiv, and_per, on_per, nat_eq_equiv}
 use Rattle.std.specs.Cmp.Lexicographic.{lists_per}
-use Rattle.pdb_modules.specs.declared.files.Entry.{Entry}
+use Rattle.pdb_modules.specs.declared.files.FileRecord.{FileRecord}
 use Rattle.pdb_modules.specs.declared.files.FileChecksum.{FileChecksum}
 use Rattle.pdb_modules.specs.declared.files.FileChecksum.TheVariants as variant
 use Rattle.pdb_modules.specs.declared.files.FileInfo.{FileInfo}
 use Rattle.pdb_modules.specs.Files.{FileEntry, Checksum, absent, md5, sha1, sha256, has_digest, digest_kind, digest_bytes, same_sums, FileOf}
 
-abbrev pub bytes_of_entry : Entry → FileEntry
-bytes_of_entry entry = record { name = entry.name; kind = entry.kind; digest = entry.digest.now }
+abbrev pub bytes_of_entry : FileRecord → FileEntry
+bytes_of_entry entry = record { place = entry.place; name = entry.name; kind = entry.kind; digest = entry.digest.now }
 
 abbrev pub shown_checksum : FileChecksum → Checksum
 shown_checksum variant.None = absent

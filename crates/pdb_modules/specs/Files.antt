@@ -9,8 +9,9 @@ use Rattle.pdb_base.specs.Left.{Left}
 use Rattle.pdb_base.specs.Tiling.{Row, listing}
 use Rattle.pdb_base.specs.Reading.{read_row}
 
--- a record: the place of the file's name in the string table, the digest's kind, and its bytes
+-- a record: where it stands, the place of the file's name in the string table, the digest's kind, and its bytes
 pub record FileEntry : Type 0 where
+  pub place : ℕ
   pub name : ℕ
   pub kind : ℕ
   pub digest : List ℕ
@@ -26,7 +27,7 @@ entry_at b p = do
   digest ← bytes_at b (p + 6) (number header 4 1)
   kind ← known_kind (number header 5 1)
   padded ← aligned_at b (p + 6 + number header 4 1) 4
-  Ok (record { name = number header 0 4; kind = kind; digest = digest })
+  Ok (record { place = p; name = number header 0 4; kind = kind; digest = digest })
 
 abbrev pub entry_length : ℕ → FileEntry → ℕ
 entry_length p entry = 6 + length entry.digest + padding (p + 6 + length entry.digest) 4

@@ -52,9 +52,10 @@ pub struct FileInfo<'a> {
     pub checksum: FileChecksum<'a>,
 }
 
-/// A record of the checksums.
+/// A record of the checksums of files.
 #[derive(Clone, Copy)]
-pub struct Entry<'a> {
+pub struct FileRecord<'a> {
+    place: usize,
     name: u32,
     kind: u8,
     digest: &'a [u8],
@@ -72,8 +73,25 @@ fn checksum(kind: u8, digest: &[u8]) -> FileChecksum<'_>
     }
 }
 
+impl<'a> FileRecord<'a> {
+    /// Where the record stands among the checksums, counted from their start: lines and inlined functions name the file
+    /// by it.
+    pub fn place(&self) -> usize
+        ensures { result ≡ (bytes_of_entry self.now).place }
+    {
+        self.place
+    }
+
+    /// The file of the record.
+    pub fn file(&self) -> FileInfo<'a>
+        ensures { shown_file result ≡ file_of (bytes_of_entry self.now) }
+    {
+        file(*self)
+    }
+}
+
 /// The file of a record.
-fn file(entry: Entry<'_>) -> FileInfo<'_>
+fn file(entry: FileRecord<'_>) -> FileInfo<'_>
     ensures { shown_file result ≡ file_of (bytes_of_entry entry.entry) }
 {
     FileInfo {
@@ -82,11 +100,12 @@ fn file(entry: Entry<'_>) -> FileInfo<'_>
     }
 }
 
-/// The record at the buffer's place.
+/// The record at the place of a buffer over the checksums.
 #[tactic(auto, unfolding(crate::specs::Files::entry_at))]
-fn read_entry<'a>(buffer: &mut ParseBuffer<'a>) -> Result<Entry<'a>>
+pub fn read_file_record<'a>(buffer: &mut ParseBuffer<'a>) -> Result<FileRecord<'a>>
     ensures { Reads bytes_of_entry buffer.old buffer.new result (entry_at buffer.old.bytes buffer.old.place) (entry_length buffer.old.place) }
 {
+    let place = buffer.pos();
     let header = buffer.take(6)?;
     let digest = buffer.take(usize::from(u8_at(header, 4)))?;
     let kind = u8_at(header, 5);
@@ -94,7 +113,8 @@ fn read_entry<'a>(buffer: &mut ParseBuffer<'a>) -> Result<Entry<'a>>
         return Err(Error::UnimplementedFileChecksumKind(kind));
     }
     buffer.align(4)?;
-    Ok(Entry {
+    Ok(FileRecord {
+        place,
         name: u32_at(header, 0),
         kind,
         digest,
@@ -115,7 +135,7 @@ pub(crate) fn file_info(checksums: &[u8], place: u32) -> Result<FileInfo<'_>>
     }
     let mut buffer = ParseBuffer::from(checksums);
     buffer.seek(at);
-    Ok(file(read_entry(&mut buffer)?))
+    Ok(file(read_file_record(&mut buffer)?))
 }
 
 /// The files of a module, in the order of their checksums. A record is a name of four bytes, a size and a kind of one
@@ -180,7 +200,7 @@ impl<'a> FallibleIterator for FileIterator<'a> {
             return Ok(None);
         }
         self.steps.tick();
-        match read_entry(&mut self.buffer) {
+        match read_file_record(&mut self.buffer) {
             Ok(entry) => Ok(Some(file(entry))),
             Err(error) => {
                 self.buffer.seek(usize::MAX);

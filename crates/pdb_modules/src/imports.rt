@@ -109,15 +109,38 @@ impl<'a> Model for CrossModuleImports<'a> {
     ghost view = { λ x. map module_of x.modules.items };
 }
 
+impl<'a> Imported<'a> {
+    /// The module, by its name.
+    pub fn name(&self) -> ModuleRef
+        ensures { result.0.0 ≡ (module_of self.now).name }
+    {
+        ModuleRef(StringRef(self.name))
+    }
+
+    /// The numbers that are imported: each is local to that module, and has four bytes, the lowest first.
+    pub fn numbers(&self) -> &'a [u8]
+        ensures { result.now ≡ (module_of self.now).bytes }
+    {
+        self.numbers
+    }
+}
+
 impl<'a> CrossModuleImports<'a> {
-    // The imports of a part.
-    pub(crate) fn parse(alloc: Global, part: &'a [u8]) -> Result<Self>
+    /// The imports of a part: its modules, or the fault that stands among them.
+    pub fn parse(alloc: Global, part: &'a [u8]) -> Result<Self>
         ensures { Gives (λ x. x) ⊥ result (imports_in part.entry.now) }
     {
         match read_modules(alloc, part) {
             Ok(modules) => Ok(CrossModuleImports { modules }),
             Err(error) => Err(error),
         }
+    }
+
+    /// The modules from which something is imported, in the file's order.
+    pub fn modules(&self) -> &[Imported<'a>]
+        ensures { map module_of result.now ≡ self.now }
+    {
+        self.modules.as_slice()
     }
 
     /// No imports. It takes no memory.

@@ -28,9 +28,10 @@ pub struct InlineeLineIterator<'a> {
 impl<'a> InlineeLineIterator<'a> {
     ghost use Rattle.pdb_modules.specs.InlinedViews.{inlined_left, inlined_part, inlined_steps};
 
-    // The records of a function that begins in this file and line, inlined in the procedure that begins at `parent`.
+    /// The records of a function that begins in this file and line, inlined in the procedure that begins at `parent`,
+    /// by the annotations of its site.
     #[tactic(auto, using(pdb_base::proofs::Tilings::few))]
-    pub(crate) fn new(
+    pub fn new(
         parent: PdbInternalSectionOffset,
         file_index: FileIndex,
         line: u32,

@@ -29,8 +29,8 @@ mod sort;
 mod subsections;
 
 pub use exports::{CrossModuleExport, CrossModuleExportIter, CrossModuleExports};
-pub use files::{FileChecksum, FileInfo, FileIterator};
-pub use imports::{CrossModuleImports, CrossModuleRef, ModuleRef};
+pub use files::{FileChecksum, FileInfo, FileIterator, FileRecord, read_file_record};
+pub use imports::{CrossModuleImports, CrossModuleRef, Imported, ModuleRef};
 pub use inlined_lines::InlineeLineIterator;
 pub use inlinee_finder::InlineeFinder;
 pub use inlinees::{Inlinee, InlineeIterator};
@@ -40,3 +40,4 @@ pub use line_program::LineProgram;
 pub use line_records::LineRecords;
 pub use lines::LineIterator;
 pub use module_info::ModuleInfo;
+pub use subsections::{IMPORTS, first_of_kind};

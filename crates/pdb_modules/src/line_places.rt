@@ -58,9 +58,9 @@ impl<'a> LinePlaces<'a> {
     ghost use Rattle.pdb_modules.specs.LineProgram.{program_of};
     ghost use Rattle.pdb_modules.specs.LineSearch.{first_covering};
 
-    // The subsections of a module's lines data.
+    /// The subsections of a module's lines data.
     #[tactic(auto, unfolding(crate::specs::LineProgram::program_of))]
-    pub(crate) fn parse(alloc: Global, lines_data: &'a [u8]) -> Result<LinePlaces<'a>>
+    pub fn parse(alloc: Global, lines_data: &'a [u8]) -> Result<LinePlaces<'a>>
         ensures { Gives (λ p. p) ⊥ result (program_of lines_data.entry.now) }
     {
         match ordered_parts(alloc, lines_data) {
@@ -103,6 +103,13 @@ impl<'a> LinePlaces<'a> {
             return None;
         }
         find_in_part(self.listed[upto.count - 1].part(), place)
+    }
+
+    /// The part of files' checksums, in which the records of the module's files stand one after another.
+    pub fn checksums(&self) -> &'a [u8]
+        ensures { result.now ≡ self.now.checksums }
+    {
+        self.checksums
     }
 
     /// The file of an index, as `LineProgram::get_file_info` answers it.

@@ -14,8 +14,8 @@ pub(crate) const LINES: u32 = 0xf2;
 pub(crate) const FILE_CHECKSUMS: u32 = 0xf4;
 /// Of inlined functions: `DEBUG_S_INLINEELINES`.
 pub(crate) const INLINEE_LINES: u32 = 0xf6;
-/// Of imports from other modules: `DEBUG_S_CROSSSCOPEIMPORTS`.
-pub(crate) const IMPORTS: u32 = 0xf7;
+/// The kind of a subsection of imports from other modules: `DEBUG_S_CROSSSCOPEIMPORTS`.
+pub const IMPORTS: u32 = 0xf7;
 /// Of exports to other modules: `DEBUG_S_CROSSSCOPEEXPORTS`.
 pub(crate) const EXPORTS: u32 = 0xf8;
 
@@ -47,8 +47,9 @@ pub(crate) fn read_piece<'a>(buffer: &mut ParseBuffer<'a>) -> Result<Piece<'a>>
     Ok(Piece { kind, body })
 }
 
-/// The bytes of the first subsection of a kind, if there is one. A fault behind it isn't met.
-pub(crate) fn first_of_kind(lines_data: &[u8], kind: u32) -> Result<Option<&[u8]>>
+/// The bytes of the first subsection of a kind among a module's lines data, if there is one. A fault behind it isn't
+/// met.
+pub fn first_of_kind(lines_data: &[u8], kind: u32) -> Result<Option<&[u8]>>
     ensures part { Answers seen_part result (first_part kind lines_data.entry.now) }
     ensures refused { IfErr result (λ e. e ≢ Error.IoError) }
 {

@@ -70,6 +70,13 @@ impl<'t> BinaryAnnotations<'t> {
         BinaryAnnotations { bytes }
     }
 
+    /// The bytes of the annotations.
+    pub fn as_bytes(&self) -> &'t [u8]
+        ensures { result.now ≡ annotation_bytes self.now }
+    {
+        self.bytes
+    }
+
     /// The annotations, in order.
     pub fn iter(&self) -> BinaryAnnotationsIter<'t>
         ensures left { annotations_left result ≡ annotations_of (annotation_bytes self.now) }

@@ -12,7 +12,7 @@ returns-then-is_empty-clause-yields c = let buffer = c.args.self.now.buffer in f
 pub invariant_of-self : goal.invariant_of-self
 invariant_of-self c =
     let before = c.args.self.now in
-    let moves = read_moves entry_at entry_length entries_within bytes_of_entry before.buffer c.read_entry.new.buffer c.in-Ok.entry c.in-Ok.ensures in
+    let moves = read_moves entry_at entry_length entries_within bytes_of_entry before.buffer c.read_file_record.new.buffer c.in-Ok.entry c.in-Ok.ensures in
     let same = ap length c.in-Ok.ensures.1 in
     record {
       small = omega (arith, same, before.small);
@@ -22,7 +22,7 @@ invariant_of-self c =
     }
 
 pub returns-in-Ok-clause-yields : goal.returns-in-Ok-clause-yields
-returns-in-Ok-clause-yields c = file_item c.args.self.now.buffer c.read_entry.new.buffer c.in-Ok.entry _ c.file.ensures c.in-Ok.ensures
+returns-in-Ok-clause-yields c = file_item c.args.self.now.buffer c.read_file_record.new.buffer c.in-Ok.entry _ c.file.ensures c.in-Ok.ensures
 
 pub returns-in-Err-clause-yields : goal.returns-in-Err-clause-yields
 returns-in-Err-clause-yields c =
@@ -31,4 +31,4 @@ returns-in-Err-clause-yields c =
     let same = ap (λ (x : Cursor). x.bytes) c.seek.ensures in
     let place = ap (λ (x : Cursor). x.place) c.seek.ensures in
     let past : length c.seek.new.self.bytes ≤ c.seek.new.self.place = rw (same, place) (omega (arith, small, before.small)) in
-    file_fault before.buffer c.read_entry.new.buffer c.in-Err.error c.seek.new.self.bytes c.seek.new.self.place (search rules) c.in-Err.ensures same past
+    file_fault before.buffer c.read_file_record.new.buffer c.in-Err.error c.seek.new.self.bytes c.seek.new.self.place (search rules) c.in-Err.ensures same past

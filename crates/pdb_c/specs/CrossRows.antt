@@ -1,0 +1,26 @@
+-- What modules import from one another and export, as rows.
+use Rattle.std.specs.Prelude.{◌≡◌, ℕ, List, map, Result}
+use Rattle.pdb.specs.Error.{Error}
+use Rattle.pdb.specs.CrossModule.{ImportedModule}
+use Rattle.pdb.specs.ExportViews.{export_of, local_of, global_number_of}
+use Rattle.pdb.specs.CrossModuleExport.{CrossModuleExport}
+use Rattle.pdb.specs.ModuleStream.{ModuleBytes, imports_of, exports_of}
+use Rattle.pdb_c.specs.Lists.{IsListed, Obtained, whole_list}
+use Rattle.pdb_c.specs.declared.imports.PdbImport.{PdbImport}
+use Rattle.pdb_c.specs.declared.exports.PdbExport.{PdbExport}
+
+-- the module of which a row tells
+abbrev pub import_row : PdbImport → ImportedModule
+import_row y = record { name = y.name; bytes = y.numbers.now }
+
+-- what a call put of the imports of a module
+abbrev pub ImportsTold : ℕ → List PdbImport → List PdbImport → ℕ → ModuleBytes → Type 0
+ImportsTold code old new count m = Obtained (λ modules. IsListed import_row (λ x. x) code old new count (whole_list modules)) code old new count (imports_of m)
+
+-- an export as a row
+abbrev pub export_row : CrossModuleExport → PdbExport
+export_row x = record { local = local_of x; global = global_number_of x }
+
+-- what a call put of the exports of a module
+abbrev pub ExportsTold : ℕ → List PdbExport → List PdbExport → ℕ → ModuleBytes → Type 0
+ExportsTold code old new count m = Obtained (λ pairs. IsListed (λ r. r) export_row code old new count (whole_list (map export_of pairs))) code old new count (exports_of m)

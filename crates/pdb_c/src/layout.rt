@@ -1,0 +1,39 @@
+//! How many bytes the records have that cross: `include/pdb.h` says the same to the C compiler.
+
+use crate::exports::PdbExport;
+use crate::files::PdbFile;
+use crate::frames::{PdbAddress, PdbFrame};
+use crate::imports::PdbImport;
+use crate::information::{PdbDebugInformation, PdbInformation};
+use crate::inlinees::PdbInlinee;
+use crate::lines::PdbLine;
+use crate::modules::PdbModule;
+use crate::names::PdbName;
+use crate::streams::PdbStream;
+use crate::symbols::PdbSymbol;
+
+const _: () = prove!(size_of::<PdbInformation>() == 28);
+
+const _: () = prove!(size_of::<PdbDebugInformation>() == 16);
+
+const _: () = prove!(size_of::<PdbStream>() == 24);
+
+const _: () = prove!(size_of::<PdbModule<'_>>() == 48);
+
+const _: () = prove!(size_of::<PdbSymbol<'_>>() == 88);
+
+const _: () = prove!(size_of::<PdbLine>() == 40);
+
+const _: () = prove!(size_of::<PdbFile<'_>>() == 32);
+
+const _: () = prove!(size_of::<PdbInlinee>() == 20);
+
+const _: () = prove!(size_of::<PdbImport<'_>>() == 24);
+
+const _: () = prove!(size_of::<PdbExport>() == 8);
+
+const _: () = prove!(size_of::<PdbName<'_>>() == 16);
+
+const _: () = prove!(size_of::<PdbAddress>() == 8);
+
+const _: () = prove!(size_of::<PdbFrame>() == 56);
