@@ -170,9 +170,9 @@ pub fn answer_line<'s, S: Source<'s>, R: BufRead, W: Write>(
 
 /// Answers the lines of a reader, one after another: the text of each is written before the next line is read.
 pub fn answer_lines<'s, S: Source<'s>, R: BufRead, W: Write>(
-    alloc: Global,
     resolver: &mut Resolver<'_, 's, S>,
     base: u64,
+    rooms: &mut LineRooms,
     input: &mut R,
     out: &mut W,
 ) -> Result<(), Stop>
@@ -183,9 +183,8 @@ pub fn answer_lines<'s, S: Source<'s>, R: BufRead, W: Write>(
     // A beginning of the texts was written.
     ensures refused { IfSome (R.remaining input.old) (λ xs. OnErr result (WroteFront (W.contents out.old) (W.contents out.new) (flat_map (line_text resolver.old.file base) (lines_of xs)))) }
 {
-    let mut rooms = LineRooms::new(alloc);
     for _ in 0..u64::MAX {
-        if !answer_line(resolver, base, &mut rooms, input, out)? {
+        if !answer_line(resolver, base, rooms, input, out)? {
             return Ok(());
         }
     }
@@ -245,5 +244,6 @@ pub fn resolve_lines<'s, S: Source<'s>, R: BufRead, W: Write>(
 {
     let mut streams = Streams::new(alloc);
     let mut resolver = resolver_over(alloc, source, &mut streams)?;
-    answer_lines(alloc, &mut resolver, base, input, out)
+    let mut rooms = LineRooms::new(alloc);
+    answer_lines(&mut resolver, base, &mut rooms, input, out)
 }
