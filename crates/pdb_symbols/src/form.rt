@@ -62,8 +62,10 @@ pub enum Form {
     SeparatedCode,
 }
 
+// The three bands and what picks one stand in both callers' code: they would be calls of their own there.
+
 // Kinds below 0x1100.
-#[inline]
+#[inline(always)]
 fn older_form(kind: u16) -> Option<Form>
     ensures { result ≡ row_in older_rows kind }
 {
@@ -90,7 +92,7 @@ fn older_form(kind: u16) -> Option<Form>
 }
 
 // Kinds from 0x1100 to 0x1113.
-#[inline]
+#[inline(always)]
 fn middle_form(kind: u16) -> Option<Form>
     ensures { result ≡ row_in middle_rows kind }
 {
@@ -113,7 +115,7 @@ fn middle_form(kind: u16) -> Option<Form>
 }
 
 // The others.
-#[inline]
+#[inline(always)]
 fn newer_form(kind: u16) -> Option<Form>
     ensures { result ≡ row_in newer_rows kind }
 {
@@ -140,7 +142,7 @@ fn newer_form(kind: u16) -> Option<Form>
 }
 
 // The form of the records of a kind.
-#[inline]
+#[inline(always)]
 pub(crate) fn form_of(kind: u16) -> Option<Form>
     ensures { result ≡ row kind }
 {
