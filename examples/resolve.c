@@ -4,6 +4,7 @@
  *     cc -Iinclude examples/resolve.c c/out/libpdb.a -o resolve
  */
 #include "pdb.h"
+#include "text.h"
 #include <stdio.h>
 #include <stdlib.h>
 #include <string.h>
@@ -14,9 +15,9 @@ static void *room(size_t n) {
     return p;
 }
 
-static void name(const uint8_t *names, uint32_t is_told, size_t at, size_t size) {
-    if (is_told) fwrite(names + at, 1, size, stdout);
-    else printf("??");
+static void name(const uint8_t *names, uint32_t has, size_t at, size_t size) {
+    if (has) put(names + at, size);
+    else PUT("??");
 }
 
 static void frames(const pdb_frame *rows, size_t count, const uint8_t *names, size_t addresses) {
@@ -24,12 +25,17 @@ static void frames(const pdb_frame *rows, size_t count, const uint8_t *names, si
     for (size_t k = 0; k < addresses; k++) {
         for (; i < count && rows[i].address == k; i++) {
             name(names, rows[i].has_name, rows[i].name_at, rows[i].name_size);
-            printf("\n");
+            PUT("\n");
             name(names, rows[i].has_file, rows[i].file_at, rows[i].file_size);
-            printf(":%u:%u\n", rows[i].line, rows[i].column);
+            PUT(":");
+            decimal(rows[i].line);
+            PUT(":");
+            decimal(rows[i].column);
+            PUT("\n");
         }
-        printf("\n");
+        PUT("\n");
     }
+    flush();
 }
 
 static pdb_address asked(const char *word) {
@@ -55,7 +61,8 @@ int main(int words_count, char **words) {
     size_t n = (size_t)words_count - 2, count, bytes;
     pdb_address *addresses = room(n * sizeof *addresses);
     for (size_t k = 0; k < n; k++) addresses[k] = asked(words[k + 2]);
-    size_t most = 4 * n + 16, most_bytes = 256 * n + 4096;
+    /* Room that isn't filled is none of the machine's: ask for much, so that the file is read once. */
+    size_t most = 16 * n + 16, most_bytes = 1024 * n + 1024;
     pdb_frame *rows = room(most * sizeof *rows);
     uint8_t *names = room(most_bytes);
     pdb_code code = pdb_frames(file, size, addresses, n, rows, most, &count, names, most_bytes, &bytes);

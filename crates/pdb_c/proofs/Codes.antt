@@ -1,5 +1,5 @@
 -- Refusals as numbers.
-use Rattle.std.proofs.Common.{◌≡◌, ℕ, List, inl, inr, ◌⊎◌, Result, Ok, Err, refl, sym}
+use Rattle.std.proofs.Common.{◌≡◌, ℕ, List, inl, inr, Result, Ok, Err, refl}
 use Rattle.pdb.specs.Error.{Error}
 use Rattle.pdb.specs.Error.TheVariants.{IoError, OutOfMemory}
 use Rattle.pdb.specs.Refusal.{Fails, number_of}

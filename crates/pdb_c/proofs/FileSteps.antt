@@ -1,14 +1,14 @@
 -- Files that are put one after another.
-use Rattle.std.proofs.Common.{◌≡◌, ℕ, ◌+◌, ◌<◌, ◌≤◌, List, [], ◌∷◌, map, length, Option, Some, None, Ok, Err, refl, sym, ap, subst, ◌∙◌, arith}
+use Rattle.std.proofs.Common.{◌≡◌, ℕ, ◌+◌, ◌<◌, ◌≤◌, List, [], ◌∷◌, map, length, Some, None, Ok, Err}
 use Rattle.pdb.specs.Error.{Error}
-use Rattle.pdb.specs.Left.{Left, Follows, Ends}
+use Rattle.pdb.specs.Left.{Follows}
 use Rattle.pdb_base.specs.Cursor.{Cursor, Reads}
 use Rattle.pdb.specs.Files.{entry_at, entry_length, entries_from}
 use Rattle.pdb.specs.FileViews.{bytes_of_entry}
 use Rattle.pdb_modules.specs.declared.files.FileRecord.{FileRecord}
 use Rattle.pdb_modules.proofs.FileLemmas.{entries_within}
 use Rattle.pdb_modules.proofs.Turns.{turn_follows, turn_fault, turn_end}
-use Rattle.pdb_c.specs.Rooms.{over, put}
+use Rattle.pdb_c.specs.Rooms.{put}
 use Rattle.pdb_c.specs.Lists.{IsListed, list_code}
 use Rattle.pdb_c.specs.FileRows.{file_row, file_told}
 use Rattle.pdb_c.specs.declared.files.PdbFile.{PdbFile}

@@ -1,8 +1,7 @@
 -- What rows say of records.
-use Rattle.std.proofs.Common.{◌≡◌, ℕ, List, Result, Ok, Err, refl, sym, ap, subst, ◌∙◌}
+use Rattle.std.proofs.Common.{◌≡◌, ℕ, Result, Ok, Err, sym, ap, subst, ◌∙◌}
 use Rattle.pdb.specs.Error.{Error}
-use Rattle.pdb.specs.Error.TheVariants.{IoError, OutOfMemory}
-use Rattle.pdb.specs.Refusal.{Fails, number_of}
+use Rattle.pdb.specs.Refusal.{number_of}
 use Rattle.pdb.specs.Data.{Data}
 use Rattle.pdb.specs.SymbolList.{Entry}
 use Rattle.pdb.specs.Forms.{kind_at, record_at}

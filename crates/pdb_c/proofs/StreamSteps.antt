@@ -1,5 +1,5 @@
 -- Streams that are put one after another.
-use Rattle.std.proofs.Common.{◌≡◌, ℕ, ◌+◌, List, [], ◌∷◌, ◌++◌, length, drop, refl, sym, ap, ◌∙◌, arith, length-append}
+use Rattle.std.proofs.Common.{◌≡◌, ℕ, ◌+◌, List, [], ◌∷◌, length, drop, refl, sym, ap, ◌∙◌, arith, length-append}
 use Rattle.pdb_c.specs.Rooms.{put}
 use Rattle.pdb_c.specs.Streams.{stream_read, stream_row, stream_rows, bytes_of_stream, all_bytes}
 use Rattle.pdb_c.specs.declared.streams.PdbStream.{PdbStream}

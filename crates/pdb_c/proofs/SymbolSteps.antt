@@ -1,10 +1,9 @@
 -- Symbols that are given one after another.
-use Rattle.std.proofs.Common.{◌≡◌, ℕ, ◌+◌, ◌<◌, ◌≤◌, min, List, [], ◌∷◌, ◌++◌, map, length, take, drop, set, refl, sym, ap, subst, ◌∙◌, arith, append_assoc}
+use Rattle.std.proofs.Common.{◌≡◌, ℕ, ◌+◌, ◌<◌, ◌≤◌, min, List, [], ◌∷◌, ◌++◌, map, length, take, drop, set, sym, ap, subst, ◌∙◌, arith, append_assoc}
 use Rattle.std.specs.List.{All}
 use Rattle.std.proofs.lemmas.Grind.{common_steps}
 use Rattle.std.proofs.lemmas.List.{take_more_set, map-append, drop-set-lt}
 use Rattle.std.proofs.lemmas.List.Elements.{All-append}
-use Rattle.pdb.specs.Left.{Left}
 use Rattle.pdb.specs.Tiling.{listing}
 use Rattle.pdb.specs.SymbolList.{Entry, symbols, symbols_from}
 use Rattle.pdb_c.specs.declared.symbols.PdbSymbol.{PdbSymbol}

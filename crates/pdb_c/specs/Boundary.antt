@@ -1,8 +1,7 @@
 -- What the number says that a call answers.
-use Rattle.std.specs.Prelude.{◌≡◌, ℕ, ◌⊎◌, List, [], length, map, Option, Some, None, Result, Ok, Err, nat_lt, ◌==◌, if◌then◌else◌}
+use Rattle.std.specs.Prelude.{◌≡◌, ℕ, ◌⊎◌, List, length, Result, Ok, Err, nat_lt, ◌==◌, if◌then◌else◌}
 use Rattle.pdb.specs.Error.{Error}
 use Rattle.pdb.specs.Refusal.{number_of}
-use Rattle.pdb.specs.Left.{Left, Follows, Ends}
 use Rattle.pdb_c.specs.Rooms.{over}
 
 -- 31 where a room is smaller than what is needed

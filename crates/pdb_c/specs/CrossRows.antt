@@ -1,6 +1,5 @@
 -- What modules import from one another and export, as rows.
-use Rattle.std.specs.Prelude.{◌≡◌, ℕ, List, map, Result}
-use Rattle.pdb.specs.Error.{Error}
+use Rattle.std.specs.Prelude.{ℕ, List, map}
 use Rattle.pdb.specs.CrossModule.{ImportedModule}
 use Rattle.pdb.specs.ExportViews.{export_of, local_of, global_number_of}
 use Rattle.pdb.specs.CrossModuleExport.{CrossModuleExport}

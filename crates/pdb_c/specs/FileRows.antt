@@ -1,5 +1,5 @@
 -- Files as rows.
-use Rattle.std.specs.Prelude.{◌≡◌, ℕ, List, Result}
+use Rattle.std.specs.Prelude.{ℕ, List, Result}
 use Rattle.pdb.specs.Error.{Error}
 use Rattle.pdb.specs.Files.{FileEntry, file_of, digest_kind, digest_bytes, entries_from}
 use Rattle.pdb.specs.LineProgram.{ProgramOf}

@@ -1,5 +1,5 @@
 -- Frames as rows, and the text of their names.
-use Rattle.std.specs.Prelude.{◌≡◌, ◌⊎◌, ◌==◌, if◌then◌else◌, ℕ, ◌+◌, List, [], ◌∷◌, ◌++◌, length, flat_map, Option, Some, None, Bool, is_some}
+use Rattle.std.specs.Prelude.{◌≡◌, ◌==◌, if◌then◌else◌, ℕ, ◌+◌, List, [], ◌∷◌, ◌++◌, length, flat_map, Option, Some, None, Bool, is_some}
 use Rattle.pdb.specs.PdbInternalSectionOffset.{PdbInternalSectionOffset}
 use Rattle.pdb.specs.Qualified.{Qualified}
 use Rattle.pdb_resolve.specs.Frames.{Frame, scope_text}

@@ -1,8 +1,7 @@
 -- Inlined functions as rows.
-use Rattle.std.specs.Prelude.{◌≡◌, ℕ, List, Result}
+use Rattle.std.specs.Prelude.{ℕ, List, Result}
 use Rattle.pdb.specs.Error.{Error}
 use Rattle.pdb.specs.Refusal.{◌>>=◌}
-use Rattle.pdb.specs.Left.{Left}
 use Rattle.pdb.specs.Files.{FileOf, file_at}
 use Rattle.pdb.specs.LineProgram.{ProgramOf}
 use Rattle.pdb.specs.Inlinees.{InlineeEntry}

@@ -1,16 +1,15 @@
 -- Line records as rows.
-use Rattle.std.specs.Prelude.{◌≡◌, ◌⊎◌, ℕ, List, length, Option, Some, None, Result, Ok, Err, option_map}
+use Rattle.std.specs.Prelude.{◌≡◌, ◌⊎◌, ℕ, List, Option, Some, None, Result, Ok, Err}
 use Rattle.std.specs.Option.{unwrap_or}
 use Rattle.pdb.specs.Error.{Error}
 use Rattle.pdb.specs.Refusal.{number_of}
-use Rattle.pdb.specs.Left.{Left}
 use Rattle.pdb.specs.Lines.{lines_of}
 use Rattle.pdb.specs.LineProgram.{ProgramOf}
 use Rattle.pdb.specs.LineInfo.{LineInfo}
 use Rattle.pdb.specs.LineInfoKind.{LineInfoKind}
 use Rattle.pdb.specs.LineInfoKind.TheVariants.{Expression, Statement}
 use Rattle.pdb.specs.Files.{FileOf, file_at}
-use Rattle.pdb.specs.ModuleStream.{ModuleBytes, line_program_of}
+use Rattle.pdb.specs.ModuleStream.{ModuleBytes}
 use Rattle.pdb_c.specs.Lists.{IsListed}
 use Rattle.pdb_c.specs.Boundary.{IsRefused}
 use Rattle.pdb_c.specs.declared.lines.PdbLine.{PdbLine}

@@ -1,15 +1,15 @@
 //! Symbols, as many as there is room for in one call.
 
-ghost use Rattle.std.specs.Prelude.{◌≡◌, ◌+◌, ◌≤◌, ◌<◌, ◌⊎◌, ℕ, List, [], length, Ok, Err, IfOk, IfSome};
+ghost use Rattle.std.specs.Prelude.{◌≡◌, ◌+◌, ◌≤◌, ◌<◌, ◌⊎◌, ◌==◌, if◌then◌else◌, ℕ, List, [], length, Some, None, Ok, Err, IfOk, IfSome};
 ghost use Rattle.pdb.specs.Error.{Error};
 ghost use Rattle.pdb.specs.Refusal.{Answers, number_of};
-ghost use Rattle.pdb.specs.Data.{shown as says};
+ghost use Rattle.pdb.specs.Data.{shown as says, name_of};
 ghost use Rattle.pdb.specs.Forms.{record_at, kind_at};
 ghost use Rattle.pdb.specs.Scopes.{starts_of, ends_of};
 ghost use Rattle.pdb.specs.SymbolList.{symbols_from};
 ghost use Rattle.pdb.specs.Views.{symbol_of, symbols_left, symbols_bytes, symbols_place};
 ghost use Rattle.pdb.specs.ModuleStream.{checked_part, symbols_part_of};
-ghost use Rattle.pdb_c.specs.Symbols.{symbol_entry, form_number, parent_of, end_of, code_size_of, type_index_of, inlinee_of, annotations_of, one_if, SaysData, SaysItself, Given, symbols_alone};
+ghost use Rattle.pdb_c.specs.Symbols.{symbol_entry, form_number, place_of, parent_of, end_of, code_size_of, type_index_of, inlinee_of, annotations_of, one_if, SaysData, SaysItself, Given, symbols_alone};
 
 use crate::answers::{DONE, END, LARGE, OUT_OF_MEMORY, code_of};
 use crate::fields::{
@@ -17,8 +17,8 @@ use crate::fields::{
     type_index_of,
 };
 use pdb::{
-    Error, FallibleIterator, Feature, ParseBuffer, Result, Symbol, SymbolData, SymbolIndex,
-    SymbolIter,
+    Error, FallibleIterator, Feature, ParseBuffer, PdbInternalSectionOffset, Result, Symbol,
+    SymbolData, SymbolIndex, SymbolIter,
 };
 use pdb_base::part::part_of;
 use std::alloc::Global;
@@ -104,19 +104,28 @@ fn bare<'a>(symbol: &Symbol<'a>, refused: u8) -> PdbSymbol<'a>
     }
 }
 
-/// What a record says, but its name and its place.
-fn put_numbers<'a>(out: &mut PdbSymbol<'a>, said: &SymbolData<'a>)
-    ensures { out.new ≡ record { record_bytes = out.old.record_bytes; name = out.old.name; annotations = out.old.annotations; index = out.old.index; parent = parent_of (says said.now); end = end_of (says said.now); offset = out.old.offset; code_size = code_size_of (says said.now); type_index = type_index_of (says said.now); inlinee = inlinee_of (says said.now); section = out.old.section; kind = out.old.kind; form = form_number (says said.now); refused = out.old.refused; has_name = out.old.has_name; has_place = out.old.has_place; starts_scope = out.old.starts_scope; ends_scope = out.old.ends_scope } }
+/// The name that a record says, and 1 where it says one.
+fn name_told<'a>(said: &SymbolData<'a>) -> (&'a [u8], u8)
+    ensures { (if result.1 == 1 then Some result.0.now else None) ≡ name_of (says said.now) }
 {
-    out.form = form_number(said);
-    out.parent = parent_of(said);
-    out.end = end_of(said);
-    out.code_size = code_size_of(said);
-    out.type_index = type_index_of(said);
-    out.inlinee = inlinee_of(said);
+    match said.name() {
+        Some(name) => (name.as_bytes(), 1),
+        None => (&[], 0),
+    }
+}
+
+/// The place that a record tells, and 1 where it tells one.
+fn place_told(said: &SymbolData<'_>) -> (PdbInternalSectionOffset, u8)
+    ensures { (if result.1 == 1 then Some result.0 else None) ≡ place_of (says said.now) }
+{
+    match place_of(said) {
+        Some(place) => (place, 1),
+        None => (PdbInternalSectionOffset::new(0, 0), 0),
+    }
 }
 
 /// The row of a record that says this.
+#[inline(always)]
 fn row_of<'a>(symbol: &Symbol<'a>, said: &SymbolData<'a>) -> PdbSymbol<'a>
     ensures entry { symbol_entry result ≡ symbol_of symbol.now }
     ensures kind { result.kind ≡ kind_at (symbol_of symbol.now).bytes }
@@ -125,19 +134,28 @@ fn row_of<'a>(symbol: &Symbol<'a>, said: &SymbolData<'a>) -> PdbSymbol<'a>
     ensures ends { result.ends_scope ≡ one_if (ends_of (kind_at (symbol_of symbol.now).bytes)) }
     ensures says { SaysData result (says said.now) }
 {
-    let mut out = bare(symbol, 0);
-    put_numbers(&mut out, said);
-    out.annotations = annotations_of(said);
-    if let Some(name) = said.name() {
-        out.name = name.as_bytes();
-        out.has_name = 1;
+    let (name, has_name) = name_told(said);
+    let (place, has_place) = place_told(said);
+    PdbSymbol {
+        record_bytes: symbol.raw_bytes(),
+        name,
+        annotations: annotations_of(said),
+        index: symbol.index().0,
+        parent: parent_of(said),
+        end: end_of(said),
+        offset: place.offset,
+        code_size: code_size_of(said),
+        type_index: type_index_of(said),
+        inlinee: inlinee_of(said),
+        section: place.section,
+        kind: symbol.raw_kind(),
+        form: form_number(said),
+        refused: 0,
+        has_name,
+        has_place,
+        starts_scope: one_if(symbol.starts_scope()),
+        ends_scope: one_if(symbol.ends_scope()),
     }
-    if let Some(place) = place_of(said) {
-        out.has_place = 1;
-        out.section = place.section;
-        out.offset = place.offset;
-    }
-    out
 }
 
 /// The row of a symbol; none where memory is wanted.

@@ -1,4 +1,4 @@
-use Rattle.std.proofs.Common.{◌≡◌, ◌+◌, ◌∷◌, length, map, ap, sym, ◌∙◌, arith}
+use Rattle.std.proofs.Common.{◌≡◌, ◌∷◌, sym, ◌∙◌}
 use Rattle.pdb.specs.ModuleViews.{exports_left}
 use Rattle.pdb_c.specs.CrossRows.{export_row}
 use Rattle.pdb_c.proofs.ListSteps.{item_next, few_next, counted_next}

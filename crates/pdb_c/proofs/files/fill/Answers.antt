@@ -1,10 +1,9 @@
-use Rattle.std.proofs.Common.{◌≡◌, ◌+◌, ◌<◌, ◌≤◌, ◌∷◌, [], length, map, refl, ap, sym, ◌∙◌, arith}
+use Rattle.std.proofs.Common.{◌≡◌, ◌<◌, ◌≤◌, length, refl, ap, sym, ◌∙◌, arith}
 use Rattle.pdb.specs.Files.{entry_at, entry_length, entries_from}
 use Rattle.pdb.specs.FileViews.{bytes_of_entry}
 use Rattle.pdb_modules.proofs.FileLemmas.{entries_within}
 use Rattle.pdb_modules.proofs.Turns.{turn_moves}
 use Rattle.pdb_c.specs.FileRows.{file_row, file_told}
-use Rattle.pdb_c.specs.Rooms.{put}
 use Rattle.pdb_c.proofs.FileSteps.{file_follows, listed_at_fault, listed_at_end}
 use Rattle.pdb_c.proofs.ListSteps.{item_next, counted_next}
 use Rattle.pdb_c.proofs.files.fill.Goals as goal

@@ -1,4 +1,4 @@
-use Rattle.std.proofs.Common.{◌≡◌, ◌+◌, ◌∷◌, drop}
+use Rattle.std.proofs.Common.{◌+◌, drop}
 use Rattle.pdb.proofs.Passing.{continues_then}
 use Rattle.pdb_c.proofs.Putting.{drop_next}
 use Rattle.pdb_c.proofs.FrameSteps.{all_rows_next, all_counts_next, all_names_next, all_sizes_next}

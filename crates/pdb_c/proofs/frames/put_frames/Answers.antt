@@ -1,4 +1,4 @@
-use Rattle.std.proofs.Common.{◌≡◌, ◌+◌, ◌∷◌, drop}
+use Rattle.std.proofs.Common.{◌+◌, drop}
 use Rattle.pdb_c.proofs.Putting.{drop_next}
 use Rattle.pdb_c.proofs.FrameSteps.{rows_next, counts_next, names_next, sizes_next}
 use Rattle.pdb_c.proofs.frames.put_frames.Goals as goal

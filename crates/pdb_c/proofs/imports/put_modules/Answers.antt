@@ -1,4 +1,4 @@
-use Rattle.std.proofs.Common.{◌≡◌, ◌+◌, ◌∷◌, drop}
+use Rattle.std.proofs.Common.{◌+◌, drop}
 use Rattle.pdb_modules.specs.ImportViews.{module_of}
 use Rattle.pdb_c.specs.CrossRows.{import_row}
 use Rattle.pdb_c.proofs.Putting.{drop_next}

@@ -1,4 +1,4 @@
-use Rattle.std.proofs.Common.{◌≡◌, length, drop, map}
+use Rattle.std.proofs.Common.{◌≡◌, drop, map}
 use Rattle.pdb_modules.specs.ImportViews.{module_of}
 use Rattle.pdb_c.specs.CrossRows.{import_row}
 use Rattle.pdb_c.specs.Rooms.{over, put}

@@ -1,4 +1,4 @@
-use Rattle.std.proofs.Common.{◌≡◌, ◌+◌, ◌∷◌, length, map, ap, sym, ◌∙◌, arith}
+use Rattle.std.proofs.Common.{◌≡◌, ◌∷◌, sym, ◌∙◌}
 use Rattle.pdb.specs.InlinedViews.{inlined_left}
 use Rattle.pdb_c.specs.LineRows.{inlined_row}
 use Rattle.pdb_c.proofs.ListSteps.{item_next, few_next, counted_next}

@@ -1,6 +1,5 @@
 use Rattle.std.proofs.Common.{◌≡◌, ◌+◌, ◌<◌, ◌^◌, length, map}
 use Rattle.pdb.specs.DbiViews.{modules_left}
-use Rattle.pdb.specs.Modules.{ModuleEntry}
 use Rattle.pdb_c.specs.Numbers.{entry_of}
 use Rattle.pdb_c.specs.Rooms.{put}
 use Rattle.pdb_c.proofs.modules.fill.Given as goal

@@ -1,4 +1,4 @@
-use Rattle.std.proofs.Common.{◌≡◌, ◌++◌, ◌∙◌, ap, take, drop, length, min, arith, ℕ, List}
+use Rattle.std.proofs.Common.{◌≡◌, ap, drop, length, min, arith, ℕ, List}
 use Rattle.pdb_c.proofs.Putting.{put_front}
 use Rattle.pdb_c.proofs.rooms.put_bytes.Goals as goal
 

@@ -1,6 +1,6 @@
 use Rattle.std.proofs.Common.{◌≡◌, ◌+◌, ◌∷◌, drop, get_or}
 use Rattle.pdb.proofs.Passing.{continues_then}
-use Rattle.pdb_c.proofs.Putting.{drop_next, put_last}
+use Rattle.pdb_c.proofs.Putting.{drop_next}
 use Rattle.pdb_c.proofs.StreamSteps.{rows_next, bytes_next, sizes_next}
 use Rattle.pdb_c.proofs.streams.put_streams.Goals as goal
 

@@ -1,4 +1,4 @@
-use Rattle.std.proofs.Common.{◌≡◌, ◌+◌, ◌∷◌, ◌≤◌, length, ap, sym, ◌∙◌, arith, ℕ, List}
+use Rattle.std.proofs.Common.{◌≤◌, length, ◌∙◌, arith}
 use Rattle.std.proofs.lemmas.Grind.{common_steps}
 use Rattle.pdb.specs.Views.{symbol_of, symbols_left, symbols_bytes, symbols_place}
 use Rattle.pdb_c.proofs.SymbolSteps.{place_next, items_next, says_next, others_next}

@@ -1,4 +1,4 @@
-use Rattle.std.proofs.Common.{◌≡◌, ◌+◌, ◌≤◌, ◌-◌, ◌++◌, length, map, take, drop}
+use Rattle.std.proofs.Common.{◌≡◌, ◌≤◌, ◌-◌, ◌++◌, length, map, take, drop}
 use Rattle.std.specs.List.{All}
 use Rattle.pdb.specs.SymbolList.{symbols_from}
 use Rattle.pdb.specs.Views.{symbols_left, symbols_bytes}
