@@ -11,6 +11,7 @@ use Rattle.pdb.specs.Scopes.{starts_of, ends_of}
 use Rattle.pdb.specs.Data.{Data, ScopeEnd, ObjName, RegisterVariable, Constant, UserDefinedType, MultiRegisterVariable, DataItem, Public, Procedure, ThreadStorage, Compiler, UsingNamespace, ProcedureReference, DataReference, AnnotationReference, Trampoline, Export, Local, BuildInfo, InlineSite, InlineSiteEnd, ProcedureEnd, Label, Block, RegisterRelative, Thunk, SeparatedCode, name_of}
 use Rattle.pdb.specs.ModuleStream.{ModuleBytes}
 use Rattle.pdb_base.specs.declared.index.SymbolIndex.{SymbolIndex}
+use Rattle.pdb_c.specs.declared.fields.Numbers.{Numbers}
 use Rattle.pdb_c.specs.declared.symbols.PdbSymbol.{PdbSymbol}
 
 -- the number of a form, from 1
@@ -101,6 +102,10 @@ end_of d = 0
 abbrev pub inlinee_of : Data → ℕ
 inlinee_of (InlineSite s) = s.inlinee.0
 inlinee_of d = 0
+
+-- all that is told in numbers
+abbrev pub numbers_of : Data → Numbers
+numbers_of d = record { place = place_of d; code_size = code_size_of d; type_index = type_index_of d; parent = parent_of d; end = end_of d; inlinee = inlinee_of d }
 
 -- the annotations of an inlined call; none of another record
 abbrev pub annotations_of : Data → List ℕ

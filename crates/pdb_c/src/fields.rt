@@ -1,10 +1,10 @@
 //! What a record says, in numbers.
 
-ghost use Rattle.std.specs.Prelude.{◌≡◌};
+ghost use Rattle.std.specs.Prelude.{◌≡◌, Some, None};
 ghost use Rattle.pdb.specs.Data.{shown};
-ghost use Rattle.pdb_c.specs.Symbols.{form_number, place_of, code_size_of, type_index_of, index_or_none, parent_of, end_of, inlinee_of, annotations_of};
+ghost use Rattle.pdb_c.specs.Symbols.{form_number, numbers_of, index_or_none, annotations_of};
 
-use pdb::{PdbInternalSectionOffset, SymbolData, SymbolIndex};
+use pdb::{IdIndex, PdbInternalSectionOffset, SymbolData, SymbolIndex};
 
 /// The number of a form, from 1.
 pub fn form_number(said: &SymbolData<'_>) -> u8
@@ -41,51 +41,67 @@ pub fn form_number(said: &SymbolData<'_>) -> u8
     }
 }
 
-/// Where in the image what the record tells of stands, where it tells that.
-pub fn place_of(said: &SymbolData<'_>) -> Option<PdbInternalSectionOffset>
-    ensures { result ≡ place_of (shown said.now) }
+/// What a record tells in numbers; 0 for each that it doesn't tell.
+#[derive(Clone, Copy)]
+pub struct Numbers {
+    /// Where in the image what the record tells of stands, where it tells that.
+    pub place: Option<PdbInternalSectionOffset>,
+    /// How many bytes of code it is.
+    pub code_size: u32,
+    /// The type's index.
+    pub type_index: u32,
+    /// The symbol in whose scope it stands.
+    pub parent: u32,
+    /// The symbol that ends its scope.
+    pub end: u32,
+    /// The id of the function that was inlined.
+    pub inlinee: u32,
+}
+
+/// A type, and nothing else.
+#[inline(always)]
+fn typed(type_index: u32) -> Numbers
+    ensures { result ≡ record { place = None; code_size = 0; type_index = type_index; parent = 0; end = 0; inlinee = 0 } }
 {
-    match said {
-        SymbolData::Data(symbol) => Some(symbol.offset),
-        SymbolData::Public(symbol) => Some(symbol.offset),
-        SymbolData::Procedure(symbol) => Some(symbol.offset),
-        SymbolData::ThreadStorage(symbol) => Some(symbol.offset),
-        SymbolData::Label(symbol) => Some(symbol.offset),
-        SymbolData::Block(symbol) => Some(symbol.offset),
-        SymbolData::Thunk(symbol) => Some(symbol.offset),
-        SymbolData::SeparatedCode(symbol) => Some(symbol.offset),
-        _ => None,
+    Numbers {
+        place: None,
+        code_size: 0,
+        type_index,
+        parent: 0,
+        end: 0,
+        inlinee: 0,
     }
 }
 
-/// How many bytes of code it is, 0 where that isn't told.
-pub fn code_size_of(said: &SymbolData<'_>) -> u32
-    ensures { result ≡ code_size_of (shown said.now) }
+/// A place, and the type of what stands there.
+#[inline(always)]
+fn placed(place: PdbInternalSectionOffset, type_index: u32) -> Numbers
+    ensures { result ≡ record { place = Some place; code_size = 0; type_index = type_index; parent = 0; end = 0; inlinee = 0 } }
 {
-    match said {
-        SymbolData::Procedure(symbol) => symbol.len,
-        SymbolData::Block(symbol) => symbol.len,
-        SymbolData::Thunk(symbol) => u32::from(symbol.len),
-        SymbolData::SeparatedCode(symbol) => symbol.len,
-        _ => 0,
+    Numbers {
+        place: Some(place),
+        ..typed(type_index)
     }
 }
 
-/// The type's index, 0 where there is none.
-pub fn type_index_of(said: &SymbolData<'_>) -> u32
-    ensures { result ≡ type_index_of (shown said.now) }
+/// Code at a place, which is a scope of its own.
+#[inline(always)]
+fn code(
+    place: PdbInternalSectionOffset,
+    code_size: u32,
+    type_index: u32,
+    parent: u32,
+    end: u32,
+) -> Numbers
+    ensures { result ≡ record { place = Some place; code_size = code_size; type_index = type_index; parent = parent; end = end; inlinee = 0 } }
 {
-    match said {
-        SymbolData::RegisterVariable(symbol) => symbol.type_index.0,
-        SymbolData::Constant(symbol) => symbol.type_index.0,
-        SymbolData::UserDefinedType(symbol) => symbol.type_index.0,
-        SymbolData::MultiRegisterVariable(symbol) => symbol.type_index.0,
-        SymbolData::Data(symbol) => symbol.type_index.0,
-        SymbolData::Procedure(symbol) => symbol.type_index.0,
-        SymbolData::ThreadStorage(symbol) => symbol.type_index.0,
-        SymbolData::Local(symbol) => symbol.type_index.0,
-        SymbolData::RegisterRelative(symbol) => symbol.type_index.0,
-        _ => 0,
+    Numbers {
+        place: Some(place),
+        code_size,
+        type_index,
+        parent,
+        end,
+        inlinee: 0,
     }
 }
 
@@ -98,41 +114,55 @@ fn index_or_none(index: Option<SymbolIndex>) -> u32
     }
 }
 
-/// The symbol in whose scope it stands, 0 where there is none.
-pub fn parent_of(said: &SymbolData<'_>) -> u32
-    ensures { result ≡ parent_of (shown said.now) }
+/// The numbers of an inlined call.
+#[inline(always)]
+fn inlined(parent: Option<SymbolIndex>, end: SymbolIndex, inlinee: IdIndex) -> Numbers
+    ensures { result ≡ record { place = None; code_size = 0; type_index = 0; parent = index_or_none parent; end = end.0; inlinee = inlinee.0 } }
 {
-    match said {
-        SymbolData::Procedure(symbol) => index_or_none(symbol.parent),
-        SymbolData::InlineSite(symbol) => index_or_none(symbol.parent),
-        SymbolData::Block(symbol) => symbol.parent.0,
-        SymbolData::Thunk(symbol) => index_or_none(symbol.parent),
-        SymbolData::SeparatedCode(symbol) => symbol.parent.0,
-        _ => 0,
+    Numbers {
+        place: None,
+        code_size: 0,
+        type_index: 0,
+        parent: index_or_none(parent),
+        end: end.0,
+        inlinee: inlinee.0,
     }
 }
 
-/// The symbol that ends its scope, 0 where it has none.
-pub fn end_of(said: &SymbolData<'_>) -> u32
-    ensures { result ≡ end_of (shown said.now) }
+/// What a record tells in numbers.
+#[inline(always)]
+pub fn numbers_of(said: &SymbolData<'_>) -> Numbers
+    ensures { result ≡ numbers_of (shown said.now) }
 {
     match said {
-        SymbolData::Procedure(symbol) => symbol.end.0,
-        SymbolData::InlineSite(symbol) => symbol.end.0,
-        SymbolData::Block(symbol) => symbol.end.0,
-        SymbolData::Thunk(symbol) => symbol.end.0,
-        SymbolData::SeparatedCode(symbol) => symbol.end.0,
-        _ => 0,
-    }
-}
-
-/// The id of the function that was inlined, 0 where none was.
-pub fn inlinee_of(said: &SymbolData<'_>) -> u32
-    ensures { result ≡ inlinee_of (shown said.now) }
-{
-    match said {
-        SymbolData::InlineSite(symbol) => symbol.inlinee.0,
-        _ => 0,
+        SymbolData::RegisterVariable(it) => typed(it.type_index.0),
+        SymbolData::Constant(it) => typed(it.type_index.0),
+        SymbolData::UserDefinedType(it) => typed(it.type_index.0),
+        SymbolData::MultiRegisterVariable(it) => typed(it.type_index.0),
+        SymbolData::Local(it) => typed(it.type_index.0),
+        SymbolData::RegisterRelative(it) => typed(it.type_index.0),
+        SymbolData::Data(it) => placed(it.offset, it.type_index.0),
+        SymbolData::ThreadStorage(it) => placed(it.offset, it.type_index.0),
+        SymbolData::Public(it) => placed(it.offset, 0),
+        SymbolData::Label(it) => placed(it.offset, 0),
+        SymbolData::Procedure(it) => code(
+            it.offset,
+            it.len,
+            it.type_index.0,
+            index_or_none(it.parent),
+            it.end.0,
+        ),
+        SymbolData::Block(it) => code(it.offset, it.len, 0, it.parent.0, it.end.0),
+        SymbolData::Thunk(it) => code(
+            it.offset,
+            u32::from(it.len),
+            0,
+            index_or_none(it.parent),
+            it.end.0,
+        ),
+        SymbolData::SeparatedCode(it) => code(it.offset, it.len, 0, it.parent.0, it.end.0),
+        SymbolData::InlineSite(it) => inlined(it.parent, it.end, it.inlinee),
+        _ => typed(0),
     }
 }
 

@@ -9,13 +9,10 @@ ghost use Rattle.pdb.specs.Scopes.{starts_of, ends_of};
 ghost use Rattle.pdb.specs.SymbolList.{symbols_from};
 ghost use Rattle.pdb.specs.Views.{symbol_of, symbols_left, symbols_bytes, symbols_place};
 ghost use Rattle.pdb.specs.ModuleStream.{checked_part, symbols_part_of};
-ghost use Rattle.pdb_c.specs.Symbols.{symbol_entry, form_number, place_of, parent_of, end_of, code_size_of, type_index_of, inlinee_of, annotations_of, one_if, SaysData, SaysItself, Given, symbols_alone};
+ghost use Rattle.pdb_c.specs.Symbols.{symbol_entry, form_number, numbers_of, annotations_of, one_if, SaysData, SaysItself, Given, symbols_alone};
 
 use crate::answers::{DONE, END, LARGE, OUT_OF_MEMORY, code_of};
-use crate::fields::{
-    annotations_of, code_size_of, end_of, form_number, inlinee_of, parent_of, place_of,
-    type_index_of,
-};
+use crate::fields::{annotations_of, form_number, numbers_of};
 use pdb::{
     Error, FallibleIterator, Feature, ParseBuffer, PdbInternalSectionOffset, Result, Symbol,
     SymbolData, SymbolIndex, SymbolIter,
@@ -114,11 +111,12 @@ fn name_told<'a>(said: &SymbolData<'a>) -> (&'a [u8], u8)
     }
 }
 
-/// The place that a record tells, and 1 where it tells one.
-fn place_told(said: &SymbolData<'_>) -> (PdbInternalSectionOffset, u8)
-    ensures { (if result.1 == 1 then Some result.0 else None) ≡ place_of (says said.now) }
+/// The place that is told, and 1 where one is.
+#[inline(always)]
+fn place_told(place: Option<PdbInternalSectionOffset>) -> (PdbInternalSectionOffset, u8)
+    ensures { (if result.1 == 1 then Some result.0 else None) ≡ place }
 {
-    match place_of(said) {
+    match place {
         Some(place) => (place, 1),
         None => (PdbInternalSectionOffset::new(0, 0), 0),
     }
@@ -135,18 +133,19 @@ fn row_of<'a>(symbol: &Symbol<'a>, said: &SymbolData<'a>) -> PdbSymbol<'a>
     ensures says { SaysData result (says said.now) }
 {
     let (name, has_name) = name_told(said);
-    let (place, has_place) = place_told(said);
+    let numbers = numbers_of(said);
+    let (place, has_place) = place_told(numbers.place);
     PdbSymbol {
         record_bytes: symbol.raw_bytes(),
         name,
         annotations: annotations_of(said),
         index: symbol.index().0,
-        parent: parent_of(said),
-        end: end_of(said),
+        parent: numbers.parent,
+        end: numbers.end,
         offset: place.offset,
-        code_size: code_size_of(said),
-        type_index: type_index_of(said),
-        inlinee: inlinee_of(said),
+        code_size: numbers.code_size,
+        type_index: numbers.type_index,
+        inlinee: numbers.inlinee,
         section: place.section,
         kind: symbol.raw_kind(),
         form: form_number(said),
