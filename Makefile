@@ -1,28 +1,34 @@
 PREFIX ?= /usr/local
 
-.PHONY: run prove test install c
+.PHONY: run prove c test install cross dist
 
-# Lists the sample at once: with the proved program where it stands and is of this source, else without any proof.
+# Shows what both programs print: the proved ones where they are built, otherwise the sources without proof.
 run:
 	@tests/run
 
 # Proves every crate, and builds both programs.
 prove:
+	@tests/needs python3 kit
 	cd crates/pdb_list && rt run > /dev/null
 	cd crates/pdb_tool && rt run -- help > /dev/null
 
 # Proves and builds the library for C, Python, Rust and Go into c/out.
 c:
-	PREFIX=$(PREFIX) c/build
+	@tests/needs python3 kit cc binutils
+	PREFIX="$(PREFIX)" c/build
 
-# The gate, and then the proved programs over real files, refused memory, and wrong bodies.
+# The gate, and then the tests of the proved programs and of the C library.
 test:
 	@tests/all
 
-install: prove c
-	install -d $(DESTDIR)$(PREFIX)/bin $(DESTDIR)$(PREFIX)/share/man/man1 $(DESTDIR)$(PREFIX)/include $(DESTDIR)$(PREFIX)/lib/pkgconfig
-	install -m 755 crates/pdb_list/out/pdb_list crates/pdb_tool/out/pdb_tool $(DESTDIR)$(PREFIX)/bin
-	install -m 644 docs/man/pdb_list.1 docs/man/pdb_tool.1 $(DESTDIR)$(PREFIX)/share/man/man1
-	install -m 644 include/pdb.h $(DESTDIR)$(PREFIX)/include
-	install -m 644 c/out/libpdb.a c/out/libpdb.so $(DESTDIR)$(PREFIX)/lib
-	install -m 644 c/out/pdb.pc $(DESTDIR)$(PREFIX)/lib/pkgconfig
+# Installs what was built; proves and builds nothing.
+install:
+	@PREFIX="$(PREFIX)" DESTDIR="$(DESTDIR)" package/install
+
+# Proves and builds the library for aarch64 Linux into c/out/aarch64-linux-gnu.
+cross:
+	@package/cross
+
+# Makes dist/: a tarball and a Debian package of the programs and the library; with make cross also the library for aarch64.
+dist: prove c
+	@package/build

@@ -1,7 +1,7 @@
 //! A safe face for modules, symbols and lines, and a program with the lines of `pdb_list FILE COMMAND..` for modules, globals,
 //! symbols K and lines K.
 //!
-//!     rustc -O examples/list.rs -L c/out -l static=pdb -o list
+//!     rustc --edition 2024 -O examples/list.rs -L c/out -l static=pdb -o list
 
 use std::io::Write;
 use std::marker::PhantomData;
@@ -269,14 +269,38 @@ fn put(out: &mut Vec<u8>, file: &[u8], command: &str, k: usize) -> Result<Code, 
     Ok(listed.fault)
 }
 
+fn stop(status: i32, why: &str) -> ! {
+    eprintln!("{why}");
+    std::process::exit(status)
+}
+
+const USAGE: &str = "usage: list FILE COMMAND.., of modules, globals, symbols K and lines K";
+
+/// The commands that arguments are, each with its number; why they are none.
+fn commands(words: &[String]) -> Result<Vec<(&str, usize)>, String> {
+    let mut left = words.iter();
+    let mut found = Vec::new();
+    while let Some(command) = left.next() {
+        let k = match command.as_str() {
+            "modules" | "globals" => 0,
+            "symbols" | "lines" => {
+                let word = left.next().map_or("none", String::as_str);
+                word.parse::<u32>().map_err(|_| format!("list: {command}: not a number: {word}"))?
+            }
+            _ => return Err(format!("list: no command: {command}")),
+        };
+        found.push((command.as_str(), k as usize));
+    }
+    if found.is_empty() { Err("list: no command".to_string()) } else { Ok(found) }
+}
+
 fn main() {
     let words: Vec<String> = std::env::args().skip(1).collect();
-    let file = std::fs::read(&words[0]).unwrap_or_else(|_| std::process::exit(3));
+    let [path, words @ ..] = words.as_slice() else { stop(2, USAGE) };
+    let commands = commands(words).unwrap_or_else(|why| stop(2, &format!("{why}\n{USAGE}")));
+    let file = std::fs::read(path).unwrap_or_else(|error| stop(3, &format!("list: {path}: {error}")));
     let mut out = Vec::new();
-    let mut left = words[1..].iter();
-    while let Some(command) = left.next() {
-        let has_number = command == "symbols" || command == "lines";
-        let k = if has_number { left.next().and_then(|word| word.parse().ok()).unwrap_or(0) } else { 0 };
+    for (command, k) in commands {
         if let Err(code) | Ok(code @ 1..) = put(&mut out, &file, command, k) {
             out.extend_from_slice(format!("error {code}\n").as_bytes());
         }

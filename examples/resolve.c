@@ -1,5 +1,5 @@
-/* resolve FILE ADDRESS..: the text that `pdb_tool resolve FILE ADDRESS..` has for addresses as 0x1108, and for places as
- * 0001:00000108. All addresses are asked for in one call.
+/* resolve FILE ADDRESS..: the text that `pdb_tool resolve FILE ADDRESS..` has for addresses as 0x1108 or 1108, and for
+ * offsets in sections as 0001:00000108. All addresses are looked up in one call.
  *
  *     cc -Iinclude examples/resolve.c c/out/libpdb.a -o resolve
  */
@@ -38,29 +38,59 @@ static void frames(const pdb_frame *rows, size_t count, const uint8_t *names, si
     flush();
 }
 
-static pdb_address asked(const char *word) {
-    pdb_address a = {0, 0, PDB_ADDRESS};
+/* Whether an argument is an address, and which. */
+static _Bool asked(const char *word, pdb_address *a) {
     const char *colon = strchr(word, ':');
-    a.offset = (uint32_t)strtoul(colon ? colon + 1 : word, 0, 16);
-    if (colon) {
-        a.section = (uint16_t)strtoul(word, 0, 16);
-        a.kind = PDB_PLACE;
+    char section[5] = "";
+    uint32_t number = 0;
+    if (!colon) {
+        *a = (pdb_address){0, 0, PDB_ADDRESS};
+        return number_of(word + 2 * (word[0] == '0' && (word[1] | 32) == 'x'), 16, 8, &a->offset);
     }
-    return a;
+    if (colon - word >= (long)sizeof section) return 0;
+    memcpy(section, word, (size_t)(colon - word));
+    *a = (pdb_address){0, 0, PDB_PLACE};
+    if (!number_of(section, 16, 4, &number) || !number_of(colon + 1, 16, 8, &a->offset)) return 0;
+    a->section = (uint16_t)number;
+    return 1;
+}
+
+static int usage(void) {
+    fputs("usage: resolve FILE ADDRESS.., each HEX, 0xHEX or SECTION:HEX\n", stderr);
+    return 2;
+}
+
+/* The bytes of a file; null where it can't be read. */
+static uint8_t *read_file(const char *path, size_t *size) {
+    FILE *in = fopen(path, "rb");
+    if (!in) return 0;
+    long end = fseek(in, 0, SEEK_END) ? -1 : ftell(in);
+    uint8_t *file = end < 0 ? 0 : room((size_t)end);
+    rewind(in);
+    if (file && fread(file, 1, (size_t)end, in) != (size_t)end) {
+        free(file);
+        file = 0;
+    }
+    fclose(in);
+    *size = (size_t)end;
+    return file;
 }
 
 int main(int words_count, char **words) {
-    FILE *in = words_count > 1 ? fopen(words[1], "rb") : 0;
-    if (!in) return 3;
-    fseek(in, 0, SEEK_END);
-    size_t size = (size_t)ftell(in);
-    rewind(in);
-    uint8_t *file = room(size);
-    if (fread(file, 1, size, in) != size) return 3;
-    fclose(in);
-    size_t n = (size_t)words_count - 2, count, bytes;
+    if (words_count < 2) return usage();
+    size_t n = (size_t)words_count - 2, size, count, bytes;
     pdb_address *addresses = room(n * sizeof *addresses);
-    for (size_t k = 0; k < n; k++) addresses[k] = asked(words[k + 2]);
+    for (size_t k = 0; k < n; k++) {
+        if (!asked(words[k + 2], &addresses[k])) {
+            fprintf(stderr, "resolve: not an address: %s\n", words[k + 2]);
+            return usage();
+        }
+    }
+    uint8_t *file = read_file(words[1], &size);
+    if (!file) {
+        fprintf(stderr, "resolve: %s: cannot read file\n", words[1]);
+        return 3;
+    }
     /* Room that isn't filled is none of the machine's: ask for much, so that the file is read once. */
     size_t most = 16 * n + 16, most_bytes = 1024 * n + 1024;
     pdb_frame *rows = room(most * sizeof *rows);

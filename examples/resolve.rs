@@ -1,6 +1,6 @@
 //! A safe face for the frames of addresses, and a program with the text of `pdb_tool resolve FILE ADDRESS..`.
 //!
-//!     rustc -O examples/resolve.rs -L c/out -l static=pdb -o resolve
+//!     rustc --edition 2024 -O examples/resolve.rs -L c/out -l static=pdb -o resolve
 
 use std::io::Write;
 
@@ -101,21 +101,39 @@ impl Frames {
     }
 }
 
-fn asked(word: &str) -> Address {
-    let hex = |digits: &str| u32::from_str_radix(digits.trim_start_matches("0x"), 16).unwrap_or(0);
-    match word.split_once(':') {
-        Some((section, offset)) => Address { offset: hex(offset), section: hex(section) as u16, kind: 1 },
-        None => Address { offset: hex(word), section: 0, kind: 0 },
-    }
+/// A number of 1 to `most` hex digits.
+fn hex(digits: &str, most: usize) -> Option<u32> {
+    let well = (1..=most).contains(&digits.len()) && digits.bytes().all(|it| it.is_ascii_hexdigit());
+    well.then(|| u32::from_str_radix(digits, 16).ok()).flatten()
 }
+
+/// The address that an argument is: HEX, 0xHEX or SECTION:HEX.
+fn asked(word: &str) -> Option<Address> {
+    if let Some((section, offset)) = word.split_once(':') {
+        return Some(Address { offset: hex(offset, 8)?, section: hex(section, 4)? as u16, kind: 1 });
+    }
+    let digits = word.strip_prefix("0x").or_else(|| word.strip_prefix("0X")).unwrap_or(word);
+    Some(Address { offset: hex(digits, 8)?, section: 0, kind: 0 })
+}
+
+fn stop(status: i32, why: &str) -> ! {
+    eprintln!("{why}");
+    std::process::exit(status)
+}
+
+const USAGE: &str = "usage: resolve FILE ADDRESS.., each HEX, 0xHEX or SECTION:HEX";
 
 fn main() {
     let words: Vec<String> = std::env::args().skip(1).collect();
-    let file = std::fs::read(&words[0]).unwrap_or_else(|_| std::process::exit(3));
-    let addresses: Vec<Address> = words[1..].iter().map(|word| asked(word)).collect();
-    let frames = Frames::of(&file, &addresses).unwrap_or_else(|code| {
-        eprintln!("cannot open: {code}");
-        std::process::exit(4)
+    let [path, words @ ..] = words.as_slice() else { stop(2, USAGE) };
+    let addresses: Vec<Address> = words
+        .iter()
+        .map(|word| asked(word).unwrap_or_else(|| stop(2, &format!("resolve: not an address: {word}\n{USAGE}"))))
+        .collect();
+    let file = std::fs::read(path).unwrap_or_else(|error| stop(3, &format!("resolve: {path}: {error}")));
+    let frames = Frames::of(&file, &addresses).unwrap_or_else(|code| match code {
+        22 => stop(5, "out of memory"),
+        _ => stop(4, &format!("cannot open: {code}")),
     });
     let mut out = Vec::new();
     let mut left = frames.iter().peekable();

@@ -1,4 +1,4 @@
-/* Texts for the examples: bytes, words and numbers on standard output. */
+/* Texts for the examples: bytes, words and numbers on standard output, and the numbers that arguments are. */
 #ifndef TEXT_H
 #define TEXT_H
 #include <stdint.h>
@@ -61,6 +61,21 @@ static inline void decimal(uint64_t n) {
 static inline void field(uint64_t n) {
     PUT(" ");
     decimal(n);
+}
+
+/* Whether s is a number from its first byte to its last, of 1 to `most` digits of the base 10 or 16, below 2^32. */
+static inline _Bool number_of(const char *s, unsigned base, size_t most, uint32_t *number) {
+    static const char digits[] = "0123456789abcdef0123456789ABCDEF";
+    uint64_t n = 0;
+    size_t length = strlen(s);
+    if (length == 0 || length > most) return 0;
+    for (; *s; s++) {
+        const char *digit = strchr(digits, *s);
+        if (!digit || (unsigned)(digit - digits) % 16 >= base) return 0;
+        n = n * base + (unsigned)(digit - digits) % 16;
+    }
+    *number = (uint32_t)n;
+    return n <= UINT32_MAX;
 }
 
 #endif

@@ -1,5 +1,5 @@
-// resolve FILE ADDRESS..: the text of `pdb_tool resolve FILE ADDRESS..`, by cgo. Addresses are as 0x1108, places as
-// 0001:00000108.
+// resolve FILE ADDRESS..: the text of `pdb_tool resolve FILE ADDRESS..`, by cgo. Addresses are as 0x1108 or 1108, offsets
+// in sections as 0001:00000108.
 //
 //	CGO_CFLAGS=-I$PWD/include CGO_LDFLAGS="$PWD/c/out/libpdb.a" go run examples/go/resolve.go FILE ADDRESS..
 package main
@@ -15,7 +15,7 @@ import (
 	"strings"
 )
 
-// Frame is a function whose code stands at an address, and the line there. A name that isn't told is nil.
+// Frame is a function at an address, and the line there. An unknown name is nil.
 type Frame struct {
 	Address      int
 	Name, File   []byte
@@ -30,7 +30,7 @@ func first[T any](items []T) *T {
 	return &items[0]
 }
 
-// Frames are the frames of addresses in a file's bytes; a refusal is its number.
+// Frames are the frames of addresses in a file's bytes; an error is its code.
 func Frames(file []byte, addresses []C.pdb_address) ([]Frame, C.pdb_code) {
 	var rows []C.pdb_frame
 	var names []byte
@@ -59,17 +59,36 @@ func Frames(file []byte, addresses []C.pdb_address) ([]Frame, C.pdb_code) {
 	}
 }
 
-func hex(digits string) C.uint32_t {
-	n, _ := strconv.ParseUint(strings.TrimPrefix(digits, "0x"), 16, 32)
-	return C.uint32_t(n)
+// hex is a number of 1 to most hex digits.
+func hex(digits string, most int) (C.uint32_t, bool) {
+	if len(digits) > most || strings.Trim(digits, "0123456789abcdefABCDEF") != "" {
+		return 0, false
+	}
+	n, err := strconv.ParseUint(digits, 16, 32)
+	return C.uint32_t(n), err == nil
 }
 
-func asked(word string) C.pdb_address {
+// asked is the address that an argument is: HEX, 0xHEX or SECTION:HEX.
+func asked(word string) (C.pdb_address, bool) {
 	if section, offset, found := strings.Cut(word, ":"); found {
-		return C.pdb_address{section: C.uint16_t(hex(section)), offset: hex(offset), kind: C.PDB_PLACE}
+		s, isSection := hex(section, 4)
+		o, isOffset := hex(offset, 8)
+		return C.pdb_address{section: C.uint16_t(s), offset: o, kind: C.PDB_PLACE}, isSection && isOffset
 	}
-	return C.pdb_address{offset: hex(word), kind: C.PDB_ADDRESS}
+	if strings.HasPrefix(word, "0x") || strings.HasPrefix(word, "0X") {
+		word = word[2:]
+	}
+	o, isOffset := hex(word, 8)
+	return C.pdb_address{offset: o, kind: C.PDB_ADDRESS}, isOffset
 }
+
+// stop ends the program with a line on standard error.
+func stop(status int, why string) {
+	fmt.Fprintln(os.Stderr, why)
+	os.Exit(status)
+}
+
+const usage = "usage: resolve FILE ADDRESS.., each HEX, 0xHEX or SECTION:HEX"
 
 func orUnknown(name []byte) []byte {
 	if name == nil {
@@ -79,18 +98,27 @@ func orUnknown(name []byte) []byte {
 }
 
 func main() {
-	file, err := os.ReadFile(os.Args[1])
-	if err != nil {
-		os.Exit(3)
+	if len(os.Args) < 2 {
+		stop(2, usage)
 	}
 	var addresses []C.pdb_address
 	for _, word := range os.Args[2:] {
-		addresses = append(addresses, asked(word))
+		address, ok := asked(word)
+		if !ok {
+			stop(2, "resolve: not an address: "+word+"\n"+usage)
+		}
+		addresses = append(addresses, address)
+	}
+	file, err := os.ReadFile(os.Args[1])
+	if err != nil {
+		stop(3, "resolve: "+err.Error())
 	}
 	frames, code := Frames(file, addresses)
+	if code == C.PDB_OUT_OF_MEMORY {
+		stop(5, "out of memory")
+	}
 	if code != C.PDB_DONE {
-		fmt.Fprintf(os.Stderr, "cannot open: %d\n", code)
-		os.Exit(4)
+		stop(4, fmt.Sprintf("cannot open: %d", code))
 	}
 	out := bufio.NewWriter(os.Stdout)
 	for k := range addresses {

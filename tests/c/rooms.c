@@ -180,6 +180,52 @@ static void modules_and_lines(void) {
     free(dbi);
 }
 
+/* Five records: a type's name, the end of a scope, a public, a procedure of four bytes, and a kind that isn't read. */
+static const uint8_t made[] = {
+    10, 0, 0x08, 0x11, 0x74, 0, 0, 0, 'a', 'b', 0, 0,
+    2,  0, 0x06, 0x00,
+    14, 0, 0x0e, 0x11, 2,    0, 0, 0, 0x30, 0, 0, 0, 2, 0, 'p', 0,
+    6,  0, 0x10, 0x11, 1,    2, 3, 4,
+    2,  0, 0x77, 0x77};
+
+static int is_named(pdb_bytes name, const char *wanted) { return name.size == strlen(wanted) && !memcmp(name.data, wanted, name.size); }
+
+/* Every field of a row but its record, its kind, its scopes and its error. */
+static int holds(const pdb_symbol *y, int form, const char *name, uint32_t offset, int section, uint32_t type_index) {
+    return y->form == form && y->has_name == (name != 0) && is_named(y->name, name ? name : "") && y->has_place == (section != 0) &&
+           y->offset == offset && y->section == section && y->type_index == type_index && y->code_size == 0 && y->parent == 0 &&
+           y->end == 0 && y->inlinee == 0 && y->annotations.size == 0;
+}
+
+static void made_symbols(void) {
+    pdb_symbol rows[7];
+    size_t count = 77;
+    uint32_t at = PDB_GLOBALS_AT;
+    memset(rows, 0xff, sizeof rows);
+    want(pdb_global_symbols(made, sizeof made, &at, rows, 0, &count) == PDB_DONE && count == 0 && at == 0, "no rows", 0);
+    want(pdb_global_symbols(made, sizeof made, &at, rows, 2, &count) == PDB_DONE && count == 2 && at == 16, "two rows", 2);
+    want(((uint8_t *)&rows[2])[0] == 0xff, "behind two rows", 2);
+    at = PDB_GLOBALS_AT;
+    want(pdb_global_symbols(made, sizeof made, &at, rows, 7, &count) == PDB_END && count == 5, "made symbols", count);
+    want(((uint8_t *)&rows[5])[0] == 0xff, "behind five rows", 5);
+    want(pdb_global_symbols(made, sizeof made, &at, rows + 6, 1, &count) == PDB_END && count == 0, "behind the end", count);
+    want(holds(&rows[0], PDB_USER_DEFINED_TYPE, "ab", 0, 0, 0x74) && rows[0].index == 0 && rows[0].record.size == 10 && !rows[0].refused, "a type's name", 0);
+    want(holds(&rows[1], PDB_SCOPE_END, 0, 0, 0, 0) && rows[1].ends_scope == 1 && rows[1].starts_scope == 0 && !rows[1].refused, "an end", 1);
+    want(holds(&rows[2], PDB_PUBLIC, "p", 0x30, 2, 0) && rows[2].kind == 0x110e && rows[2].index == 16, "a public", 2);
+    want(holds(&rows[3], 0, 0, 0, 0, 0) && rows[3].refused == PDB_UNEXPECTED_EOF && rows[3].starts_scope == 1 && rows[3].record.size == 6, "a procedure that ends early", 3);
+    want(holds(&rows[4], 0, 0, 0, 0, 0) && rows[4].refused == PDB_UNIMPLEMENTED_SYMBOL_KIND && rows[4].kind == 0x7777, "an unknown kind", 4);
+}
+
+/* A symbols part in error: where symbols are read stays. */
+static void parts_in_error(void) {
+    static const uint8_t bytes[] = {5, 0, 0, 0, 2, 0, 6, 0};
+    pdb_symbol row;
+    size_t count = 77;
+    uint32_t at = PDB_SYMBOLS_AT;
+    want(pdb_symbols(bytes, sizeof bytes, sizeof bytes, &at, &row, 1, &count) == PDB_UNIMPLEMENTED_FEATURE && count == 0 && at == 4, "a version", count);
+    want(pdb_symbols(bytes, sizeof bytes, sizeof bytes + 1, &at, &row, 1, &count) == PDB_UNEXPECTED_EOF && count == 0 && at == 4, "a part's end", count);
+}
+
 static uint64_t frames(size_t n, size_t room, size_t names_room) {
     pdb_address *asked = filled(n * sizeof *asked);
     for (size_t k = 0; k < n; k++) asked[k] = (pdb_address){(uint32_t)(0x1000 + 7 * k), 0, PDB_ADDRESS};
@@ -213,8 +259,11 @@ int main(int count, char **words) {
     file = malloc(file_size);
     if (fread(file, 1, file_size, in) != file_size) return 3;
     fclose(in);
+    want(pdb_version() == PDB_VERSION, "version", pdb_version());
     streams();
     modules_and_lines();
+    made_symbols();
+    parts_in_error();
     for (size_t room = 0; room < 24; room++) frames(8, room, 5 * room);
     uint64_t sum = frames(60, 4000, 400000);
     pthread_t threads[8];

@@ -25,6 +25,7 @@ pub use Rattle.pdb_dbi.specs.Header
 pub use Rattle.pdb_dbi.specs.Machine
 pub use Rattle.pdb_dbi.specs.Information
 pub use Rattle.pdb_dbi.specs.Names
+pub use Rattle.pdb_dbi.specs.Features
 pub use Rattle.pdb_dbi.specs.Modules
 pub use Rattle.pdb_dbi.specs.Contributions
 pub use Rattle.pdb_dbi.specs.DbiViews

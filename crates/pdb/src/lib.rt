@@ -138,3 +138,4 @@ pub use pdb_symbols::TrampolineSymbol;
 pub use pdb_symbols::TrampolineType;
 pub use pdb_symbols::UserDefinedTypeSymbol;
 pub use pdb_symbols::UsingNamespaceSymbol;
+pub use places::item_at;

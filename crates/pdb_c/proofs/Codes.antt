@@ -1,11 +1,11 @@
 -- Refusals as numbers.
-use Rattle.std.proofs.Common.{◌≡◌, ℕ, List, inl, inr, Result, Ok, Err, refl}
+use Rattle.std.proofs.Common.{◌≡◌, ◌≢◌, ℕ, List, inl, inr, Result, Ok, Err, refl}
 use Rattle.pdb.specs.Error.{Error}
 use Rattle.pdb.specs.Error.TheVariants.{IoError, OutOfMemory}
 use Rattle.pdb.specs.Refusal.{Fails, number_of}
 use Rattle.pdb.specs.LineProgram.{ProgramOf}
 use Rattle.pdb_c.specs.Boundary.{Told, Copied, IsCopied}
-use Rattle.pdb_c.specs.Lists.{Obtained}
+use Rattle.pdb_c.specs.Lists.{Obtained, WithoutMemory}
 use Rattle.pdb_c.specs.LineRows.{LinesTold}
 use Rattle.pdb_c.specs.declared.lines.PdbLine.{PdbLine}
 
@@ -49,3 +49,13 @@ pub refused : {X A : Type 0} (owes : A → Type 0) (e : Error) (old : List X) (r
 refused owes IoError old read f = absurd f
 refused owes OutOfMemory old read f = obtained_none owes old read
 refused owes e old read f = rw f (inl refl, refl, refl)
+
+-- ---- where such calls take no memory
+
+pub owed : {X A : Type 0} (owes : A → Type 0) (code count : ℕ) (old new : List X) (read : Result A Error) (x : A) → read ≡ Ok x → owes x → WithoutMemory owes code old new count read
+owed owes code count old new read x h o = rw h o
+
+pub not_memory : {X A : Type 0} (owes : A → Type 0) (e : Error) (old : List X) (read : Result A Error) → e ≢ OutOfMemory → Fails ⊥ e read → WithoutMemory owes (number_of e) old old 0 read
+not_memory owes IoError old read other f = absurd f
+not_memory owes OutOfMemory old read other f = absurd (other refl)
+not_memory owes e old read other f = rw f (refl, refl, refl)

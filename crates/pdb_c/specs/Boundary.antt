@@ -21,6 +21,11 @@ abbrev pub Told : {Y : Type 0} → ℕ → Y → Y → Result Y Error → Type 0
 Told code old new (Ok x) = ((code ≡ 0) × (new ≡ x)) ⊎ ((code ≡ 22) × (new ≡ old))
 Told code old new (Err e) = IsRefused code e × (new ≡ old)
 
+-- The same of a call that takes no memory.
+abbrev pub ToldWithoutMemory : {Y : Type 0} → ℕ → Y → Y → Result Y Error → Type 0
+ToldWithoutMemory code old new (Ok x) = (code ≡ 0) × (new ≡ x)
+ToldWithoutMemory code old new (Err e) = (code ≡ number_of e) × (new ≡ old)
+
 -- what a room of bytes has after a call, how many bytes there are, and the code
 pub record IsCopied (c : ℕ) (old new : List ℕ) (total : ℕ) (bytes : List ℕ) : Type 0 where
   pub size : total ≡ length bytes

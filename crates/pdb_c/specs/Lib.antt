@@ -10,3 +10,4 @@ pub mod FileRows
 pub mod InlineeRows
 pub mod CrossRows
 pub mod FrameRows
+pub mod Version

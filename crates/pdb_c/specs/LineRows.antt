@@ -10,7 +10,7 @@ use Rattle.pdb.specs.LineInfoKind.{LineInfoKind}
 use Rattle.pdb.specs.LineInfoKind.TheVariants.{Expression, Statement}
 use Rattle.pdb.specs.Files.{FileOf, file_at}
 use Rattle.pdb.specs.ModuleStream.{ModuleBytes}
-use Rattle.pdb_c.specs.Lists.{IsListed}
+use Rattle.pdb_c.specs.Lists.{IsListed, WithoutMemory}
 use Rattle.pdb_c.specs.Boundary.{IsRefused}
 use Rattle.pdb_c.specs.declared.lines.PdbLine.{PdbLine}
 
@@ -63,6 +63,10 @@ inlined_row l = named_row 0 0 l
 abbrev pub LinesTold : ℕ → List PdbLine → List PdbLine → ℕ → Result ProgramOf Error → Type 0
 LinesTold code old new count (Ok p) = IsListed (λ r. r) (line_row p.checksums) code old new count (lines_of p.subsections) ⊎ ((code ≡ 22) × (new ≡ old) × (count ≡ 0))
 LinesTold code old new count (Err e) = IsRefused code e × (new ≡ old) × (count ≡ 0)
+
+-- the same where it takes no memory
+abbrev pub LinesExact : ℕ → List PdbLine → List PdbLine → ℕ → Result ProgramOf Error → Type 0
+LinesExact code old new count read = WithoutMemory (λ p. IsListed (λ r. r) (line_row p.checksums) code old new count (lines_of p.subsections)) code old new count read
 
 -- a module's stream by its bytes and sizes
 abbrev pub module_bytes : List ℕ → ℕ → ℕ → ℕ → ModuleBytes

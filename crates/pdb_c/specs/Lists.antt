@@ -34,3 +34,8 @@ whole_list items = record { items = items; fault = None }
 abbrev pub Obtained : {X A : Type 0} → (A → Type 0) → ℕ → List X → List X → ℕ → Result A Error → Type 0
 Obtained owes code old new count (Ok x) = owes x ⊎ ((code ≡ 22) × (new ≡ old) × (count ≡ 0))
 Obtained owes code old new count (Err e) = IsRefused code e × (new ≡ old) × (count ≡ 0)
+
+-- What such a call owes where it takes no memory: `owes` says it, or the error's number is returned, and nothing is put.
+abbrev pub WithoutMemory : {X A : Type 0} → (A → Type 0) → ℕ → List X → List X → ℕ → Result A Error → Type 0
+WithoutMemory owes code old new count (Ok x) = owes x
+WithoutMemory owes code old new count (Err e) = (code ≡ number_of e) × (new ≡ old) × (count ≡ 0)

@@ -1,5 +1,5 @@
 -- Symbols as rows.
-use Rattle.std.specs.Prelude.{◌≡◌, ◌⊎◌, ◌==◌, if◌then◌else◌, ℕ, List, [], length, map, take, drop, Bool, Option, Some, None, Result, Ok, Err}
+use Rattle.std.specs.Prelude.{◌≡◌, ◌⊎◌, if◌then◌else◌, ℕ, List, [], ◌∷◌, length, map, take, drop, Bool, false, IsTrue, Option, Some, None, is_some, Result, Ok, Err}
 use Rattle.std.specs.List.{All}
 use Rattle.pdb.specs.Error.{Error}
 use Rattle.pdb.specs.Refusal.{number_of}
@@ -11,6 +11,7 @@ use Rattle.pdb.specs.Scopes.{starts_of, ends_of}
 use Rattle.pdb.specs.Data.{Data, ScopeEnd, ObjName, RegisterVariable, Constant, UserDefinedType, MultiRegisterVariable, DataItem, Public, Procedure, ThreadStorage, Compiler, UsingNamespace, ProcedureReference, DataReference, AnnotationReference, Trampoline, Export, Local, BuildInfo, InlineSite, InlineSiteEnd, ProcedureEnd, Label, Block, RegisterRelative, Thunk, SeparatedCode, name_of}
 use Rattle.pdb.specs.ModuleStream.{ModuleBytes}
 use Rattle.pdb_base.specs.declared.index.SymbolIndex.{SymbolIndex}
+use Rattle.pdb_symbols.specs.Kinds.{is_in}
 use Rattle.pdb_c.specs.declared.fields.Numbers.{Numbers}
 use Rattle.pdb_c.specs.declared.symbols.PdbSymbol.{PdbSymbol}
 
@@ -122,29 +123,55 @@ one_if holds = if holds then 1 else 0
 abbrev pub symbol_entry : PdbSymbol → Entry
 symbol_entry y = record { index = y.index; bytes = y.record_bytes.now }
 
--- the name and the place that are told, if they are
-abbrev pub told_name : PdbSymbol → Option (List ℕ)
-told_name y = if y.has_name == 1 then Some y.name.now else None
+-- 1 where there is one, and else 0
+abbrev pub flag_of : {A : Type 0} → Option A → ℕ
+flag_of o = one_if (is_some o)
 
-abbrev pub told_place : PdbSymbol → Option PdbInternalSectionOffset
-told_place y = if y.has_place == 1 then Some (record { offset = y.offset; section = y.section }) else None
+-- a name's bytes, and none where there is no name
+abbrev pub bytes_or_none : Option (List ℕ) → List ℕ
+bytes_or_none None = []
+bytes_or_none (Some name) = name
+
+-- the offset and the section of a place in the image, 0 where there is none
+abbrev pub offset_or_zero : Option PdbInternalSectionOffset → ℕ
+offset_or_zero None = 0
+offset_or_zero (Some place) = place.offset
+
+abbrev pub section_or_zero : Option PdbInternalSectionOffset → ℕ
+section_or_zero None = 0
+section_or_zero (Some place) = place.section
+
+-- a row has this form's number (0 where the record has an error), and what the record has or doesn't have
+pub record Holds (y : PdbSymbol) (number : ℕ) (its_name : Option (List ℕ)) (numbers : Numbers) (bytes : List ℕ) : Type 0 where
+  pub form : y.form ≡ number
+  pub has_name : y.has_name ≡ flag_of its_name
+  pub name : y.name.now ≡ bytes_or_none its_name
+  pub has_place : y.has_place ≡ flag_of numbers.place
+  pub offset : y.offset ≡ offset_or_zero numbers.place
+  pub section : y.section ≡ section_or_zero numbers.place
+  pub code_size : y.code_size ≡ numbers.code_size
+  pub type_index : y.type_index ≡ numbers.type_index
+  pub parent : y.parent ≡ numbers.parent
+  pub end : y.end ≡ numbers.end
+  pub inlinee : y.inlinee ≡ numbers.inlinee
+  pub annotations : y.annotations.now ≡ bytes
 
 -- what a row says of a record
-pub record SaysData (y : PdbSymbol) (d : Data) : Type 0 where
-  pub form : y.form ≡ form_number d
-  pub name : told_name y ≡ name_of d
-  pub place : told_place y ≡ place_of d
-  pub code_size : y.code_size ≡ code_size_of d
-  pub type_index : y.type_index ≡ type_index_of d
-  pub parent : y.parent ≡ parent_of d
-  pub end : y.end ≡ end_of d
-  pub inlinee : y.inlinee ≡ inlinee_of d
-  pub annotations : y.annotations.now ≡ annotations_of d
+abbrev pub SaysData : PdbSymbol → Data → Type 0
+SaysData y d = Holds y (form_number d) (name_of d) (numbers_of d) (annotations_of d)
 
--- what a row says where its record is read so, or refused
+-- no number is present
+abbrev pub no_numbers : Numbers
+no_numbers = record { place = None; code_size = 0; type_index = 0; parent = 0; end = 0; inlinee = 0 }
+
+-- a row says nothing of a record that has an error: each field is 0 or empty
+abbrev pub SaysNothing : PdbSymbol → Type 0
+SaysNothing y = Holds y 0 None no_numbers []
+
+-- what a row says where its record is read so, or has an error
 abbrev pub SaysRecord : PdbSymbol → Result Data Error → Type 0
 SaysRecord y (Ok d) = (y.refused ≡ 0) × SaysData y d
-SaysRecord y (Err e) = y.refused ≡ number_of e
+SaysRecord y (Err e) = (y.refused ≡ number_of e) × SaysNothing y
 
 -- a row says what its record's bytes say
 pub record SaysItself (y : PdbSymbol) : Type 0 where
@@ -155,15 +182,24 @@ pub record SaysItself (y : PdbSymbol) : Type 0 where
 
 -- ---- lists
 
--- the code of a call that gave some first symbols of a list, of which `new` is left: 0 where they fill the room; 30 at the end; the fault's number behind them, which ends the list; or 22 for want of memory at the next symbol
+-- kinds of variables in several registers: records of no other kind take memory
+abbrev pub takes_memory : ℕ → Bool
+takes_memory kind = is_in (0x110a ∷ 0x1005 ∷ 0x1117 ∷ 0x1014 ∷ []) kind
+
+-- whether the first of these symbols takes memory
+abbrev pub first_takes_memory : List Entry → Bool
+first_takes_memory [] = false
+first_takes_memory (s ∷ others) = takes_memory (kind_at s.bytes)
+
+-- the code of a call that gave some first symbols of a list, of which `new` is left: 0 where they fill the buffer; 30 at the end; the number of the error behind them, which ends the list; or 22 at a next symbol that takes memory
 abbrev pub Gave : ℕ → ℕ → List Entry → Left Entry → Left Entry → Type 0
 Gave code room given old new =
     ((code ≡ 0) × (length given ≡ room) × Follows old given new)
     ⊎ (((code ≡ 30) × Ends old given None new)
     ⊎ (((e : Error) × (code ≡ number_of e) × Ends old given (Some e) new)
-    ⊎ ((code ≡ 22) × Follows old given new)))
+    ⊎ ((code ≡ 22) × Follows old given new × IsTrue (first_takes_memory new.items))))
 
--- a call gave symbols: so many rows tell them, each says what its bytes say, and the other rows are as they were
+-- a call gave symbols: so many rows of the buffer tell them, each says what its bytes say, and the other rows are as they were
 pub record Given (code : ℕ) (before after : List PdbSymbol) (count : ℕ) (old new : Left Entry) : Type 0 where
   pub gave : Gave code (length before) (map symbol_entry (take count after)) old new
   pub says : All SaysItself (take count after)

@@ -1,11 +1,11 @@
 //! What a module exports to other modules.
 
-ghost use Rattle.std.specs.Prelude.{◌≡◌, ◌≤◌, ◌<◌, length, Ok, Err};
+ghost use Rattle.std.specs.Prelude.{◌≡◌, ◌≤◌, ◌<◌, ℕ, List, length, Some, Ok, Err};
 ghost use Rattle.pdb.specs.ModuleViews.{exports_left};
-ghost use Rattle.pdb.specs.ModuleStream.{exports_of};
+ghost use Rattle.pdb.specs.ModuleStream.{exports_of, part_of_kind};
 ghost use Rattle.pdb_c.specs.Lists.{IsListed};
 ghost use Rattle.pdb_c.specs.LineRows.{module_bytes};
-ghost use Rattle.pdb_c.specs.CrossRows.{export_row, ExportsTold};
+ghost use Rattle.pdb_c.specs.CrossRows.{export_row, ExportsTold, ExportsPut, ExportsExact};
 
 use crate::answers::{LARGE, code_of, list_code};
 use crate::rooms::put_row;
@@ -55,7 +55,7 @@ fn fill(mut exports: CrossModuleExportIter<'_>, records: &mut [PdbExport], count
 }
 
 /// Puts the exports of a module.
-#[tactic(auto, using(crate::proofs::Codes::obtained, crate::proofs::Codes::refused))]
+#[tactic(auto, using(crate::proofs::Codes::obtained, crate::proofs::Codes::refused, crate::proofs::Codes::owed, crate::proofs::Codes::not_memory))]
 fn exports_of(
     alloc: Global,
     module_info: &ModuleInfo<'_>,
@@ -63,7 +63,8 @@ fn exports_of(
     count: &mut usize,
 ) -> u32
     requires { count.old ≡ 0 }
-    ensures { ExportsTold result records.old records.new count.new module_info.now }
+    ensures listed { ExportsTold result records.old records.new count.new module_info.now }
+    ensures lean { ((part : List ℕ) → part_of_kind 0xf8 module_info.now ≡ Ok (Some part) → ⊥) → ExportsExact result records.old records.new count.new module_info.now }
 {
     match module_info.exports(alloc) {
         Ok(exports) => fill(exports.exports(), records, count),
@@ -85,6 +86,8 @@ pub extern "C" fn pdb_exports(
 ) -> u32
     ensures large { 4294967295 ≤ length stream.now → (result ≡ 32) × (records.new ≡ records.old) × (count.new ≡ 0) }
     ensures listed { length stream.now < 4294967295 → ExportsTold result records.old records.new count.new (module_bytes stream.now symbols_size lines_size c13_lines_size) }
+    // It takes no memory where there is no such part.
+    ensures lean { length stream.now < 4294967295 → ((part : List ℕ) → part_of_kind 0xf8 (module_bytes stream.now symbols_size lines_size c13_lines_size) ≡ Ok (Some part) → ⊥) → ExportsExact result records.old records.new count.new (module_bytes stream.now symbols_size lines_size c13_lines_size) }
 {
     *count = 0;
     let Some(bytes) = Stream::new(stream) else {

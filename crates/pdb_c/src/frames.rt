@@ -253,7 +253,8 @@ fn put_opened<'s>(
 }
 
 /// The frames of addresses, from the innermost outwards, one address after the other, and their names: each as far as
-/// its room reaches; how many frames there are, and how many bytes of names. The file is opened once.
+/// its room reaches; how many frames there are, and how many bytes of names. The file is opened once. Out of memory,
+/// both counts are 0.
 #[unsafe(no_mangle)]
 pub extern "C" fn pdb_frames(
     alloc: Global,
@@ -265,7 +266,7 @@ pub extern "C" fn pdb_frames(
     size: &mut usize,
 ) -> u32
     ensures refused { (e : Error) → opens file.now ≡ Err e → IsRefused result e × (rows.new ≡ rows.old) × (names.new ≡ names.old) × (count.new ≡ 0) × (size.new ≡ 0) }
-    ensures put { opens file.now ≡ Ok tt → (result ≡ 22) ⊎ AreFrames file.now asked.now result rows.old rows.new count.new names.old names.new size.new }
+    ensures put { opens file.now ≡ Ok tt → ((result ≡ 22) × (count.new ≡ 0) × (size.new ≡ 0)) ⊎ AreFrames file.now asked.now result rows.old rows.new count.new names.old names.new size.new }
 {
     *count = 0;
     *size = 0;
@@ -275,6 +276,10 @@ pub extern "C" fn pdb_frames(
     };
     match put_opened(alloc, pdb, asked, rows, count, names, size) {
         Ok(()) => both_code(room_code(rows.len(), *count), room_code(names.len(), *size)),
-        Err(_) => OUT_OF_MEMORY,
+        Err(_) => {
+            *count = 0;
+            *size = 0;
+            OUT_OF_MEMORY
+        }
     }
 }

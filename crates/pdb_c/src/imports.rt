@@ -1,13 +1,14 @@
 //! What a module imports from other modules.
 
-ghost use Rattle.std.specs.Prelude.{◌≡◌, ◌≤◌, ◌<◌, length, map, Ok, Err};
+ghost use Rattle.std.specs.Prelude.{◌≡◌, ◌≢◌, ◌≤◌, ◌<◌, ℕ, List, length, map, Some, Ok, Err, IfErr};
+ghost use Rattle.pdb.specs.Error.TheVariants.{OutOfMemory};
 ghost use Rattle.pdb.specs.Refusal.{Gives};
 ghost use Rattle.pdb_modules.specs.ImportViews.{module_of};
-ghost use Rattle.pdb.specs.ModuleStream.{imports_of};
+ghost use Rattle.pdb.specs.ModuleStream.{imports_of, part_of_kind};
 ghost use Rattle.pdb_c.specs.Rooms.{over};
 ghost use Rattle.pdb_c.specs.Lists.{IsListed, whole_list};
 ghost use Rattle.pdb_c.specs.LineRows.{module_bytes};
-ghost use Rattle.pdb_c.specs.CrossRows.{import_row, ImportsTold};
+ghost use Rattle.pdb_c.specs.CrossRows.{import_row, ImportsTold, ImportsPut, ImportsExact};
 
 use crate::answers::{LARGE, code_of, list_code};
 use crate::parts::lines_data;
@@ -68,7 +69,8 @@ fn imports<'a>(
     lines_size: u32,
     c13_lines_size: u32,
 ) -> Result<CrossModuleImports<'a>>
-    ensures { Gives (λ x. x) ⊥ result (imports_of (module_bytes stream.entry.now symbols_size lines_size c13_lines_size)) }
+    ensures imports { Gives (λ x. x) ⊥ result (imports_of (module_bytes stream.entry.now symbols_size lines_size c13_lines_size)) }
+    ensures lean { ((part : List ℕ) → part_of_kind 0xf7 (module_bytes stream.entry.now symbols_size lines_size c13_lines_size) ≡ Ok (Some part) → ⊥) → IfErr result (λ e. e ≢ OutOfMemory) }
 {
     if lines_size > 0 {
         return Ok(CrossModuleImports::empty(alloc));
@@ -82,7 +84,7 @@ fn imports<'a>(
 
 /// What a module imports, by its stream of these bytes and sizes: as many modules as there is room for, and how many
 /// there are.
-#[tactic(auto, using(crate::proofs::Codes::obtained, crate::proofs::Codes::refused))]
+#[tactic(auto, using(crate::proofs::Codes::obtained, crate::proofs::Codes::refused, crate::proofs::Codes::owed, crate::proofs::Codes::not_memory))]
 #[unsafe(no_mangle)]
 pub extern "C" fn pdb_imports<'a>(
     alloc: Global,
@@ -95,6 +97,8 @@ pub extern "C" fn pdb_imports<'a>(
 ) -> u32
     ensures large { 4294967295 ≤ length stream.now → (result ≡ 32) × (records.new ≡ records.old) × (count.new ≡ 0) }
     ensures listed { length stream.now < 4294967295 → ImportsTold result records.old records.new count.new (module_bytes stream.now symbols_size lines_size c13_lines_size) }
+    // It takes no memory where there is no such part.
+    ensures lean { length stream.now < 4294967295 → ((part : List ℕ) → part_of_kind 0xf7 (module_bytes stream.now symbols_size lines_size c13_lines_size) ≡ Ok (Some part) → ⊥) → ImportsExact result records.old records.new count.new (module_bytes stream.now symbols_size lines_size c13_lines_size) }
 {
     *count = 0;
     if stream.len() >= 4294967295 {

@@ -1,6 +1,8 @@
 //! The inlined functions of a module, and the line records of their sites.
 
 ghost use Rattle.std.specs.Prelude.{◌≡◌, ◌≤◌, ◌<◌, length, Ok, Err, IfSome};
+ghost use Rattle.pdb.specs.Error.{Error};
+ghost use Rattle.pdb.specs.Refusal.{number_of};
 ghost use Rattle.pdb.specs.InlinedViews.{inlined_left};
 ghost use Rattle.pdb.specs.Inlined.{inlined_lines};
 ghost use Rattle.pdb.specs.ModuleStream.{line_program_of, inlinees_of};
@@ -109,14 +111,16 @@ fn inlinees_of(
     count: &mut usize,
 ) -> u32
     requires { count.old ≡ 0 }
-    ensures { InlineesTold result records.old records.new count.new module_info.now }
+    ensures listed { InlineesTold result records.old records.new count.new module_info.now }
+    ensures refused { (e : Error) → inlinees_of module_info.now ≡ Err e → result ≡ number_of e }
 {
-    let Some(places) = places(alloc, module_info) else {
-        return OUT_OF_MEMORY;
+    let inlinees = match module_info.inlinees() {
+        Ok(inlinees) => inlinees,
+        Err(e) => return code_of(e),
     };
-    match module_info.inlinees() {
-        Ok(inlinees) => fill(&places, inlinees, records, count),
-        Err(e) => code_of(e),
+    match places(alloc, module_info) {
+        Some(places) => fill(&places, inlinees, records, count),
+        None => OUT_OF_MEMORY,
     }
 }
 
@@ -134,6 +138,8 @@ pub extern "C" fn pdb_inlinees(
 ) -> u32
     ensures large { 4294967295 ≤ length stream.now → (result ≡ 32) × (records.new ≡ records.old) × (count.new ≡ 0) }
     ensures listed { length stream.now < 4294967295 → InlineesTold result records.old records.new count.new (module_bytes stream.now symbols_size lines_size c13_lines_size) }
+    // It takes no memory where the list has an error.
+    ensures refused { length stream.now < 4294967295 → (e : Error) → inlinees_of (module_bytes stream.now symbols_size lines_size c13_lines_size) ≡ Err e → result ≡ number_of e }
 {
     *count = 0;
     let Some(bytes) = Stream::new(stream) else {

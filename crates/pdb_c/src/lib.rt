@@ -20,6 +20,7 @@ mod parts;
 mod rooms;
 mod streams;
 mod symbols;
+mod version;
 
 pub use exports::{PdbExport, pdb_exports};
 pub use files::{PdbFile, pdb_files};
@@ -35,3 +36,4 @@ pub use modules::{PdbModule, pdb_modules};
 pub use names::{PdbName, pdb_name};
 pub use streams::{PdbStream, pdb_named_stream, pdb_streams};
 pub use symbols::{PdbSymbol, pdb_global_symbols, pdb_symbols};
+pub use version::pdb_version;

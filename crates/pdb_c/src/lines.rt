@@ -1,12 +1,12 @@
 //! The line records of a module.
 
-ghost use Rattle.std.specs.Prelude.{◌≡◌, ◌≤◌, ◌<◌, length, Ok, Err};
+ghost use Rattle.std.specs.Prelude.{◌≡◌, ◌≤◌, ◌<◌, [], length, Ok, Err};
 ghost use Rattle.std.specs.Option.{unwrap_or};
 ghost use Rattle.pdb.specs.Files.{file_at};
 ghost use Rattle.pdb.specs.LineViews.{lines_left};
-ghost use Rattle.pdb.specs.ModuleStream.{line_program_of};
+ghost use Rattle.pdb.specs.ModuleStream.{line_program_of, line_subsections_of};
 ghost use Rattle.pdb_c.specs.Lists.{IsListed};
-ghost use Rattle.pdb_c.specs.LineRows.{told, is_statement, name_place, file_code, named_row, line_row, LinesTold, module_bytes};
+ghost use Rattle.pdb_c.specs.LineRows.{told, is_statement, name_place, file_code, named_row, line_row, LinesTold, LinesExact, module_bytes};
 
 use crate::answers::{LARGE, code_of, list_code};
 use crate::rooms::put_row;
@@ -137,7 +137,7 @@ fn fill(
 }
 
 /// Puts the lines of a module.
-#[tactic(auto, using(crate::proofs::Codes::lines_refused))]
+#[tactic(auto, using(crate::proofs::Codes::lines_refused, crate::proofs::Codes::owed, crate::proofs::Codes::not_memory))]
 fn lines_of(
     alloc: Global,
     module_info: &ModuleInfo<'_>,
@@ -145,7 +145,8 @@ fn lines_of(
     count: &mut usize,
 ) -> u32
     requires { count.old ≡ 0 }
-    ensures { LinesTold result records.old records.new count.new (line_program_of module_info.now) }
+    ensures listed { LinesTold result records.old records.new count.new (line_program_of module_info.now) }
+    ensures lean { line_subsections_of module_info.now ≡ [] → LinesExact result records.old records.new count.new (line_program_of module_info.now) }
 {
     match module_info.line_program(alloc) {
         Ok(program) => fill(&program, program.lines(), records, count),
@@ -166,6 +167,8 @@ pub extern "C" fn pdb_lines(
 ) -> u32
     ensures large { 4294967295 ≤ length stream.now → (result ≡ 32) × (records.new ≡ records.old) × (count.new ≡ 0) }
     ensures listed { length stream.now < 4294967295 → LinesTold result records.old records.new count.new (line_program_of (module_bytes stream.now symbols_size lines_size c13_lines_size)) }
+    // It takes no memory where there is no subsection of lines.
+    ensures lean { length stream.now < 4294967295 → line_subsections_of (module_bytes stream.now symbols_size lines_size c13_lines_size) ≡ [] → LinesExact result records.old records.new count.new (line_program_of (module_bytes stream.now symbols_size lines_size c13_lines_size)) }
 {
     *count = 0;
     let Some(bytes) = Stream::new(stream) else {

@@ -5,7 +5,7 @@ ghost use Rattle.pdb.specs.Refusal.{Answers};
 ghost use Rattle.pdb.specs.Fields.{cstring_at};
 ghost use Rattle.pdb.specs.Text.{name_bytes};
 ghost use Rattle.pdb.specs.StringTable.{names_of};
-ghost use Rattle.pdb_c.specs.Boundary.{Told};
+ghost use Rattle.pdb_c.specs.Boundary.{ToldWithoutMemory};
 ghost use Rattle.pdb_c.specs.Numbers.{name_in};
 
 use crate::answers::{DONE, LARGE, code_of};
@@ -59,7 +59,7 @@ fn name_at(bytes: &[u8], place: u32) -> Result<RawString<'_>>
 /// The name at a place of the string table, which is the stream `/names`. Where it is refused, `out` stays as it was.
 #[unsafe(no_mangle)]
 pub extern "C" fn pdb_name<'a>(names: &'a [u8], place: u32, out: &mut PdbName<'a>) -> u32
-    ensures { Told result out.old.bytes.now out.new.bytes.now (name_in names.now place) }
+    ensures { ToldWithoutMemory result out.old.bytes.now out.new.bytes.now (name_in names.now place) }
 {
     match name_at(names, place) {
         Ok(name) => {

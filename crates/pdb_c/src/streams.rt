@@ -9,7 +9,7 @@ ghost use Rattle.pdb_c.specs.Rooms.{put};
 ghost use Rattle.pdb_c.specs.Boundary.{Copied, IsRefused};
 ghost use Rattle.pdb_c.specs.Streams.{named_bytes_in, stream_read, bytes_read, code_read, bytes_of_stream, all_bytes, stream_row, stream_rows, ArePut};
 
-use crate::answers::{both_code, code_of, room_code};
+use crate::answers::{OUT_OF_MEMORY, both_code, code_of, room_code};
 use crate::bytes::copy;
 use crate::rooms::{behind, put_bytes, put_row};
 use pdb::{Error, MemorySource, PDB, Result, Stream, StreamIndex};
@@ -104,7 +104,7 @@ fn put_streams<'s>(
 }
 
 /// The streams of these numbers: the row of each, and their bytes one after the other, each as far as its room reaches;
-/// how many bytes there are. The file is opened once.
+/// how many bytes there are. The file is opened once. Out of memory, `size` is 0.
 #[unsafe(no_mangle)]
 pub extern "C" fn pdb_streams(
     alloc: Global,
@@ -115,7 +115,7 @@ pub extern "C" fn pdb_streams(
     size: &mut usize,
 ) -> u32
     ensures refused { (e : Error) → opens file.now ≡ Err e → IsRefused result e × (rows.new ≡ rows.old) × (room.new ≡ room.old) × (size.new ≡ 0) }
-    ensures put { opens file.now ≡ Ok tt → (result ≡ 22) ⊎ ArePut file.now numbers.now result rows.old rows.new room.old room.new size.new }
+    ensures put { opens file.now ≡ Ok tt → ((result ≡ 22) × (size.new ≡ 0)) ⊎ ArePut file.now numbers.now result rows.old rows.new room.old room.new size.new }
 {
     *size = 0;
     let mut pdb = match PDB::open(alloc, MemorySource::new(file)) {
@@ -127,7 +127,10 @@ pub extern "C" fn pdb_streams(
             room_code(rows.len(), numbers.len()),
             room_code(room.len(), *size),
         ),
-        Err(e) => code_of(e),
+        Err(_) => {
+            *size = 0;
+            OUT_OF_MEMORY
+        }
     }
 }
 

@@ -1,6 +1,6 @@
 //! Symbols, as many as there is room for in one call.
 
-ghost use Rattle.std.specs.Prelude.{◌≡◌, ◌+◌, ◌≤◌, ◌<◌, ◌⊎◌, ◌==◌, if◌then◌else◌, ℕ, List, [], length, Some, None, Ok, Err, IfOk, IfSome};
+ghost use Rattle.std.specs.Prelude.{◌≡◌, ◌+◌, ◌≤◌, ◌<◌, ◌⊎◌, ℕ, List, length, IsTrue, None, Ok, Err, IfOk, IfSome};
 ghost use Rattle.pdb.specs.Error.{Error};
 ghost use Rattle.pdb.specs.Refusal.{Answers, number_of};
 ghost use Rattle.pdb.specs.Data.{shown as says, name_of};
@@ -9,7 +9,7 @@ ghost use Rattle.pdb.specs.Scopes.{starts_of, ends_of};
 ghost use Rattle.pdb.specs.SymbolList.{symbols_from};
 ghost use Rattle.pdb.specs.Views.{symbol_of, symbols_left, symbols_bytes, symbols_place};
 ghost use Rattle.pdb.specs.ModuleStream.{checked_part, symbols_part_of};
-ghost use Rattle.pdb_c.specs.Symbols.{symbol_entry, form_number, numbers_of, annotations_of, one_if, SaysData, SaysItself, Given, symbols_alone};
+ghost use Rattle.pdb_c.specs.Symbols.{symbol_entry, form_number, numbers_of, annotations_of, one_if, flag_of, bytes_or_none, offset_or_zero, section_or_zero, takes_memory, SaysData, SaysNothing, SaysItself, Given, symbols_alone};
 
 use crate::answers::{DONE, END, LARGE, OUT_OF_MEMORY, code_of};
 use crate::fields::{annotations_of, form_number, numbers_of};
@@ -20,7 +20,8 @@ use pdb::{
 use pdb_base::part::part_of;
 use std::alloc::Global;
 
-/// A symbol. Where its record is refused, what the record says is 0. The record and the name are bytes of the stream.
+/// A symbol. A field that the record doesn't have is 0 or empty, and so is each where the record has an error. The record,
+/// the name and the annotations borrow the stream.
 #[repr(C)]
 #[derive(Clone, Copy)]
 pub struct PdbSymbol<'a> {
@@ -68,14 +69,12 @@ fn one_if(holds: bool) -> u8
     if holds { 1 } else { 0 }
 }
 
-/// The row of a record that is refused for this, or says nothing.
+/// The row of a record that has this error: it says nothing else.
 fn bare<'a>(symbol: &Symbol<'a>, refused: u8) -> PdbSymbol<'a>
     ensures entry { symbol_entry result ≡ symbol_of symbol.now }
     ensures kind { result.kind ≡ kind_at (symbol_of symbol.now).bytes }
     ensures refused { result.refused ≡ refused }
-    ensures no_name { result.has_name ≡ 0 }
-    ensures no_place { result.has_place ≡ 0 }
-    ensures no_annotations { result.annotations.now ≡ [] }
+    ensures nothing { SaysNothing result }
     ensures starts { result.starts_scope ≡ one_if (starts_of (kind_at (symbol_of symbol.now).bytes)) }
     ensures ends { result.ends_scope ≡ one_if (ends_of (kind_at (symbol_of symbol.now).bytes)) }
 {
@@ -103,7 +102,8 @@ fn bare<'a>(symbol: &Symbol<'a>, refused: u8) -> PdbSymbol<'a>
 
 /// The name that a record says, and 1 where it says one.
 fn name_told<'a>(said: &SymbolData<'a>) -> (&'a [u8], u8)
-    ensures { (if result.1 == 1 then Some result.0.now else None) ≡ name_of (says said.now) }
+    ensures name { result.0.now ≡ bytes_or_none (name_of (says said.now)) }
+    ensures flag { result.1 ≡ flag_of (name_of (says said.now)) }
 {
     match said.name() {
         Some(name) => (name.as_bytes(), 1),
@@ -114,7 +114,9 @@ fn name_told<'a>(said: &SymbolData<'a>) -> (&'a [u8], u8)
 /// The place that is told, and 1 where one is.
 #[inline(always)]
 fn place_told(place: Option<PdbInternalSectionOffset>) -> (PdbInternalSectionOffset, u8)
-    ensures { (if result.1 == 1 then Some result.0 else None) ≡ place }
+    ensures offset { result.0.offset ≡ offset_or_zero place }
+    ensures section { result.0.section ≡ section_or_zero place }
+    ensures flag { result.1 ≡ flag_of place }
 {
     match place {
         Some(place) => (place, 1),
@@ -157,11 +159,12 @@ fn row_of<'a>(symbol: &Symbol<'a>, said: &SymbolData<'a>) -> PdbSymbol<'a>
     }
 }
 
-/// The row of a symbol; none where memory is wanted.
+/// The row of a symbol; none where it is out of memory.
 #[tactic(auto, using(crate::proofs::Records::says_read, crate::proofs::Records::says_refused))]
 fn shown<'a>(alloc: Global, symbol: &Symbol<'a>) -> Option<PdbSymbol<'a>>
     ensures entry { IfSome result (λ y. symbol_entry y ≡ symbol_of symbol.now) }
     ensures says { IfSome result SaysItself }
+    ensures memory { result ≡ None → IsTrue (takes_memory (kind_at (symbol_of symbol.now).bytes)) }
 {
     match symbol.parse(alloc) {
         Ok(said) => Some(row_of(symbol, &said)),
@@ -259,8 +262,8 @@ fn fill_from<'a>(
     fill(alloc, symbols, at, records, count)
 }
 
-/// The symbols of a module's stream from the place `at` on, as many as there is room for; `at` is then where the next
-/// is read. The first is at 4.
+/// The symbols of a module's stream from the offset `at` on, as many as the buffer has rows; `at` is then where the next
+/// is read. The first is at 4. Where the symbols part has an error, `at` stays.
 #[unsafe(no_mangle)]
 pub extern "C" fn pdb_symbols<'a>(
     alloc: Global,
@@ -270,9 +273,10 @@ pub extern "C" fn pdb_symbols<'a>(
     records: &mut [PdbSymbol<'a>],
     count: &mut usize,
 ) -> u32
-    ensures large { 4294967295 ≤ length stream.now → (result ≡ 32) × (records.new ≡ records.old) × (count.new ≡ 0) }
+    ensures room { count.new ≤ length records.new }
+    ensures large { 4294967295 ≤ length stream.now → (result ≡ 32) × (at.new ≡ at.old) × (records.new ≡ records.old) × (count.new ≡ 0) }
     ensures given { length stream.now < 4294967295 → (part : List ℕ) → symbols_part_of (symbols_alone stream.now symbols_size) ≡ Ok part → Given result records.old records.new count.new (symbols_from part at.old) (symbols_from part at.new) }
-    ensures refused { length stream.now < 4294967295 → (e : Error) → symbols_part_of (symbols_alone stream.now symbols_size) ≡ Err e → (result ≡ number_of e) × (records.new ≡ records.old) × (count.new ≡ 0) }
+    ensures refused { length stream.now < 4294967295 → (e : Error) → symbols_part_of (symbols_alone stream.now symbols_size) ≡ Err e → (result ≡ number_of e) × (at.new ≡ at.old) × (records.new ≡ records.old) × (count.new ≡ 0) }
 {
     *count = 0;
     if stream.len() >= 4294967295 {
@@ -284,8 +288,8 @@ pub extern "C" fn pdb_symbols<'a>(
     }
 }
 
-/// The symbols of the stream of global symbols from the place `at` on, as many as there is room for; `at` is then where
-/// the next is read. The first is at 0.
+/// The symbols of the stream of global symbols from the offset `at` on, as many as the buffer has rows; `at` is then
+/// where the next is read. The first is at 0.
 #[unsafe(no_mangle)]
 pub extern "C" fn pdb_global_symbols<'a>(
     alloc: Global,
@@ -294,12 +298,14 @@ pub extern "C" fn pdb_global_symbols<'a>(
     records: &mut [PdbSymbol<'a>],
     count: &mut usize,
 ) -> u32
-    ensures large { 4294967295 ≤ length stream.now → (result ≡ 32) × (records.new ≡ records.old) × (count.new ≡ 0) }
+    ensures room { count.new ≤ length records.new }
+    ensures large { 4294967295 ≤ length stream.now → (result ≡ 32) × (at.new ≡ at.old) × (records.new ≡ records.old) × (count.new ≡ 0) }
     ensures given { length stream.now < 4294967295 → Given result records.old records.new count.new (symbols_from stream.now at.old) (symbols_from stream.now at.new) }
 {
     *count = 0;
-    if stream.len() >= 4294967295 {
-        return LARGE;
+    if stream.len() < 4294967295 {
+        fill_from(alloc, stream, at, records, count)
+    } else {
+        LARGE
     }
-    fill_from(alloc, stream, at, records, count)
 }

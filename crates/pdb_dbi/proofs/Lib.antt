@@ -2,3 +2,4 @@ pub mod Prefixes
 pub mod Lists
 pub mod Rests
 pub mod NameList
+pub mod IdCodes

@@ -2,6 +2,7 @@ pub mod Machine
 pub mod Header
 pub mod Information
 pub mod Names
+pub mod Features
 pub mod Modules
 pub mod Contributions
 pub mod ExtraStreams

@@ -5,8 +5,10 @@ ghost use Rattle.pdb_base.specs.declared.error.Error.TheVariants.{UnexpectedEof}
 ghost use Rattle.pdb_base.specs.Refusal.{Answers, Gives};
 ghost use Rattle.pdb_dbi.specs.Information.{information_fields, guid_of, information_of};
 ghost use Rattle.pdb_dbi.specs.Names.{names_of};
+ghost use Rattle.pdb_dbi.specs.Features.{has_ids_of};
 ghost use Rattle.pdb_dbi.specs.DbiViews.{information};
 
+use crate::features::has_ids;
 use crate::header::HeaderVersion;
 use crate::names::{StreamNames, read_names};
 use pdb_base::little_endian::u32_at;
@@ -83,5 +85,14 @@ impl<'s> PDBInformation<'s> {
             self.names_offset,
             self.names_size,
         )
+    }
+
+    /// Whether stream 4 has ids, by the fields as they are now: one of the numbers 20091201 and 20140508 is among the
+    /// `u32` behind the map of names, as many as are whole. In the container's description they are the features.
+    /// `UnexpectedEof` where the names' part or the map isn't all there.
+    pub fn has_ids(&self) -> Result<bool>
+        ensures ids { Answers (λ b. b) result (has_ids_of (information self.now).bytes self.now.names_offset self.now.names_size) }
+    {
+        has_ids(self.stream.as_slice(), self.names_offset, self.names_size)
     }
 }

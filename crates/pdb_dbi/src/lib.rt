@@ -5,6 +5,7 @@
 mod contributions;
 mod debug_information;
 mod extra_streams;
+mod features;
 mod header;
 mod information;
 pub mod laws;

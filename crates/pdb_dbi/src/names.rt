@@ -65,7 +65,7 @@ impl<'a, 's> IntoIterator for &'a StreamNames<'s> {
 
 /// A count of words of four bytes, and then these, which are lent.
 #[tactic(auto, unfolding(crate::specs::Names::words_at))]
-fn skip_words<'b>(buffer: &mut ParseBuffer<'b>) -> Result<&'b [u8]>
+pub(crate) fn skip_words<'b>(buffer: &mut ParseBuffer<'b>) -> Result<&'b [u8]>
     ensures { Reads (λ s. s.now) buffer.old buffer.new result (words_at buffer.old.bytes buffer.old.place) (λ s. 4 + length s) }
 {
     let count = buffer.parse_u32()?;

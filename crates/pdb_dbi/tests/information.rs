@@ -170,3 +170,51 @@ fn names_come_in_the_order_of_their_pairs(rt: HostRuntime) -> Result<()> {
 fn a_file_may_name_no_stream(rt: HostRuntime) -> Result<()> {
     assert_listed(&rt, rt.alloc(), b"", &[0, 0, 0, 0], &[])
 }
+
+/// A map of one pair, in which the numbers that say so stand in each place that counts for something else.
+const MAP: [u32; 9] = [1, 9, 1, 20091201, 2, 20140508, 20091201, 0, 20140508];
+
+/// Whether an information stream with these numbers behind its map says that stream 4 has ids.
+fn says_ids(rt: &impl Abort, alloc: Global, codes: &[u32], rest: &[u8]) -> Result<bool> {
+    let mut bytes = with_names(alloc, b"ab\0", &MAP)?;
+    for code in codes {
+        bytes.extend_from_slice(&code.to_le_bytes())?;
+    }
+    bytes.extend_from_slice(rest)?;
+    PDBInformation::parse(stream(rt, &bytes))?.has_ids()
+}
+
+#[test]
+fn ids_are_said_by_the_numbers_behind_the_map(rt: HostRuntime) -> Result<()> {
+    let alloc = rt.alloc();
+    is(&rt, "none", &says_ids(&rt, alloc, &[], b"")?, &false);
+    is(
+        &rt,
+        "another",
+        &says_ids(&rt, alloc, &[0x4d544f4e], b"")?,
+        &false,
+    );
+    is(&rt, "2010", &says_ids(&rt, alloc, &[20091201], b"")?, &true);
+    is(&rt, "2014", &says_ids(&rt, alloc, &[20140508], b"")?, &true);
+    is(
+        &rt,
+        "second",
+        &says_ids(&rt, alloc, &[7, 20140508], b"\x07")?,
+        &true,
+    );
+    is(
+        &rt,
+        "cut",
+        &says_ids(&rt, alloc, &[7], b"\xdc\x51\x33")?,
+        &false,
+    );
+    Ok(())
+}
+
+#[test]
+fn ids_are_not_said_where_the_map_is_cut(rt: HostRuntime) -> Result<()> {
+    let bytes = with_names(rt.alloc(), b"ab\0", &MAP[..8])?;
+    let read = PDBInformation::parse(stream(&rt, &bytes))?;
+    is(&rt, "cut", &read.has_ids(), &Err(Error::UnexpectedEof));
+    Ok(())
+}

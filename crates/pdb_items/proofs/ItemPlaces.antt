@@ -14,7 +14,7 @@ use Rattle.pdb_base.proofs.Numbers.{length_bytes}
 use Rattle.pdb_base.proofs.Places.{bind_ok, number_is, slice_is}
 use Rattle.pdb_base.proofs.Readings.{row_inside}
 use Rattle.pdb_base.proofs.Tilings.{tiling_piece, tiling_stop}
-use Rattle.pdb_items.specs.Items.{ItemEntry, behind_length, record_at, record_length, records, numbered, item_with}
+use Rattle.pdb_items.specs.Items.{ItemEntry, behind_length, record_at, record_length, records, numbered, item_with, first_index, item_records_of, items_in, known_items_in}
 use Rattle.pdb_items.proofs.ItemLists.{records_within, guard_ok}
 
 -- the places of the records from p on
@@ -39,6 +39,14 @@ all_places b front all p e so_far =
 
 pub place_moves : (b : List ℕ) (p k : ℕ) → records.piece b p ≡ Some k → (0 < k) × (p + k ≤ length b)
 place_moves b p k e = (row_inside record_at record_length records_within).inside b p k e
+
+some_place : (front rest : List ℕ) (p : ℕ) → (front ++ p ∷ []) ++ rest ≡ [] → ⊥
+some_place [] rest p e = cc
+some_place (x ∷ xs) rest p e = cc
+
+-- where a record stands, the places are not none
+pub one_is_some : (b front : List ℕ) (p k : ℕ) → records.piece b p ≡ Some k → front ++ places_from b p ≡ [] → ⊥
+one_is_some b front p k e none = some_place front _ p (one_more_place b front [] p k e none)
 
 -- ---- what stands at the places
 
@@ -76,6 +84,24 @@ places_count b = same_count b _ _ (tiles_stand b (length b - 0) 0)
 pub place_stands : (b : List ℕ) (k : ℕ) → k < length (places_from b 0) → record_at b (get_or (places_from b 0) k 0) ≡ Ok (get_or (listing records b 0).items k [])
 unfolding listing tiling
 place_stands b k lt = stands b _ _ k (tiles_stand b (length b - 0) 0) lt
+
+-- ---- no items
+
+empty_of : (xs : List ℕ) → length xs ≡ 0 → xs ≡ []
+empty_of [] e = refl
+empty_of (x ∷ xs) e = absurd (omega (arith, e))
+
+none_numbered : (i : ℕ) (ss : List (List ℕ)) → i < 0x100000000 → numbered i ss ≡ [] → ss ≡ []
+none_numbered i [] lt e = refl
+none_numbered i (s ∷ ss) lt e = let some = rw (lt-ltb i 0x100000000 lt) at e in absurd cc
+
+-- without items before the fault there are no places
+pub no_items_no_places : (stream b : List ℕ) → item_records_of stream ≡ Ok b → first_index stream < 0x100000000 → known_items_in stream ≡ Ok [] → places_from b 0 ≡ []
+unfolding items_in known_items_in
+no_items_no_places stream b e lt none =
+    let known : ◌≡◌ {A = Result (List ItemEntry) Error} (Ok (numbered (first_index stream) (listing records b 0).items)) (Ok []) = rw e at none in
+    let items : numbered (first_index stream) (listing records b 0).items ≡ [] = cc in
+    empty_of (places_from b 0) (places_count b ∙ ap length (none_numbered (first_index stream) _ lt items))
 
 pub kept_place : (b places : List ℕ) (k : ℕ) → places ≡ places_from b 0 → k < length places → record_at b (get_or places k 0) ≡ Ok (get_or (listing records b 0).items k [])
 kept_place b places k e lt = rw e (place_stands b k (rw e at lt))

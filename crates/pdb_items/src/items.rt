@@ -74,8 +74,8 @@ impl<'t> ItemIter<'t> {
     ghost use Rattle.pdb_items.specs.Items.{item_records_of, items_in};
     ghost use Rattle.pdb_items.specs.ItemViews.{items_left, items_bytes, items_steps};
 
-    /// The items of a stream of types or ids. Where its header of 56 bytes isn't there, or the bytes of the records,
-    /// it is `UnexpectedEof`.
+    /// The items of a stream of types or ids: none of a stream of 0 bytes. `UnexpectedEof` where another stream has no
+    /// whole header of 56 bytes, or not all bytes of its records.
     #[tactic(auto, unfolding(crate::specs::Items::items_in))]
     pub fn new(stream: &'t [u8]) -> Result<Self>
         requires { length stream.now < 2 ^ 32 }

@@ -113,7 +113,9 @@ fn with_byte(mut bytes: Vec<u8>, place: usize, byte: u8) -> Vec<u8> {
 fn headers(rt: HostRuntime) -> Result<()> {
     let alloc = rt.alloc();
     let eof = Err(Error::UnexpectedEof);
-    for size in 0..56 {
+    is(&rt, "0 bytes", &count(&rt, &[]), &Ok(0));
+    is(&rt, "no item", &kind_at(&rt, alloc, &[], 0)?, &None);
+    for size in 1..56 {
         is(&rt, "short", &count(&rt, &IDS[..size]), &eof);
     }
     let finder = ItemFinder::new(alloc, &IDS[..55]).map(|_| ());

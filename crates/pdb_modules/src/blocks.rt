@@ -50,6 +50,7 @@ pub(crate) fn read_block<'a>(buffer: &mut ParseBuffer<'a>, has_columns: bool) ->
 }
 
 /// Entry `i` of a block.
+#[inline(always)]
 pub(crate) fn entry(block: Block<'_>, has_columns: bool, i: usize) -> Entry
     requires inside { i < block.count }
     requires fits { block.count * entry_width has_columns ≤ length block.body.now }

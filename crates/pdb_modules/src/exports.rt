@@ -1,6 +1,6 @@
 //! What a module exports to other modules.
 
-ghost use Rattle.std.specs.Prelude.{◌≡◌, ◌+◌, ◌++◌, [], ◌∷◌, ◌/◌, ◌≤◌, ◌<◌, ◌^◌, ℕ, map, length, Ok, None, IfOk, IfErr, IsOk, OnOk, IsTrue, ◌↔◌, option_map, ⊤};
+ghost use Rattle.std.specs.Prelude.{◌≡◌, ◌≢◌, ◌%◌, ◌+◌, ◌++◌, [], ◌∷◌, ◌/◌, ◌≤◌, ◌<◌, ◌^◌, ℕ, map, length, Ok, None, IfOk, IfErr, IsOk, OnOk, IsTrue, ◌↔◌, option_map, ⊤};
 ghost use Rattle.std.specs.List.{range_with_len};
 ghost use Rattle.pdb_base.specs.Refusal.{Gives};
 ghost use Rattle.pdb_modules.specs.CrossModule.{export_in, exports_in, global_of, Increases};
@@ -131,6 +131,7 @@ fn push_pair(pairs: &mut Vec<(u32, u32)>, local: u32, global: u32) -> Result<()>
 /// The pairs of a part whose size is a multiple of eight.
 fn read_pairs(alloc: Global, part: &[u8]) -> Result<Vec<(u32, u32)>>
     ensures pairs { IfOk result (λ pairs. pairs.items ≡ map (export_in part.now) (range_with_len 0 (length part.now / 8))) }
+    ensures lean { length part.now ≡ 0 → IfErr result (λ e. e ≢ Error.OutOfMemory) }
     ensures refused { IfErr result (λ e. e ≡ Error.OutOfMemory) }
 {
     let count = part.len() / 8;
@@ -168,7 +169,10 @@ impl CrossModuleExports {
     // The exports of a part.
     #[tactic(auto, unfolding(crate::specs::CrossModule::exports_in))]
     pub(crate) fn parse(alloc: Global, part: &[u8]) -> Result<Self>
-        ensures { Gives (λ x. x) ⊥ result (exports_in part.now) }
+        ensures exports { Gives (λ x. x) ⊥ result (exports_in part.now) }
+        // An empty part takes no memory, nor does one of a wrong size.
+        ensures lean { part.now ≡ [] → IfErr result (λ e. e ≢ Error.OutOfMemory) }
+        ensures wrong_size { length part.now % 8 ≢ 0 → IfErr result (λ e. e ≢ Error.OutOfMemory) }
     {
         if part.len() % 8 != 0 {
             return Err(Error::InvalidStreamLength(Part::CrossScopeExports));

@@ -1,6 +1,6 @@
 //! What a module imports from other modules.
 
-ghost use Rattle.std.specs.Prelude.{◌≡◌, ◌≤◌, ◌*◌, ◌++◌, [], ◌∷◌, map, length, IfOk, IfErr};
+ghost use Rattle.std.specs.Prelude.{◌≡◌, ◌≢◌, ◌≤◌, ◌*◌, ◌++◌, [], ◌∷◌, map, length, IfOk, IfErr};
 ghost use Rattle.pdb_base.specs.Cursor.{Reads};
 ghost use Rattle.pdb_base.specs.Refusal.{Answers, Gives};
 ghost use Rattle.pdb_modules.specs.CrossModule.{imported_at, imported_length, imports_in, reference_of};
@@ -79,7 +79,9 @@ fn count_modules(part: &[u8]) -> usize
 
 /// The modules of a part.
 fn read_modules<'a>(alloc: Global, part: &'a [u8]) -> Result<Vec<Imported<'a>>>
-    ensures { Gives (λ modules. map module_of modules.items) ⊥ result (imports_in part.entry.now) }
+    ensures modules { Gives (λ modules. map module_of modules.items) ⊥ result (imports_in part.entry.now) }
+    // An empty part takes no memory.
+    ensures lean { length part.entry.now ≡ 0 → IfErr result (λ e. e ≢ Error.OutOfMemory) }
 {
     let mut modules = room(alloc, count_modules(part), part)?;
     let mut buffer = ParseBuffer::from(part);
@@ -128,7 +130,9 @@ impl<'a> Imported<'a> {
 impl<'a> CrossModuleImports<'a> {
     /// The imports of a part: its modules, or the fault that stands among them.
     pub fn parse(alloc: Global, part: &'a [u8]) -> Result<Self>
-        ensures { Gives (λ x. x) ⊥ result (imports_in part.entry.now) }
+        ensures imports { Gives (λ x. x) ⊥ result (imports_in part.entry.now) }
+        // An empty part takes no memory.
+        ensures lean { part.entry.now ≡ [] → IfErr result (λ e. e ≢ Error.OutOfMemory) }
     {
         match read_modules(alloc, part) {
             Ok(modules) => Ok(CrossModuleImports { modules }),

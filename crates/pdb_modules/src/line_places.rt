@@ -1,6 +1,6 @@
 //! The line records of a module, each found where it stands.
 
-ghost use Rattle.std.specs.Prelude.{◌≡◌, map, IfOk, IfErr};
+ghost use Rattle.std.specs.Prelude.{◌≡◌, ◌≢◌, [], map, length, IfOk, IfErr};
 ghost use Rattle.pdb_modules.specs.KeptRows.{subsection_of};
 ghost use Rattle.pdb_modules.specs.LineOrder.{InOrder};
 ghost use Rattle.pdb_modules.specs.LineProgram.{listed_subsections};
@@ -41,6 +41,7 @@ impl<'a> Model for LinePlaces<'a> {
 /// These subsections, of which no rows are kept.
 fn listed_parts<'a>(alloc: Global, parts: &[LineSubsection<'a>]) -> Result<Vec<Listed<'a>>>
     ensures listed { IfOk result (λ listed. listed_subsections listed.items ≡ map subsection_of parts.now) }
+    ensures lean { length parts.now ≡ 0 → IfErr result (λ e. e ≢ Error.OutOfMemory) }
     ensures refused { IfErr result (λ e. e ≡ Error.OutOfMemory) }
 {
     let mut listed = Vec::with_capacity(alloc, parts.len())?;
@@ -57,11 +58,14 @@ impl<'a> LinePlaces<'a> {
     ghost use Rattle.pdb_modules.specs.LineOrder.{lines_for};
     ghost use Rattle.pdb_modules.specs.LineProgram.{program_of};
     ghost use Rattle.pdb_modules.specs.LineSearch.{first_covering};
+    ghost use Rattle.pdb_modules.specs.ProgramParts.{lines_listed};
 
     /// The subsections of a module's lines data.
     #[tactic(auto, unfolding(crate::specs::LineProgram::program_of))]
     pub fn parse(alloc: Global, lines_data: &'a [u8]) -> Result<LinePlaces<'a>>
-        ensures { Gives (λ p. p) ⊥ result (program_of lines_data.entry.now) }
+        ensures places { Gives (λ p. p) ⊥ result (program_of lines_data.entry.now) }
+        // It takes no memory where there is no subsection of lines.
+        ensures lean { lines_listed lines_data.entry.now ≡ [] → IfErr result (λ e. e ≢ Error.OutOfMemory) }
     {
         match ordered_parts(alloc, lines_data) {
             Ok(parts) => {
@@ -80,6 +84,7 @@ impl<'a> LinePlaces<'a> {
     ) -> Result<LinePlaces<'a>>
         requires { InOrder (map subsection_of parts.now) }
         ensures places { IfOk result (λ p. p ≡ record { subsections = map subsection_of parts.now; checksums = checksums.entry.now; bytes = lines_data.entry.now }) }
+        ensures lean { length parts.now ≡ 0 → IfErr result (λ e. e ≢ Error.OutOfMemory) }
         ensures refused { IfErr result (λ e. e ≡ Error.OutOfMemory) }
     {
         let listed = listed_parts(alloc, parts)?;

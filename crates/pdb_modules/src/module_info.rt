@@ -1,6 +1,6 @@
 //! The stream of a module.
 
-ghost use Rattle.std.specs.Prelude.{◌≡◌, ◌≢◌, ◌≤◌, ℕ, List, [], length, Some, Ok, IfOk, IfErr};
+ghost use Rattle.std.specs.Prelude.{◌≡◌, ◌≢◌, ◌≤◌, ◌%◌, ℕ, List, [], length, Some, Ok, IfOk, IfErr};
 ghost use Rattle.pdb_base.specs.Refusal.{Answers, Gives};
 ghost use Rattle.pdb_symbols.specs.Views.{symbols_left, symbols_bytes, symbols_steps};
 ghost use Rattle.pdb_modules.specs.ModuleStream.{checked_part, symbols_part_of, symbols_of, symbols_at_of, lines_data_of, line_program_of, line_subsections_of, part_of_kind, inlinees_of, inlinees_part_of, imports_of, exports_of};
@@ -165,7 +165,9 @@ impl<'s> ModuleInfo<'s> {
     /// `line_program` is.
     #[tactic(auto, unfolding(crate::specs::ModuleStream::line_program_of, crate::specs::ModuleStream::line_subsections_of))]
     pub fn line_places(&self, alloc: Global) -> Result<LinePlaces<'_>>
-        ensures { Gives (λ p. p) ⊥ result (line_program_of self.now) }
+        ensures places { Gives (λ p. p) ⊥ result (line_program_of self.now) }
+        // It takes no memory where it has no subsection of lines.
+        ensures lean { line_subsections_of self.now ≡ [] → IfErr result (λ e. e ≢ Error.OutOfMemory) }
     {
         if self.lines_size == 0 {
             return LinePlaces::parse(alloc, self.lines_data()?);
@@ -196,6 +198,8 @@ impl<'s> ModuleInfo<'s> {
         ensures imports { Gives (λ x. x) ⊥ result (imports_of self.now) }
         // It takes no memory where there is no such part.
         ensures lean { ((part : List ℕ) → part_of_kind 0xf7 self.now ≡ Ok (Some part) → ⊥) → IfErr result (λ e. e ≢ Error.OutOfMemory) }
+        // Nor where that part is empty.
+        ensures empty { part_of_kind 0xf7 self.now ≡ Ok (Some []) → IfErr result (λ e. e ≢ Error.OutOfMemory) }
     {
         match self.part_of_kind(IMPORTS)? {
             Some(part) => CrossModuleImports::parse(alloc, part),
@@ -209,8 +213,11 @@ impl<'s> ModuleInfo<'s> {
     #[tactic(auto, unfolding(crate::specs::ModuleStream::exports_of))]
     pub fn exports(&self, alloc: Global) -> Result<CrossModuleExports>
         ensures exports { Gives (λ x. x) ⊥ result (exports_of self.now) }
-        // It takes no memory where there is no such part, or its size is wrong.
+        // It takes no memory where there is no such part.
         ensures lean { ((part : List ℕ) → part_of_kind 0xf8 self.now ≡ Ok (Some part) → ⊥) → IfErr result (λ e. e ≢ Error.OutOfMemory) }
+        // Nor where that part is empty, or its size is wrong.
+        ensures empty { part_of_kind 0xf8 self.now ≡ Ok (Some []) → IfErr result (λ e. e ≢ Error.OutOfMemory) }
+        ensures wrong_size { (part : List ℕ) → part_of_kind 0xf8 self.now ≡ Ok (Some part) → length part % 8 ≢ 0 → IfErr result (λ e. e ≢ Error.OutOfMemory) }
     {
         match self.part_of_kind(EXPORTS)? {
             Some(part) => CrossModuleExports::parse(alloc, part),

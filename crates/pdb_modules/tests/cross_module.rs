@@ -292,3 +292,24 @@ fn hundreds_of_imports_are_read(rt: HostRuntime) -> Result<()> {
     }
     Ok(())
 }
+
+/// How many modules are imported from: one more than ten bits count.
+const MODULES: u32 = 1030;
+
+#[test]
+fn the_module_of_an_index_has_eleven_bits(rt: HostRuntime) -> Result<()> {
+    let alloc = rt.alloc();
+    let mut data = Vec::new(alloc);
+    data.extend_from_slice(&0xf7u32.to_le_bytes())?;
+    data.extend_from_slice(&(12 * MODULES).to_le_bytes())?;
+    for module in 0..MODULES {
+        for word in [7 * module, 1, 3 * module] {
+            data.extend_from_slice(&word.to_le_bytes())?;
+        }
+    }
+    let info = lines_info(&rt, &data)?;
+    let imports = info.imports(alloc)?;
+    refers(&rt, &imports, 0x8050_0000, Ok((7 * 5, 3 * 5)));
+    refers(&rt, &imports, 0xc050_0000, Ok((7 * 1029, 3 * 1029)));
+    Ok(())
+}

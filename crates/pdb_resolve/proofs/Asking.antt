@@ -1,6 +1,6 @@
 -- What an accessor answered, as if it weren't there where it is refused.
-use Rattle.std.proofs.Common.{◌≡◌, Result, Ok, Err, ◌⊎◌, inl, inr, false, Option, Bor, ap, ◌∙◌}
-use Rattle.std.specs.Prelude.{option_copied, IfOk, IfErr}
+use Rattle.std.proofs.Common.{◌≡◌, Result, Ok, Err, ◌⊎◌, inl, inr, false, true, ◌<◌, length, Option, Bor, ap, ◌∙◌, arith}
+use Rattle.std.specs.Prelude.{option_copied, IfOk, IfErr, OnOk}
 use Rattle.pdb.specs.Error.{Error}
 use Rattle.pdb.specs.Error.TheVariants.{IoError, OutOfMemory}
 use Rattle.pdb.specs.Refusal.{Gives, Fails}
@@ -28,6 +28,12 @@ only_fails view io r reading e h (inr same) = rw same.0 (failed view io r readin
 
 -- what was kept is what was read
 pub asked_then : {A : Type 0} (part : Part A) (r : Result (Option (Bor A)) Error) (reading : Result A Error)
-    → IfOk r (λ o. option_copied o ≡ if_read reading) → IfOk r (λ o. part.there ≡ o) → IfErr r (λ _. part.asked ≡ false) → IsAskedOf (if_read reading) part
-asked_then part (Ok o) reading is kept again = λ h. ap option_copied kept ∙ is
-asked_then part (Err e) reading is kept again = λ h. absurd cc
+    → IfOk r (λ o. option_copied o ≡ if_read reading) → IfOk r (λ o. part.there ≡ o) → OnOk r (part.asked ≡ true)
+    → IfErr r (λ _. part.asked ≡ false) → IfErr r (λ _. 0 < length part.rooms.now) → IsAskedOf (if_read reading) part
+asked_then part (Ok o) reading is kept asked again room = record { read = λ h. ap option_copied kept ∙ is; room = λ h. absurd cc }
+asked_then part (Err e) reading is kept asked again room = record { read = λ h. absurd cc; room = λ h. room }
+
+-- where nothing was kept the room is still there
+pub room_then : {A B : Type 0} (old new : Part A) (r : Result B Error) → 0 < length old.rooms.now → IfErr r (λ _. length new.rooms.now ≡ length old.rooms.now) → IfErr r (λ _. 0 < length new.rooms.now)
+room_then old new (Ok o) room same = tt
+room_then old new (Err e) room same = omega (arith, room, same)

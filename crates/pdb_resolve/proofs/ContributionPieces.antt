@@ -1,15 +1,17 @@
 -- Contributions as pieces of code, each with its number: what is found among them, and that they don't overlap.
-use Rattle.std.proofs.Common.{◌≡◌, ℕ, zero, suc, ◌+◌, ◌^◌, ◌<◌, ◌≤◌, ◌⊎◌, inl, inr, Bool, true, false, cond, List, [], ◌∷◌, ◌++◌, length, get_or, map, Option, Some, None, refl, sym, ap, ◌∙◌, append_assoc, length-append, zero-add, arith}
+use Rattle.std.proofs.Common.{◌≡◌, ℕ, zero, suc, ◌+◌, ◌^◌, ◌<◌, ◌≤◌, ◌⊎◌, ◌==◌, inl, inr, Bool, true, false, cond, List, [], ◌∷◌, ◌++◌, length, get_or, map, Option, Some, None, refl, sym, ap, ◌∙◌, append_assoc, length-append, zero-add, arith}
 use Rattle.std.specs.Prelude.{find}
 use Rattle.std.specs.Option.{option_map}
+use Rattle.std.proofs.lemmas.Bool.{ne_eqb}
 use Rattle.std.proofs.lemmas.List.{length-map}
 use Rattle.pdb.specs.PdbInternalSectionOffset.{PdbInternalSectionOffset}
 use Rattle.pdb.specs.DBISectionContribution.{DBISectionContribution}
 use Rattle.pdb_resolve.specs.declared.range.CodeRange.{CodeRange}
 use Rattle.pdb_resolve.specs.RangeOrder.{InOrder}
-use Rattle.pdb_resolve.specs.ModuleCode.{Code, code_covers, index_of, SameCode, ApartCode, AreCodesApart}
-use Rattle.pdb_resolve.specs.Kept.{range_parts, code_parts}
-use Rattle.pdb_resolve.specs.ModulePlaces.{contributes, module_of, module_among, SameBytes, NoCommonByte, AreContributionsApart}
+use Rattle.pdb_resolve.specs.ModuleCode.{Code, code_covers, covers_place, index_of, SameCode, ApartCode, AreCodesApart}
+use Rattle.pdb_resolve.specs.Kept.{range_parts, code_parts, AreRangesOf}
+use Rattle.pdb_resolve.specs.Covering.{covers}
+use Rattle.pdb_resolve.specs.ModulePlaces.{contributes, none_listed, reaches_by, module_of, module_among, SameBytes, NoCommonByte, AreContributionsApart}
 use Rattle.pdb_resolve.specs.ModuleTable.{piece, pieces_from, IsTableOf}
 use Rattle.pdb_resolve.proofs.Pieces.{looks_halved}
 
@@ -84,6 +86,61 @@ some_among q n (c ∷ cs) k e = by_head (contributes q c) refl e (some_among q (
           there = omega (arith, found.there);
           finds = ap (λ (b : Bool). option_map module_of (cond b (Some c) (find (contributes q) cs))) is ∙ found.finds;
         }
+
+-- ---- whether the contribution that is found has another place
+
+abbrev parts_cover : PdbInternalSectionOffset → Parts → Bool
+parts_cover q p = covers_place q p.1.0 p.1.1
+
+-- the range of this number covers the place where the contribution has it
+pub record IsReached (p q : PdbInternalSectionOffset) (n : ℕ) (cs : List DBISectionContribution) (rs : List CodeRange) (k : ℕ) : Type 0 where
+  pub place : ℕ
+  pub number : k ≡ n + place
+  pub there : place < length rs
+  pub is : (none : Bool) (d : CodeRange) → covers q (get_or rs place d) ≡ reaches_by none q (find (contributes p) cs)
+
+pub reached : (p q : PdbInternalSectionOffset) (n : ℕ) (cs : List DBISectionContribution) (rs : List CodeRange) (k : ℕ) → AreRangesOf (pieces_from n cs) rs → number_found p n cs ≡ Some k → IsReached p q n cs rs k
+reached p q n [] rs k a e = absurd cc
+reached p q n (c ∷ cs) [] k a e = absurd cc
+reached p q n (c ∷ cs) (r ∷ rs) k a e =
+    let head : range_parts r ≡ code_parts (piece n c) = cc in
+    let tail : AreRangesOf (pieces_from (n + 1) cs) rs = cc in
+    by_head (contributes p c) refl e head (reached p q (n + 1) cs rs k tail)
+  where
+    by_head : (b : Bool) → contributes p c ≡ b → option_map index_of (cond b (Some (piece n c)) (find (code_covers p) (pieces_from (n + 1) cs))) ≡ Some k → range_parts r ≡ code_parts (piece n c)
+        → (number_found p (n + 1) cs ≡ Some k → IsReached p q (n + 1) cs rs k) → IsReached p q n (c ∷ cs) (r ∷ rs) k
+    by_head true is f head rest =
+        let same : n ≡ k = cc in
+        record {
+          place = 0;
+          number = omega (arith, same);
+          there = omega arith;
+          is = λ none d. ap (parts_cover q) head ∙ sym (ap (λ (b : Bool). reaches_by none q (cond b (Some c) (find (contributes p) cs))) is);
+        }
+    by_head false is f head rest =
+        let found = rest f in
+        record {
+          place = suc found.place;
+          number = omega (arith, found.number);
+          there = omega (arith, found.there);
+          is = λ none d. found.is none d ∙ sym (ap (λ (b : Bool). reaches_by none q (cond b (Some c) (find (contributes p) cs))) is);
+        }
+
+pub not_reached : (p q : PdbInternalSectionOffset) (n : ℕ) (none : Bool) (cs : List DBISectionContribution) → number_found p n cs ≡ None → reaches_by none q (find (contributes p) cs) ≡ none
+not_reached p q n none [] e = refl
+not_reached p q n none (c ∷ cs) e = by_head (contributes p c) refl e (not_reached p q (n + 1) none cs)
+  where
+    by_head : (b : Bool) → contributes p c ≡ b → option_map index_of (cond b (Some (piece n c)) (find (code_covers p) (pieces_from (n + 1) cs))) ≡ None
+        → (number_found p (n + 1) cs ≡ None → reaches_by none q (find (contributes p) cs) ≡ none) → reaches_by none q (find (contributes p) (c ∷ cs)) ≡ none
+    by_head true is f rest = absurd cc
+    by_head false is f rest = ap (λ (b : Bool). reaches_by none q (cond b (Some c) (find (contributes p) cs))) is ∙ rest f
+
+-- as many ranges as contributions
+pub none_kept : (n : ℕ) (cs : List DBISectionContribution) (rs : List CodeRange) → AreRangesOf (pieces_from n cs) rs → none_listed cs ≡ (length rs == 0)
+none_kept n [] [] a = refl
+none_kept n [] (r ∷ rs) a = absurd cc
+none_kept n (c ∷ cs) [] a = absurd cc
+none_kept n (c ∷ cs) (r ∷ rs) a = sym (ne_eqb (suc (length rs)) 0 (λ same. absurd (omega arith)))
 
 -- ---- pieces that don't overlap
 

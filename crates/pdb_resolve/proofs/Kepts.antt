@@ -1,6 +1,6 @@
 -- What is kept of a file.
-use Rattle.std.proofs.Common.{◌≡◌, ℕ, zero, suc, ◌∷◌, inl, inr, subst, ◌<◌, ◌≤◌, List, Option, Some, None, Box, Bor, false, ap, sym, ◌∙◌, refl, map, length, replicate, slice_set, slice_index_or, arith}
-use Rattle.std.specs.Prelude.{slice_get, option_copied, Result, Ok, Err, OnOk, IfOk, IfErr}
+use Rattle.std.proofs.Common.{◌≡◌, ℕ, zero, suc, [], ◌∷◌, inl, inr, subst, ◌<◌, ◌≤◌, ◌+◌, List, Option, Some, None, Box, Bor, false, ap, sym, ◌∙◌, refl, map, length, replicate, slice_set, slice_index_or, arith}
+use Rattle.std.specs.Prelude.{slice_get, option_copied, Result, Ok, Err, OnOk, OnErr, IfOk, IfErr}
 use Rattle.pdb.specs.Error.{Error}
 use Rattle.pdb.specs.Error.TheVariants.{OutOfMemory}
 use Rattle.std.specs.Option.{is_some}
@@ -13,7 +13,7 @@ use Rattle.pdb.specs.Answers.{module_info_in}
 use Rattle.pdb_resolve.specs.AsIfEmpty.{if_found}
 use Rattle.pdb_resolve.specs.declared.modules.Modules.{Modules}
 use Rattle.pdb_resolve.specs.FileParts.{modules_listed, module_read, module_numbered}
-use Rattle.pdb_resolve.specs.KeptParts.{boxed, codes_of, code_kept, streams_of, AreRead, AreModulesOf}
+use Rattle.pdb_resolve.specs.KeptParts.{boxed, codes_of, code_kept, streams_of, unkept, rooms_left, AreRead, AreModulesOf}
 
 pub code_set : (xs : List (Option (Box ModuleBytes Global))) (k : ℕ) (b : Box ModuleBytes Global) (m : ModuleBytes) → b.value ≡ m → map boxed (slice_set xs k (Some b)) ≡ slice_set (map boxed xs) k (Some m)
 code_set xs k b m e = map-set boxed xs k (Some b) ∙ ap (λ (x : ModuleBytes). slice_set (map boxed xs) k (Some x)) e
@@ -23,6 +23,12 @@ code_at xs k d h = get_or-map boxed xs k d None h
 
 pub code_past : (xs : List (Option (Box ModuleBytes Global))) (k : ℕ) → length xs ≤ k → slice_index_or (map boxed xs) k None ≡ None
 code_past xs k h = let n = length-map xs boxed in get_or_past (map boxed xs) k None (omega arith)
+
+-- a module's code that says the same is the same module
+pub code_stays : (xs : List (Option (Box ModuleBytes Global))) (k : ℕ) (b c : Box ModuleBytes Global) (d : Option (Box ModuleBytes Global)) → slice_index_or xs k d ≡ Some c → b.value ≡ c.value → map boxed (slice_set xs k (Some b)) ≡ map boxed xs
+code_stays [] k b c d e f = refl
+code_stays (x ∷ xs) zero b c d e f = ap (λ (o : Option ModuleBytes). o ∷ map boxed xs) (ap Some f ∙ sym (ap boxed e))
+code_stays (x ∷ xs) (suc k) b c d e f = ap (λ (l : List (Option ModuleBytes)). boxed x ∷ l) (code_stays xs k b c d e f)
 
 module _ (file : List ℕ) (ms : Modules) (are : AreModulesOf file ms) (k : ℕ) where
   by_list : slice_get (modules_listed file) k ≡ slice_get ms.listed.items k
@@ -62,11 +68,39 @@ still_read : {U : Type 0} (file : List ℕ) (xs ys : List (Option ModuleBytes)) 
 still_read file xs ys k m (Ok u) kept refused is are = record { read = read_set file xs ys k m kept.0 kept.1 is are; size = ap length kept.1 ∙ length-set xs k (Some m) }
 still_read file xs ys k m (Err e) kept refused is are = record { read = subst (AreRead file) (sym refused.1) are; size = ap length refused.1 }
 
+-- one stream more, and one room fewer
+unkept_set : (xs : List (Option ModuleBytes)) (k : ℕ) (m : ModuleBytes) → k < length xs → slice_index_or xs k None ≡ None → unkept xs ≡ unkept (slice_set xs k (Some m)) + 1
+unkept_set [] k m there none = absurd (omega (arith, there))
+unkept_set (None ∷ xs) zero m there none = refl
+unkept_set (Some n ∷ xs) zero m there none = absurd cc
+unkept_set (None ∷ xs) (suc k) m there none = let fewer = unkept_set xs k m (omega (arith, there)) none in omega (arith, fewer)
+unkept_set (Some n ∷ xs) (suc k) m there none = unkept_set xs k m (omega (arith, there)) none
+
+rooms_then : {U : Type 0} (xs ys : List (Option ModuleBytes)) (left more : ℕ) (k : ℕ) (m : ModuleBytes) (r : Result U Error)
+    → OnOk r ((k < length xs) × (ys ≡ slice_set xs k (Some m))) → IfErr r (λ e. (e ≡ OutOfMemory) × (ys ≡ xs)) → OnOk r (left ≡ more + 1) → OnErr r (more ≡ left)
+    → slice_index_or xs k None ≡ None → unkept xs ≤ left → unkept ys ≤ more
+rooms_then xs ys left more k m (Ok u) kept refused taken untaken none room =
+    let fewer = unkept_set xs k m kept.0 none in
+    let same = ap unkept kept.1 in
+    omega (arith, fewer, same, taken, room)
+rooms_then xs ys left more k m (Err e) kept refused taken untaken none room =
+    let same = ap unkept refused.1 in
+    omega (arith, same, untaken, room)
+
+-- where none was put down each wants a room
+pub none_unkept : (cs : List (Option ModuleBytes)) (n : ℕ) → cs ≡ replicate n None → unkept cs ≡ n
+none_unkept cs n e = ap unkept e ∙ all_unkept n
+  where
+    all_unkept : (n : ℕ) → unkept (replicate n None) ≡ n
+    all_unkept zero = refl
+    all_unkept (suc n) = let all = all_unkept n in omega (arith, all)
+
 module _ (file : List ℕ) (ms : Modules) (are : AreModulesOf file ms) (k : ℕ) (new : Modules) (info : ModuleBytes) (same : new.listed ≡ ms.listed) where
   pub put_then : {U : Type 0} (r : Result U Error) → codes_of new ≡ codes_of ms
+      → OnOk r (rooms_left ms ≡ rooms_left new + 1) → OnErr r (rooms_left new ≡ rooms_left ms) → slice_index_or (streams_of ms) k None ≡ None
       → OnOk r ((k < length (streams_of ms)) × (streams_of new ≡ slice_set (streams_of ms) k (Some info))) → IfErr r (λ e. (e ≡ OutOfMemory) × (streams_of new ≡ streams_of ms))
       → module_numbered file k ≡ Some info → AreModulesOf file new
-  put_then r codes kept refused is =
+  put_then r codes taken untaken none kept refused is =
       let still = still_read file (streams_of ms) (streams_of new) k info r kept refused is are.streams in
       record {
         listed = ap (λ l. l.items) same ∙ are.listed;
@@ -74,12 +108,13 @@ module _ (file : List ℕ) (ms : Modules) (are : AreModulesOf file ms) (k : ℕ)
         streams = still.read;
         as_many = ap length codes ∙ (are.as_many ∙ ap (λ l. length l.items) (sym same));
         as_many_streams = still.size ∙ (are.as_many_streams ∙ ap (λ l. length l.items) (sym same));
+        rooms = rooms_then (streams_of ms) (streams_of new) (rooms_left ms) (rooms_left new) k info r kept refused taken untaken none are.rooms;
       }
 
-  pub kept_then : {U : Type 0} (r : Result U Error) → streams_of new ≡ streams_of ms
+  pub kept_then : {U : Type 0} (r : Result U Error) → streams_of new ≡ streams_of ms → rooms_left new ≡ rooms_left ms
       → OnOk r ((k < length (codes_of ms)) × (codes_of new ≡ slice_set (codes_of ms) k (Some info))) → IfErr r (λ e. (e ≡ OutOfMemory) × (codes_of new ≡ codes_of ms))
       → module_numbered file k ≡ Some info → AreModulesOf file new
-  kept_then r streams kept refused is =
+  kept_then r streams rooms kept refused is =
       let still = still_read file (codes_of ms) (codes_of new) k info r kept refused is are.codes in
       record {
         listed = ap (λ l. l.items) same ∙ are.listed;
@@ -87,6 +122,7 @@ module _ (file : List ℕ) (ms : Modules) (are : AreModulesOf file ms) (k : ℕ)
         streams = subst (AreRead file) (sym streams) are.streams;
         as_many = still.size ∙ (are.as_many ∙ ap (λ l. length l.items) (sym same));
         as_many_streams = ap length streams ∙ (are.as_many_streams ∙ ap (λ l. length l.items) (sym same));
+        rooms = let less = ap unkept streams in let room = are.rooms in omega (arith, less, rooms, room);
       }
 
 pub code_then : {U : Type 0} (ms new : Modules) (k : ℕ) (info : ModuleBytes) (r : Result U Error) → OnOk r ((k < length (codes_of ms)) × (codes_of new ≡ slice_set (codes_of ms) k (Some info))) → IfOk r (λ _. code_kept new k ≡ Some info)

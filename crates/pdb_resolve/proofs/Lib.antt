@@ -7,6 +7,8 @@ pub mod Pieces
 pub mod Scopes
 pub mod Asking
 pub mod Kepts
+pub mod FoundProcedures
+pub mod Extents
 pub mod SiteCalls
 pub mod Keyed
 pub mod TablePairs

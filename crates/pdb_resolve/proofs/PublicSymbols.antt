@@ -10,8 +10,8 @@ use Rattle.pdb.specs.Data.Data.{Public}
 use Rattle.pdb.specs.Forms.{record_at}
 use Rattle.pdb.specs.SymbolList.{Entry, symbols_from}
 use Rattle.pdb_symbols.proofs.SymbolLaws.{resumes_at}
-use Rattle.pdb_resolve.specs.PublicNames.{PublicAt, public_said, public_of, public_name, publics_among, publics_in, public_before, public_name_at}
-use Rattle.pdb_resolve.specs.PublicTable.{public_index, head_name, IndicesRise}
+use Rattle.pdb_resolve.specs.PublicNames.{PublicAt, public_said, public_of, named_place, publics_among, publics_in, public_before, public_at}
+use Rattle.pdb_resolve.specs.PublicTable.{public_index, head_public, IndicesRise}
 use Rattle.pdb_resolve.proofs.Nearest.{nearest_found}
 use Rattle.pdb_resolve.proofs.Scopes.{Above, Rises, symbols_rise}
 
@@ -50,21 +50,21 @@ stands (s ∷ ss) k p l is = by (public_of s) refl k l is (λ j m e. stands ss j
     by (Some r) e zero l is rest = record { before = []; symbol = s; after = ss; whole = refl; says = e ∙ ap Some is }
     by (Some r) e (suc k) l is rest = further s ss p (rest k (omega (arith, l)) is)
 
--- the name of the one that is found is that of the symbol at its index
-pub name_of_index : (q : PdbInternalSectionOffset) (b : List ℕ) (index : ℕ) → option_map public_index (public_before q (publics_in (Some b))) ≡ Some index → head_name (symbols_from b index).items ≡ public_name_at q (Some b)
+-- the one that is found is the symbol at its index
+pub public_of_index : (q : PdbInternalSectionOffset) (b : List ℕ) (index : ℕ) → option_map public_index (public_before q (publics_in (Some b))) ≡ Some index → head_public (symbols_from b index).items ≡ public_at q (Some b)
 unfolding publics_in
-name_of_index q b index e = by (public_before q (publics_among (symbols_from b 0).items)) refl e
+public_of_index q b index e = by (public_before q (publics_among (symbols_from b 0).items)) refl e
   where
-    by : (o : Option PublicAt) → public_before q (publics_among (symbols_from b 0).items) ≡ o → option_map public_index o ≡ Some index → head_name (symbols_from b index).items ≡ option_map public_name (public_before q (publics_among (symbols_from b 0).items))
+    by : (o : Option PublicAt) → public_before q (publics_among (symbols_from b 0).items) ≡ o → option_map public_index o ≡ Some index → head_public (symbols_from b index).items ≡ option_map named_place (public_before q (publics_among (symbols_from b 0).items))
     by None f e = absurd cc
     by (Some p) f e =
         let found = nearest_found q (publics_among (symbols_from b 0).items) p f in
         let at = stands (symbols_from b 0).items found.0 p found.1.there found.1.is in
         let same : p.index ≡ index = cc in
         let number : index ≡ at.symbol.index = sym same ∙ index_is at.symbol p at.says in
-        ap (λ (i : ℕ). head_name (symbols_from b i).items) number
-        ∙ (ap (λ (l : Left Entry). head_name l.items) (resumes_at b 0 at.before at.after at.symbol at.whole)
-        ∙ (ap (option_map public_name) at.says ∙ sym (ap (option_map public_name) f)))
+        ap (λ (i : ℕ). head_public (symbols_from b i).items) number
+        ∙ (ap (λ (l : Left Entry). head_public l.items) (resumes_at b 0 at.before at.after at.symbol at.whole)
+        ∙ (ap (option_map named_place) at.says ∙ sym (ap (option_map named_place) f)))
 
 -- ---- the indices rise
 

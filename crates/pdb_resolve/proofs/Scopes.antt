@@ -14,8 +14,8 @@ use Rattle.pdb.specs.SymbolList.{Entry, symbols_from}
 use Rattle.pdb_symbols.proofs.SymbolLaws.{spaced}
 use Rattle.pdb_resolve.specs.ModuleCode.{Code, Role, role, procedure_of_role, procedure_of, code_covers, index_of, Call, call_of_role, between, call_in}
 use Rattle.pdb_resolve.specs.ModuleCode.Role.{at_procedure, at_other, at_site, passed}
-use Rattle.pdb.specs.Views.{symbol_of}
-use Rattle.pdb_symbols.specs.declared.symbol.Symbol.{Symbol}
+use Rattle.pdb_resolve.specs.declared.site.KeptSite.{KeptSite}
+use Rattle.pdb_resolve.specs.Listed.{entry_of}
 use Rattle.pdb_resolve.specs.Kept.{calls_until, site_if, site_of, place_of, AreRising, IsBehind}
 
 -- ---- indices rise
@@ -166,15 +166,15 @@ module _ (q : PdbInternalSectionOffset) (listed : ℕ → Option InlineeEntry) (
   enough (t ∷ ts) = enough_by t ts (role (record_at t.bytes)) refl (enough ts)
 
   -- of symbols whose indices rise, the calls are those of the ones behind the procedure
-  pub behind_calls : (ss : List Symbol) (n : ℕ) → Rises (map symbol_of ss) → IsBehind c.index ss n
-      → filter_map (call_in q listed c) (map symbol_of ss) ≡ calls_until q listed c.place c.end (map symbol_of (drop n ss))
+  pub behind_calls : (ss : List KeptSite) (n : ℕ) → Rises (map entry_of ss) → IsBehind c.index ss n
+      → filter_map (call_in q listed c) (map entry_of ss) ≡ calls_until q listed c.place c.end (map entry_of (drop n ss))
   behind_calls [] zero r h = refl
   behind_calls [] (suc n) r h = let i = h.inside in absurd (omega arith)
   behind_calls (s ∷ ss) zero r h =
       let b = h.behind 0 s (omega arith) (omega arith) in
-      until (symbol_of s ∷ map symbol_of ss) (b, above_more c.index (symbol_of s).index (map symbol_of ss) (omega arith) r.0) r
+      until (entry_of s ∷ map entry_of ss) (b, above_more c.index (entry_of s).index (map entry_of ss) (omega arith) r.0) r
   behind_calls (s ∷ ss) (suc n) r h =
-      none_more (symbol_of s) (map symbol_of ss) (not_behind (symbol_of s) (h.upto 0 s (omega arith))) ∙ behind_calls ss n r.1 (later h)
+      none_more (entry_of s) (map entry_of ss) (not_behind (entry_of s) (h.upto 0 s (omega arith))) ∙ behind_calls ss n r.1 (later h)
     where
       later : IsBehind c.index (s ∷ ss) (suc n) → IsBehind c.index ss n
       later h = record {
@@ -185,34 +185,34 @@ module _ (q : PdbInternalSectionOffset) (listed : ℕ → Option InlineeEntry) (
 
 -- ---- one more symbol
 
-sites_more : (o : Option Entry) (ts : List Entry) → cons_option o ts ≡ option_to_list o ++ ts
-sites_more None ts = refl
-sites_more (Some t) ts = refl
+options_more : {A : Type 0} (o : Option A) (ts : List A) → cons_option o ts ≡ option_to_list o ++ ts
+options_more None ts = refl
+options_more (Some t) ts = refl
 
-pub one_more_site : (s : Entry) (old new : List Entry) (rs ss : List Symbol) (all : List Entry)
-    → old ≡ s ∷ new → map symbol_of ss ≡ map symbol_of rs ++ option_to_list (site_of s)
-    → map symbol_of rs ++ filter_map site_of old ≡ all
-    → map symbol_of ss ++ filter_map site_of new ≡ all
-one_more_site s old new rs ss all follows added before =
-    ap (λ (l : List Entry). l ++ filter_map site_of new) added
-    ∙ (append_assoc (map symbol_of rs) (option_to_list (site_of s)) (filter_map site_of new)
-    ∙ (ap (λ (l : List Entry). map symbol_of rs ++ l) (sym (sites_more (site_of s) (filter_map site_of new)))
-    ∙ (ap (λ (l : List Entry). map symbol_of rs ++ filter_map site_of l) (sym follows)
+pub one_more_shown : {X A : Type 0} (f : X → A) (of : Entry → Option A) (s : Entry) (old new : List Entry) (rs ss : List X) (all : List A)
+    → old ≡ s ∷ new → map f ss ≡ map f rs ++ option_to_list (of s)
+    → map f rs ++ filter_map of old ≡ all
+    → map f ss ++ filter_map of new ≡ all
+one_more_shown f of s old new rs ss all follows added before =
+    ap (λ l. l ++ filter_map of new) added
+    ∙ (append_assoc (map f rs) (option_to_list (of s)) (filter_map of new)
+    ∙ (ap (λ l. map f rs ++ l) (sym (options_more (of s) (filter_map of new)))
+    ∙ (ap (λ (l : List Entry). map f rs ++ filter_map of l) (sym follows)
     ∙ before)))
 
 -- ---- one more site
 
-pub one_more_call : (q : PdbInternalSectionOffset) (listed : ℕ → Option InlineeEntry) (parent : PdbInternalSectionOffset) (end : ℕ) (sites : List Symbol) (i : ℕ) (s : Symbol) (old new all : List Call)
-    → i < length sites → get_or sites i s ≡ s → (symbol_of s).index < end
-    → new ≡ old ++ option_to_list (call_of_role q listed parent (role (record_at (symbol_of s).bytes)))
-    → old ++ calls_until q listed parent end (map symbol_of (drop i sites)) ≡ all
-    → new ++ calls_until q listed parent end (map symbol_of (drop (i + 1) sites)) ≡ all
+pub one_more_call : (q : PdbInternalSectionOffset) (listed : ℕ → Option InlineeEntry) (parent : PdbInternalSectionOffset) (end : ℕ) (sites : List KeptSite) (i : ℕ) (s : KeptSite) (old new all : List Call)
+    → i < length sites → get_or sites i s ≡ s → (entry_of s).index < end
+    → new ≡ old ++ option_to_list (call_of_role q listed parent (role (record_at (entry_of s).bytes)))
+    → old ++ calls_until q listed parent end (map entry_of (drop i sites)) ≡ all
+    → new ++ calls_until q listed parent end (map entry_of (drop (i + 1) sites)) ≡ all
 one_more_call q listed parent end sites i s old new all l same below added before =
-    let call = option_to_list (call_of_role q listed parent (role (record_at (symbol_of s).bytes))) in
-    let rest = calls_until q listed parent end (map symbol_of (drop (i + 1) sites)) in
-    let head : drop i sites ≡ s ∷ drop (i + 1) sites = drop_more sites i s l ∙ ap (λ (x : Symbol). x ∷ drop (i + 1) sites) same in
-    let turn : calls_until q listed parent end (map symbol_of (drop i sites)) ≡ call ++ rest =
-    ap (λ (ss : List Symbol). calls_until q listed parent end (map symbol_of ss)) head ∙ ap (λ (b : Bool). cond b (call ++ rest) []) (lt-ltb (symbol_of s).index end below) in
+    let call = option_to_list (call_of_role q listed parent (role (record_at (entry_of s).bytes))) in
+    let rest = calls_until q listed parent end (map entry_of (drop (i + 1) sites)) in
+    let head : drop i sites ≡ s ∷ drop (i + 1) sites = drop_more sites i s l ∙ ap (λ (x : KeptSite). x ∷ drop (i + 1) sites) same in
+    let turn : calls_until q listed parent end (map entry_of (drop i sites)) ≡ call ++ rest =
+    ap (λ (ss : List KeptSite). calls_until q listed parent end (map entry_of ss)) head ∙ ap (λ (b : Bool). cond b (call ++ rest) []) (lt-ltb (entry_of s).index end below) in
     ap (λ (l : List Call). l ++ rest) added ∙ (append_assoc old call rest ∙ (ap (λ (l : List Call). old ++ l) (sym turn) ∙ before))
 
 -- ---- the indices of sites rise
@@ -237,21 +237,51 @@ pub rises_sites : (ts : List Entry) → Rises ts → Rises (filter_map site_of t
 rises_sites [] r = tt
 rises_sites (t ∷ ts) r = rises_by t ts (role (record_at t.bytes)) (above_sites t.index ts r.0) (rises_sites ts r.1)
 
-above_there : (n : ℕ) (ss : List Symbol) (j : ℕ) (d : Symbol) → Above n (map symbol_of ss) → j < length ss → n < place_of (get_or ss j d)
+above_there : (n : ℕ) (ss : List KeptSite) (j : ℕ) (d : KeptSite) → Above n (map entry_of ss) → j < length ss → n < place_of (get_or ss j d)
 above_there n [] j d a l = absurd (omega arith)
 above_there n (s ∷ ss) zero d a l = a.0
 above_there n (s ∷ ss) (suc j) d a l = above_there n ss j d a.1 (omega arith)
 
-pub rising : (ss : List Symbol) → Rises (map symbol_of ss) → AreRising ss
+pub rising : (ss : List KeptSite) → Rises (map entry_of ss) → AreRising ss
 rising [] r i j d m l = absurd (omega arith)
 rising (s ∷ ss) r zero zero d m l = omega arith
 rising (s ∷ ss) r zero (suc j) d m l = let a = above_there (place_of s) ss j d r.0 (omega arith) in omega arith
 rising (s ∷ ss) r (suc i) zero d m l = absurd (omega arith)
 rising (s ∷ ss) r (suc i) (suc j) d m l = rising ss r.1 i j d (omega arith) (omega arith)
 
+-- ---- the procedures rise, and so one that is found is the first of its index
+
+abbrev pub AboveCode : ℕ → List Code → Type 0
+AboveCode n [] = Unit {0}
+AboveCode n (c ∷ cs) = (n < c.index) × AboveCode n cs
+
+abbrev pub CodesRise : List Code → Type 0
+CodesRise [] = Unit {0}
+CodesRise (c ∷ cs) = AboveCode c.index cs × CodesRise cs
+
+above_code : (n : ℕ) (t : Entry) (ts : List Entry) (h : Role) → n < t.index → AboveCode n (filter_map procedure_of ts) → AboveCode n (cons_option (procedure_of_role t.index h) (filter_map procedure_of ts))
+above_code n t ts (at_site id annotations) l rest = rest
+above_code n t ts (at_procedure place size end) l rest = (l, rest)
+above_code n t ts (at_other place size end) l rest = rest
+above_code n t ts passed l rest = rest
+
+above_codes : (n : ℕ) (ts : List Entry) → Above n ts → AboveCode n (filter_map procedure_of ts)
+above_codes n [] a = tt
+above_codes n (t ∷ ts) a = above_code n t ts (role (record_at t.bytes)) a.0 (above_codes n ts a.1)
+
+codes_by : (t : Entry) (ts : List Entry) (h : Role) → AboveCode t.index (filter_map procedure_of ts) → CodesRise (filter_map procedure_of ts) → CodesRise (cons_option (procedure_of_role t.index h) (filter_map procedure_of ts))
+codes_by t ts (at_site id annotations) a r = r
+codes_by t ts (at_procedure place size end) a r = (a, r)
+codes_by t ts (at_other place size end) a r = r
+codes_by t ts passed a r = r
+
+pub codes_rise : (ts : List Entry) → Rises ts → CodesRise (filter_map procedure_of ts)
+codes_rise [] r = tt
+codes_rise (t ∷ ts) r = codes_by t ts (role (record_at t.bytes)) (above_codes t.index ts r.0) (codes_rise ts r.1)
+
 -- ---- those at or before an index
 
-pub upto_point : (ss : List Symbol) (index n : ℕ) → AreRising ss → n ≤ length ss
+pub upto_point : (ss : List KeptSite) (index n : ℕ) → AreRising ss → n ≤ length ss
     → (IsPartitionedBy (λ s. leb (place_of s) index) ss → IsPartitionPoint (λ s. leb (place_of s) index ≡ true) (λ s. leb (place_of s) index ≡ false) ss n)
     → IsBehind index ss n
 upto_point ss index n up inside by_point =

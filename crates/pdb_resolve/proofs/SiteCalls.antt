@@ -11,14 +11,14 @@ use Rattle.pdb.specs.ModuleStream.{ModuleBytes, symbols_at_of, symbols_part_of}
 use Rattle.pdb.specs.SymbolList.{Entry, symbols_from}
 use Rattle.pdb_symbols.proofs.SymbolLaws.{resumes_at}
 use Rattle.pdb.specs.Forms.{record_at}
-use Rattle.pdb_resolve.specs.ModuleCode.{Code, Role, role, other_of_role, symbols_in, inlinees_in, procedure_of, other_of, code_covers, procedure_at, other_at, function_at, index_of, call_in, calls_in, inlined_at, says_if, says_at}
+use Rattle.pdb_resolve.specs.ModuleCode.{Code, Role, role, other_of_role, symbols_in, inlinees_in, procedure_of, other_of, procedures_in, code_covers, procedure_at, other_at, function_at, index_of, call_in, calls_in, inlined_at, says_if, says_at}
 use Rattle.pdb.specs.Inlinees.{inlinee_with}
 use Rattle.pdb_resolve.specs.ModuleCode.Role.{at_procedure, at_other, at_site, passed}
 use Rattle.pdb_resolve.specs.AsIfEmpty.{items_of}
-use Rattle.pdb.specs.Views.{symbol_of}
-use Rattle.pdb_symbols.specs.declared.symbol.Symbol.{Symbol}
-use Rattle.pdb_resolve.specs.Kept.{calls_among, calls_behind, sites_in, AreRising, IsBehind, IsListed, head_says}
-use Rattle.pdb_resolve.proofs.Scopes.{Stands, stands, enough, behind_calls, rises_sites, rising, symbols_rise, Above, Rises, is_procedure}
+use Rattle.pdb_resolve.specs.declared.site.KeptSite.{KeptSite}
+use Rattle.pdb_resolve.specs.Listed.{entry_of}
+use Rattle.pdb_resolve.specs.Kept.{calls_until, sites_in, AreRising, IsBehind, IsListed, head_says}
+use Rattle.pdb_resolve.proofs.Scopes.{Stands, stands, enough, behind_calls, rises_sites, rising, symbols_rise, Above, Rises, CodesRise, codes_rise, is_procedure}
 
 pub on_ok : {X E : Type 0} (P Q : X → Type 0) → ((x : X) → P x → Q x) → (r : Result X E) → IfOk r P → IfOk r Q
 on_ok P Q h (Ok x) p = h x p
@@ -42,27 +42,10 @@ at_none : (m : ModuleBytes) (index : ℕ) (e : Error) → symbols_part_of m ≡ 
 unfolding symbols_at_of
 at_none m index e f = ap (λ (r : Result (List ℕ) Error). r >>= λ part. Ok (symbols_from part index)) f
 
-no_procedure : (q : PdbInternalSectionOffset) (m : ModuleBytes) → symbols_in m ≡ [] → procedure_at q m ≡ None
-no_procedure q m e = ap (λ (ss : List Entry). find (code_covers q) (filter_map procedure_of ss)) e
+-- ---- where no procedure is found
 
-no_calls : (q : PdbInternalSectionOffset) (m : ModuleBytes) → procedure_at q m ≡ None → inlined_at q m ≡ []
+pub no_calls : (q : PdbInternalSectionOffset) (m : ModuleBytes) → procedure_at q m ≡ None → inlined_at q m ≡ []
 no_calls q m e = ap (calls_in q (inlinee_with (inlinees_in m)) (symbols_in m)) e
-
--- ---- where no procedure is found, or no symbols are read
-
-pub without_procedure : (q : PdbInternalSectionOffset) (m : ModuleBytes) → option_map index_of (procedure_at q m) ≡ None → inlined_at q m ≡ []
-without_procedure q m e = no_calls q m (none_of (procedure_at q m) e)
-  where
-    none_of : (o : Option Code) → option_map index_of o ≡ None → o ≡ None
-    none_of None e = refl
-    none_of (Some c) e = absurd cc
-
-without_part : (q : PdbInternalSectionOffset) (m : ModuleBytes) (index : ℕ) (e : Error) (r : Result (List ℕ) Error) → symbols_part_of m ≡ r → symbols_at_of index m ≡ Err e → inlined_at q m ≡ []
-without_part q m index e (Ok part) p h = let f = at_by m index part p in absurd cc
-without_part q m index e (Err f) p h = no_calls q m (no_procedure q m (symbols_none m f p))
-
-pub without_symbols : (q : PdbInternalSectionOffset) (m : ModuleBytes) (index : ℕ) (e : Error) → symbols_at_of index m ≡ Err e → inlined_at q m ≡ []
-without_symbols q m index e h = without_part q m index e (symbols_part_of m) refl h
 
 -- ---- the indices of a module's sites rise
 
@@ -70,43 +53,25 @@ rise_by : (m : ModuleBytes) (r : Result (List ℕ) Error) → symbols_part_of m 
 rise_by m (Ok part) p = subst Rises (sym (symbols_by m part p)) (symbols_rise part 4)
 rise_by m (Err e) p = subst Rises (sym (symbols_none m e p)) tt
 
-kept_rise : (m : ModuleBytes) (kept : List Symbol) → map symbol_of kept ≡ sites_in m → Rises (map symbol_of kept)
+kept_rise : (m : ModuleBytes) (kept : List KeptSite) → map entry_of kept ≡ sites_in m → Rises (map entry_of kept)
 kept_rise m kept same = subst Rises (sym same) (rises_sites (symbols_in m) (rise_by m (symbols_part_of m) refl))
 
-pub sites_rise : (m : ModuleBytes) (kept : List Symbol) → map symbol_of kept ≡ sites_in m → AreRising kept
+pub sites_rise : (m : ModuleBytes) (kept : List KeptSite) → map entry_of kept ≡ sites_in m → AreRising kept
 sites_rise m kept same = rising kept (kept_rise m kept same)
+
+pub procedures_rise : (m : ModuleBytes) → CodesRise (procedures_in m)
+procedures_rise m = codes_rise (symbols_in m) (rise_by m (symbols_part_of m) refl)
 
 -- ---- where one is found
 
-module _ (q : PdbInternalSectionOffset) (m : ModuleBytes) (index : ℕ) (left : Left Entry) (kept : List Symbol) (same : map symbol_of kept ≡ sites_in m) (n : ℕ) (behind : IsBehind index kept n) where
-  abbrev rest : List Entry
-  rest = map symbol_of (drop n kept)
-
-  with_part : (c : Code) → procedure_at q m ≡ Some c → c.index ≡ index → symbols_at_of index m ≡ Ok left → (r : Result (List ℕ) Error) → symbols_part_of m ≡ r → calls_among q (inlinee_with (inlinees_in m)) rest left.items ≡ inlined_at q m
-  with_part c found is h (Err e) p = let f = at_none m index e p in absurd cc
-  with_part c found is h (Ok part) p =
-      let listed = inlinee_with (inlinees_in m) in
-      let symbols : symbols_in m ≡ (symbols_from part 4).items = symbols_by m part p in
-      let s : Stands procedure_of (symbols_from part 4).items c = stands procedure_of q (symbols_from part 4).items c (ap (λ (ss : List Entry). find (code_covers q) (filter_map procedure_of ss)) (sym symbols) ∙ found) in
-      let says = is_procedure s.symbol c s.says in
-      let place : s.symbol.index ≡ index = sym says.index ∙ is in
-      let from = at_by m index part p in
-      let left_is : left ≡ symbols_from part index = cc in
-      let items : left.items ≡ s.symbol ∷ s.after =
-      ap (λ (l : Left Entry). l.items) (left_is ∙ (ap (symbols_from part) (sym place) ∙ resumes_at part 4 s.before s.after s.symbol s.whole)) in
-      ap (calls_among q listed rest) items
-      ∙ (ap (λ (x : Role). calls_behind q listed x rest) says.is
-      ∙ (sym (behind_calls q listed c kept n (kept_rise m kept same) (subst (λ (i : ℕ). IsBehind i kept n) (sym is) behind))
-      ∙ (ap (filter_map (call_in q listed c)) same
-      ∙ (sym (enough q listed c (symbols_in m))
-      ∙ sym (ap (calls_in q listed (symbols_in m)) found)))))
-
-  by_procedure : (o : Option Code) → procedure_at q m ≡ o → option_map index_of o ≡ Some index → symbols_at_of index m ≡ Ok left → calls_among q (inlinee_with (inlinees_in m)) rest left.items ≡ inlined_at q m
-  by_procedure None found is h = absurd cc
-  by_procedure (Some c) found is h = let same : c.index ≡ index = cc in with_part c found same h (symbols_part_of m) refl
-
-  pub calls_found : option_map index_of (procedure_at q m) ≡ Some index → symbols_at_of index m ≡ Ok left → calls_among q (inlinee_with (inlinees_in m)) rest left.items ≡ inlined_at q m
-  calls_found is h = by_procedure (procedure_at q m) refl is h
+pub calls_found : (q : PdbInternalSectionOffset) (m : ModuleBytes) (c : Code) (kept : List KeptSite) (n : ℕ) → map entry_of kept ≡ sites_in m → procedure_at q m ≡ Some c → IsBehind c.index kept n
+    → calls_until q (inlinee_with (inlinees_in m)) c.place c.end (map entry_of (drop n kept)) ≡ inlined_at q m
+calls_found q m c kept n same found behind =
+    let listed = inlinee_with (inlinees_in m) in
+    sym (behind_calls q listed c kept n (kept_rise m kept same) behind)
+    ∙ (ap (filter_map (call_in q listed c)) same
+    ∙ (sym (enough q listed c (symbols_in m))
+    ∙ sym (ap (calls_in q listed (symbols_in m)) found)))
 
 -- ---- what a symbol says that is found
 

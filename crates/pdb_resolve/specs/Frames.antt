@@ -10,6 +10,7 @@ use Rattle.pdb.specs.ModuleStream.{ModuleBytes}
 use Rattle.pdb.specs.LineInfo.{LineInfo}
 use Rattle.pdb.specs.LineProgram.{ProgramOf}
 use Rattle.pdb.specs.Files.{FileOf, file_at}
+use Rattle.pdb_text.specs.OneLine.{one_line}
 use Rattle.pdb_resolve.specs.AsIfEmpty.{if_read}
 use Rattle.pdb_resolve.specs.ModuleCode.{program_in, Call, function_at, line_at, inlined_at, name_at}
 
@@ -91,13 +92,27 @@ abbrev pub qualified_text : Option Qualified → List ℕ
 qualified_text None = codes "??"
 qualified_text (Some name) = scope_text name.scope ++ name.name
 
+-- a name on one line; `??` where it is empty
+abbrev pub known_text : List ℕ → List ℕ
+known_text [] = codes "??"
+known_text (b ∷ name) = one_line (b ∷ name)
+
 abbrev pub file_text : Option (List ℕ) → List ℕ
 file_text None = codes "??"
-file_text (Some name) = name
+file_text (Some name) = known_text name
+
+-- behind what stands before it
+abbrev pub scoped_text : Option (List ℕ) → List ℕ → List ℕ
+scoped_text None name = known_text name
+scoped_text (Some scope) name = one_line scope ++ codes "::" ++ one_line name
+
+abbrev pub name_text : Option Qualified → List ℕ
+name_text None = codes "??"
+name_text (Some name) = scoped_text name.scope name.name
 
 -- the name, and FILE:LINE:COLUMN, each with a line end
 abbrev pub frame_text : Frame → List ℕ
-frame_text f = qualified_text f.name ++ codes "\n" ++ file_text f.file ++ codes ":" ++ decimal f.line ++ codes ":" ++ decimal f.column ++ codes "\n"
+frame_text f = name_text f.name ++ codes "\n" ++ file_text f.file ++ codes ":" ++ decimal f.line ++ codes ":" ++ decimal f.column ++ codes "\n"
 
 -- the frames, and an empty line
 abbrev pub frames_text : List Frame → List ℕ

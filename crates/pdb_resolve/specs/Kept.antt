@@ -9,16 +9,16 @@ use Rattle.pdb.specs.Fields.{number}
 use Rattle.pdb.specs.Forms.{record_at}
 use Rattle.pdb.specs.SymbolList.{Entry}
 use Rattle.pdb.specs.ModuleStream.{ModuleBytes}
-use Rattle.pdb.specs.Views.{symbol_of}
-use Rattle.pdb_symbols.specs.declared.symbol.Symbol.{Symbol}
 use Rattle.pdb.specs.Inlinees.{InlineeEntry}
 use Rattle.pdb_resolve.specs.declared.range.CodeRange.{CodeRange}
 use Rattle.pdb_resolve.specs.declared.role.Role.{Role as Read}
 use Rattle.pdb_resolve.specs.declared.role.Role.TheVariants.{Procedure, Other, Site, Passed}
 use Rattle.pdb_resolve.specs.declared.calls.InlinedCall.{InlinedCall}
+use Rattle.pdb_resolve.specs.declared.site.KeptSite.{KeptSite}
 use Rattle.pdb_resolve.specs.Covering.{first_covering}
 use Rattle.pdb_resolve.specs.RangeOrder.{InOrder}
-use Rattle.pdb_resolve.specs.ModuleCode.{Code, Role, role, Call, call_of_role, index_of, code_covers, symbols_in, AreCodesApart, says}
+use Rattle.pdb_resolve.specs.Listed.{entry_of}
+use Rattle.pdb_resolve.specs.ModuleCode.{Code, Role, role, begins_at, Call, call_of_role, index_of, code_covers, symbols_in, AreCodesApart, says}
 use Rattle.pdb_resolve.specs.ModuleCode.Role.{at_procedure, at_other, at_site, passed}
 
 -- what a symbol is to the code
@@ -52,15 +52,6 @@ module _ (q : PdbInternalSectionOffset) (listed : ℕ → Option InlineeEntry) w
   calls_until parent end [] = []
   calls_until parent end (t ∷ ts) = if nat_lt t.index end then option_to_list (call_of_role q listed parent (role (record_at t.bytes))) ++ calls_until parent end ts else []
 
-  abbrev pub calls_behind : Role → List Entry → List Call
-  calls_behind (at_procedure place length end) ts = calls_until place end ts
-  calls_behind h ts = []
-
-  -- the calls of the sites behind a procedure, with which a list begins
-  abbrev pub calls_among : List Entry → List Entry → List Call
-  calls_among sites [] = []
-  calls_among sites (s ∷ ss) = calls_behind (role (record_at s.bytes)) sites
-
 -- a symbol that is a site
 abbrev pub site_if : Entry → Role → Option Entry
 site_if s (at_site id annotations) = Some s
@@ -73,23 +64,38 @@ site_of s = site_if s (role (record_at s.bytes))
 abbrev pub sites_in : ModuleBytes → List Entry
 sites_in m = filter_map site_of (symbols_in m)
 
-abbrev pub place_of : Symbol → ℕ
-place_of s = (symbol_of s).index
+abbrev pub place_of : KeptSite → ℕ
+place_of s = (entry_of s).index
 
-abbrev pub AreRising : List Symbol → Type 0
+abbrev pub AreRising : List KeptSite → Type 0
 AreRising ss = IsNonDecreasingBy place_of ss
 
--- the first n of these symbols are those at or before an index
-pub record IsBehind (index : ℕ) (ss : List Symbol) (n : ℕ) : Type 0 where
+-- the first n of these sites are those at or before an index
+pub record IsBehind (index : ℕ) (ss : List KeptSite) (n : ℕ) : Type 0 where
   pub inside : n ≤ length ss
-  pub upto : (k : ℕ) (d : Symbol) → k < n → place_of (get_or ss k d) ≤ index
-  pub behind : (k : ℕ) (d : Symbol) → n ≤ k → k < length ss → index < place_of (get_or ss k d)
+  pub upto : (k : ℕ) (d : KeptSite) → k < n → place_of (get_or ss k d) ≤ index
+  pub behind : (k : ℕ) (d : KeptSite) → n ≤ k → k < length ss → index < place_of (get_or ss k d)
 
 -- ranges that are kept find what these pieces of code have, and stand in order where those don't overlap
 pub record IsKeptOf (cs : List Code) (rs : List CodeRange) : Type 0 where
   pub finds : (q : PdbInternalSectionOffset) → first_covering q rs ≡ option_map index_of (find (code_covers q) cs)
   pub apart : AreCodesApart cs → InOrder rs
   pub few : length rs ≤ length cs
+
+-- a piece of code as the one byte where it begins
+abbrev pub start_parts : Code → ℕ × (PdbInternalSectionOffset × ℕ)
+start_parts c = (c.index, (c.place, 1))
+
+abbrev pub range_start : CodeRange → ℕ × (PdbInternalSectionOffset × ℕ)
+range_start r = (r.payload, (r.place, 1))
+
+-- ranges that are kept find which of these pieces begin at a place
+abbrev pub AreStartsOf : List Code → List CodeRange → Type 0
+AreStartsOf cs rs = (q : PdbInternalSectionOffset) → first_covering q rs ≡ option_map index_of (find (begins_at q) cs)
+
+abbrev pub AreStartsIfMade : List Code → Option (List CodeRange) → Type 0
+AreStartsIfMade cs None = Unit {0}
+AreStartsIfMade cs (Some rs) = AreStartsOf cs rs
 
 -- a symbol of the list has the index
 pub record IsListed (i : ℕ) (ss : List Entry) : Type 0 where

@@ -1,5 +1,5 @@
 -- What is kept of a file by a resolver.
-use Rattle.std.specs.Prelude.{◌≡◌, ℕ, length, true, Box, List, Option, Some, None, option_copied, slice_index_or, map}
+use Rattle.std.specs.Prelude.{◌≡◌, ℕ, ◌+◌, ◌<◌, ◌≤◌, length, true, false, Box, List, [], ◌∷◌, Option, Some, None, option_copied, slice_index_or, map}
 use Rattle.std.specs.declared.alloc.Global.{Global}
 use Rattle.pdb.specs.Container.{stream_of}
 use Rattle.pdb.specs.ModuleStream.{ModuleBytes}
@@ -13,9 +13,10 @@ use Rattle.pdb.specs.Answers.{global_symbols_in}
 use Rattle.pdb_resolve.specs.AsIfEmpty.{if_read}
 use Rattle.pdb_resolve.specs.FileParts.{items_listed, modules_listed, module_numbered}
 
--- what is kept of a part that was asked for is what was read
-abbrev pub IsAskedOf : {A : Type 0} → Option A → Part A → Type 0
-IsAskedOf reading p = p.asked ≡ true → option_copied p.there ≡ reading
+-- what is kept of a part that was asked for is what was read; there is room for one that wasn't
+pub record IsAskedOf {A : Type 0} (reading : Option A) (p : Part A) : Type 0 where
+  pub read : p.asked ≡ true → option_copied p.there ≡ reading
+  pub room : p.asked ≡ false → 0 < length p.rooms.now
 
 -- the names that were made are those of the file
 abbrev pub IsMadeOf : List ℕ → Option FunctionNames → Type 0
@@ -38,6 +39,11 @@ codes_of ms = map boxed ms.codes.items
 abbrev pub code_kept : Modules → ℕ → Option ModuleBytes
 code_kept ms k = slice_index_or (codes_of ms) k None
 
+-- of a module that a place may have
+abbrev pub code_where : Modules → Option ℕ → Option ModuleBytes
+code_where ms None = None
+code_where ms (Some k) = code_kept ms k
+
 -- the streams that were put down, by the numbers of their modules
 abbrev pub streams_of : Modules → List (Option ModuleBytes)
 streams_of ms = map option_copied ms.infos.items
@@ -45,17 +51,28 @@ streams_of ms = map option_copied ms.infos.items
 abbrev pub stream_kept : Modules → ℕ → Option ModuleBytes
 stream_kept ms k = slice_index_or (streams_of ms) k None
 
+-- how many streams weren't put down
+abbrev pub unkept : List (Option ModuleBytes) → ℕ
+unkept [] = 0
+unkept (None ∷ kept) = unkept kept + 1
+unkept (Some m ∷ kept) = unkept kept
+
+-- how many rooms are left
+abbrev pub rooms_left : Modules → ℕ
+rooms_left ms = length ms.rooms.now
+
 -- what is kept of modules is what the file says of them
 abbrev pub AreRead : List ℕ → List (Option ModuleBytes) → Type 0
 AreRead file kept = (k : ℕ) (m : ModuleBytes) → slice_index_or kept k None ≡ Some m → module_numbered file k ≡ Some m
 
--- the list of modules is that of the file, and so is each module that was put down or read; there is room for as many as are listed
+-- the list of modules is that of the file, and so is each module that was put down or read; there is room for as many as are listed, and for each stream that wasn't put down
 pub record AreModulesOf (file : List ℕ) (ms : Modules) : Type 0 where
   pub listed : ms.listed.items ≡ modules_listed file
   pub codes : AreRead file (codes_of ms)
   pub streams : AreRead file (streams_of ms)
   pub as_many : length (codes_of ms) ≡ length ms.listed.items
   pub as_many_streams : length (streams_of ms) ≡ length ms.listed.items
+  pub rooms : unkept (streams_of ms) ≤ rooms_left ms
 
 -- the publics that are kept are those of the file
 abbrev pub IsPublicsOf : List ℕ → Option PublicNames → Type 0

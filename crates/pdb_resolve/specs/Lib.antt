@@ -6,6 +6,7 @@ pub mod ModuleCode
 pub mod Frames
 pub mod FileParts
 pub mod Kept
+pub mod Listed
 pub mod KeptFrames
 pub mod AddressPlaces
 pub mod Behind

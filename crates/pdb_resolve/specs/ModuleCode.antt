@@ -1,8 +1,7 @@
 -- What stands at a place of a module's code: the function, the line, the inlined calls.
 use Rattle.std.specs.Prelude.{◌≡◌, ◌⊎◌, All, ℕ, Bool, true, false, ◌+◌, ◌&&◌, ◌==◌, nat_le, nat_lt, if◌then◌else◌, List, [], Option, Some, None, Result, Ok, find, filter_map}
-use Rattle.std.specs.Option.{option_map, option_or}
+use Rattle.std.specs.Option.{is_some, option_map, option_or}
 use Rattle.pdb.specs.Error.{Error}
-use Rattle.pdb.specs.Left.{Left}
 use Rattle.pdb.specs.PdbInternalSectionOffset.{PdbInternalSectionOffset}
 use Rattle.pdb.specs.Data.{Data}
 use Rattle.pdb.specs.Data.Data.{Procedure, Thunk, SeparatedCode, InlineSite}
@@ -94,6 +93,14 @@ index_of c = c.index
 -- the index of the function's symbol
 abbrev pub function_at : PdbInternalSectionOffset → ModuleBytes → Option ℕ
 function_at q m = option_or (option_map index_of (procedure_at q m)) (option_map index_of (other_at q m))
+
+-- the place is where the piece begins
+abbrev pub begins_at : PdbInternalSectionOffset → Code → Bool
+begins_at q c = covers_place q c.place 1
+
+-- a procedure begins at the place
+abbrev pub begins : PdbInternalSectionOffset → List Code → Bool
+begins q cs = is_some (find (begins_at q) cs)
 
 -- ---- pieces that don't overlap
 

@@ -1,5 +1,5 @@
 -- Which module the bytes at a place come from: that of the first listed contribution that covers it.
-use Rattle.std.specs.Prelude.{◌≡◌, ◌⊎◌, All, ℕ, ◌+◌, ◌<◌, ◌≤◌, Bool, true, List, [], length, get_or, Option, Some, None, find}
+use Rattle.std.specs.Prelude.{◌≡◌, ◌⊎◌, All, ℕ, ◌+◌, ◌<◌, ◌≤◌, Bool, true, false, List, [], ◌∷◌, length, get_or, Option, Some, None, find}
 use Rattle.std.specs.Option.{option_map}
 use Rattle.pdb.specs.PdbInternalSectionOffset.{PdbInternalSectionOffset}
 use Rattle.pdb.specs.DBISectionContribution.{DBISectionContribution}
@@ -41,6 +41,19 @@ module_among q cs = option_map module_of (find (contributes q) cs)
 -- the number of the module at a place, by a DBI stream
 abbrev pub module_number_at : PdbInternalSectionOffset → Option (List ℕ) → Option ℕ
 module_number_at q b = module_among q (contributions_known b)
+
+abbrev pub none_listed : List DBISectionContribution → Bool
+none_listed [] = true
+none_listed (c ∷ cs) = false
+
+-- whether a contribution has the place q; where none was found, whether there are none at all
+abbrev pub reaches_by : Bool → PdbInternalSectionOffset → Option DBISectionContribution → Bool
+reaches_by none q None = none
+reaches_by none q (Some c) = contributes q c
+
+-- whether the first listed contribution that has the place p has the place q too; so it is where none is listed
+abbrev pub reaches : PdbInternalSectionOffset → PdbInternalSectionOffset → List DBISectionContribution → Bool
+reaches p q cs = reaches_by (none_listed cs) q (find (contributes p) cs)
 
 -- ---- contributions that don't overlap
 

@@ -5,7 +5,7 @@ use Rattle.pdb_resolve.specs.declared.range.CodeRange.{CodeRange}
 use Rattle.pdb_resolve.specs.declared.module_places.ModuleTable.{ModuleTable}
 use Rattle.pdb_resolve.specs.ModuleCode.{Code}
 use Rattle.pdb_resolve.specs.ModulePlaces.{module_of}
-use Rattle.pdb_resolve.specs.Kept.{IsKeptOf}
+use Rattle.pdb_resolve.specs.Kept.{AreRangesOf, IsKeptOf}
 
 -- contribution number k as a piece of code, of which no scope is known
 abbrev pub piece : ℕ → DBISectionContribution → Code
@@ -23,4 +23,4 @@ pub record IsTableOf (cs : List DBISectionContribution) (rs : List CodeRange) (m
 
 abbrev pub IsTableIfMade : List DBISectionContribution → Option ModuleTable → Type 0
 IsTableIfMade cs None = Unit {0}
-IsTableIfMade cs (Some t) = IsTableOf cs t.ranges t.modules.items
+IsTableIfMade cs (Some t) = IsTableOf cs t.ranges t.modules.items × AreRangesOf (pieces_from 0 cs) t.listed.items

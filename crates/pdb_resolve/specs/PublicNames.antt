@@ -60,9 +60,14 @@ abbrev pub public_before : PdbInternalSectionOffset → List PublicAt → Option
 public_before q [] = None
 public_before q (p ∷ ps) = nearer (if stands_upto q p then Some p else None) (public_before q ps)
 
-abbrev pub public_name : PublicAt → List ℕ
-public_name p = p.name
+-- where a public symbol stands, and its name
+pub record NamedPlace : Type 0 where
+  pub place : PdbInternalSectionOffset
+  pub name : List ℕ
 
--- the name of the public symbol before a place, by a stream of symbols
-abbrev pub public_name_at : PdbInternalSectionOffset → Option (List ℕ) → Option (List ℕ)
-public_name_at q b = option_map public_name (public_before q (publics_in b))
+abbrev pub named_place : PublicAt → NamedPlace
+named_place p = record { place = p.place; name = p.name }
+
+-- the public symbol before a place, by a stream of symbols
+abbrev pub public_at : PdbInternalSectionOffset → Option (List ℕ) → Option NamedPlace
+public_at q b = option_map named_place (public_before q (publics_in b))

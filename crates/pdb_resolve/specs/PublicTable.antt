@@ -7,9 +7,10 @@ use Rattle.pdb.specs.LineOrder.{order_of}
 use Rattle.pdb.specs.Text.{name_bytes}
 use Rattle.pdb.specs.SymbolList.{Entry}
 use Rattle.pdb_resolve.specs.declared.publics.Public.{Public}
+use Rattle.pdb_resolve.specs.declared.public_names.PublicName.{PublicName}
 use Rattle.pdb_resolve.specs.declared.public_place.PublicPlace.{PublicPlace}
 use Rattle.pdb_resolve.specs.declared.public_table.PublicTable.{PublicTable as Table}
-use Rattle.pdb_resolve.specs.PublicNames.{PublicAt, public_of, public_name, stands_upto}
+use Rattle.pdb_resolve.specs.PublicNames.{PublicAt, NamedPlace, named_place, public_of, stands_upto}
 
 -- a public symbol that was read
 abbrev pub shown_public : Public → PublicAt
@@ -63,7 +64,11 @@ abbrev pub IsPublicTableIfMade : List PublicAt → Option Table → Type 0
 IsPublicTableIfMade ps None = Unit {0}
 IsPublicTableIfMade ps (Some t) = IsPublicTable ps t.sorted.items
 
--- the name of the first symbol, where it is public
-abbrev pub head_name : List Entry → Option (List ℕ)
-head_name [] = None
-head_name (s ∷ ss) = option_map public_name (public_of s)
+-- a public symbol that was found
+abbrev pub shown_found : PublicName → NamedPlace
+shown_found p = record { place = p.place; name = name_bytes p.name }
+
+-- the first symbol, where it is public
+abbrev pub head_public : List Entry → Option NamedPlace
+head_public [] = None
+head_public (s ∷ ss) = option_map named_place (public_of s)

@@ -3,18 +3,21 @@
 ghost use Rattle.std.specs.Prelude.{◌≡◌, ◌++◌, [], ◌∷◌, map, IfOk, IfErr, OnOk};
 ghost use Rattle.std.specs.Option.{option_map, option_to_list};
 ghost use Rattle.pdb.specs.AnnotationViews.{annotation_bytes};
-ghost use Rattle.pdb.specs.Views.{symbol_of, symbols_left};
+ghost use Rattle.pdb.specs.Views.{symbol_of};
 ghost use Rattle.pdb.specs.Forms.{record_at};
 ghost use Rattle.pdb_resolve.specs.ModuleCode.{first_line, role, call_of, call_of_role};
 ghost use Rattle.pdb.specs.Inlined.{lines_of_site};
 ghost use Rattle.pdb.specs.Inlinees.{inlinee_with};
-ghost use Rattle.pdb_resolve.specs.Kept.{shown_call, shown_role, calls_until, calls_among, AreRising, IsBehind};
+ghost use Rattle.pdb_resolve.specs.Kept.{shown_call, calls_until, AreRising, IsBehind};
+ghost use Rattle.pdb_resolve.specs.Listed.{AreBounded, Bounds, entry_of};
 
 use crate::lines::first_inlined_line;
+use crate::procedures::ListedProcedure;
 use crate::role::{Role, role_of};
+use crate::site::KeptSite;
 use pdb::{
-    Error, FallibleIterator, IdIndex, InlineSiteSymbol, InlineeFinder, LineInfo,
-    PdbInternalSectionOffset, Result, Symbol, SymbolIndex, SymbolIter,
+    Error, IdIndex, InlineSiteSymbol, InlineeFinder, LineInfo, PdbInternalSectionOffset, Result,
+    Symbol,
 };
 use std::alloc::Global;
 
@@ -83,56 +86,51 @@ fn add<'a>(
     }
 }
 
-/// The calls of sites up to the end of their procedure's scope.
-fn calls_until<'a>(
+/// The call of one more site, if it has one that covers the place.
+fn add_site<'a>(
     alloc: Global,
+    calls: &mut Vec<InlinedCall>,
     known: &InlineeFinder<'a>,
-    sites: &[Symbol<'a>],
     place: PdbInternalSectionOffset,
     parent: PdbInternalSectionOffset,
-    end: SymbolIndex,
-) -> Result<Vec<InlinedCall>>
-    ensures calls { IfOk result (λ calls. map shown_call calls.items ≡ calls_until place (inlinee_with known.now) parent end.0 (map symbol_of sites.now)) }
+    site: &KeptSite<'a>,
+) -> Result<()>
+    requires { Bounds (inlinee_with known.now) site.now }
+    ensures added { OnOk result (map shown_call calls.new.items ≡ map shown_call calls.old.items ++ option_to_list (call_of_role place (inlinee_with known.now) parent (role (record_at (entry_of site.now).bytes)))) }
     ensures refused { IfErr result (λ e. e ≡ Error.OutOfMemory) }
 {
-    let mut calls = Vec::new(alloc);
-    for symbol in sites {
-        if symbol.index().0 >= end.0 {
-            return Ok(calls);
-        }
-        add(alloc, &mut calls, known, place, parent, symbol)?;
+    if site.is_known_apart(parent, place) {
+        return Ok(());
     }
-    Ok(calls)
+    add(alloc, calls, known, place, parent, site.symbol())
 }
 
 /// How many of a module's sites stand at or before an index.
-pub(crate) fn count_upto(sites: &[Symbol<'_>], index: u32) -> usize
+pub(crate) fn count_upto(sites: &[KeptSite<'_>], index: u32) -> usize
     requires { AreRising sites.now }
     ensures { IsBehind index sites.now result }
 {
     sites.partition_point(|site| site.index().0 <= index)
 }
 
-/// The calls of a procedure, with whose symbol an iterator begins, of the sites behind it.
-pub(crate) fn calls_from<'a>(
+/// The calls of a procedure, of the sites behind it.
+pub(crate) fn calls_of<'a>(
     alloc: Global,
     known: &InlineeFinder<'a>,
-    mut symbols: SymbolIter<'a>,
-    sites: &[Symbol<'a>],
+    sites: &[KeptSite<'a>],
     place: PdbInternalSectionOffset,
+    procedure: ListedProcedure,
 ) -> Result<Vec<InlinedCall>>
-    ensures calls { IfOk result (λ calls. map shown_call calls.items ≡ calls_among place (inlinee_with known.now) (map symbol_of sites.now) (symbols_left symbols.entry).items) }
+    requires { AreBounded (inlinee_with known.now) sites.now }
+    ensures calls { IfOk result (λ calls. map shown_call calls.items ≡ calls_until place (inlinee_with known.now) procedure.place procedure.end (map entry_of sites.now)) }
     ensures refused { IfErr result (λ e. e ≡ Error.OutOfMemory) }
 {
-    match symbols.next() {
-        Ok(Some(symbol)) => match role_of(alloc, &symbol) {
-            Ok(Role::Procedure(span)) => {
-                calls_until(alloc, known, sites, place, span.place, span.end)
-            }
-            Ok(_) => Ok(Vec::new(alloc)),
-            Err(_) => Err(Error::OutOfMemory),
-        },
-        Ok(None) => Ok(Vec::new(alloc)),
-        Err(_) => Ok(Vec::new(alloc)),
+    let mut calls = Vec::new(alloc);
+    for site in sites {
+        if site.index().0 >= procedure.end {
+            return Ok(calls);
+        }
+        add_site(alloc, &mut calls, known, place, procedure.place, site)?;
     }
+    Ok(calls)
 }

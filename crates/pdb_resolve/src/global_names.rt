@@ -2,16 +2,16 @@
 
 ghost use Rattle.std.specs.Prelude.{◌≡◌, option_copied, IfOk, IfErr, IsSome, None};
 ghost use Rattle.std.specs.Option.{option_map};
-ghost use Rattle.pdb.specs.Text.{name_bytes};
 ghost use Rattle.pdb.specs.Source.{Continues, MayFail};
 ghost use Rattle.pdb.specs.Answers.{global_symbols_in};
 ghost use Rattle.pdb_resolve.specs.AsIfEmpty.{if_read, OnlyFails};
-ghost use Rattle.pdb_resolve.specs.Resolved.{public_of_file};
+ghost use Rattle.pdb_resolve.specs.Resolved.{public_before_file};
 ghost use Rattle.pdb_resolve.specs.KeptParts.{IsAskedOf, AreGlobalsOf};
+ghost use Rattle.pdb_resolve.specs.PublicTable.{shown_found};
 
 use crate::part::Part;
-use crate::public_names::PublicNames;
-use pdb::{Error, PDB, PdbInternalSectionOffset, RawString, Result, Source, SymbolTable};
+use crate::public_names::{PublicName, PublicNames};
+use pdb::{Error, PDB, PdbInternalSectionOffset, Result, Source, SymbolTable};
 use std::alloc::Global;
 
 /// The stream of global symbols, and what is found by it.
@@ -55,17 +55,17 @@ impl<'a, 's> GlobalNames<'a, 's> {
         Ok(())
     }
 
-    /// The name of the public symbol before a place.
+    /// The public symbol before a place, whatever else stands between them.
     pub(crate) fn find<S: Source<'s>>(
         &mut self,
         alloc: Global,
         pdb: &mut PDB<'s, S>,
         place: PdbInternalSectionOffset,
-    ) -> Result<Option<RawString<'a>>>
+    ) -> Result<Option<PublicName<'a>>>
         requires { AreGlobalsOf pdb.old.file self.old }
         ensures continues { Continues pdb.old pdb.new }
         ensures kept { AreGlobalsOf pdb.old.file self.new }
-        ensures found { IfOk result (λ n. option_map name_bytes n ≡ public_of_file pdb.old.file place) }
+        ensures found { IfOk result (λ n. option_map shown_found n ≡ public_before_file pdb.old.file place) }
         ensures refused { IfErr result (λ e. OnlyFails (MayFail pdb.old pdb.new) e) }
     {
         self.make(pdb)?;

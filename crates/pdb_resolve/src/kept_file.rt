@@ -1,22 +1,25 @@
 //! What a resolver keeps of a file.
 
-ghost use Rattle.std.specs.Prelude.{◌≡◌, [], ◌∷◌, map, Some, IfSome, IfOk, IfErr};
+ghost use Rattle.std.specs.Prelude.{◌≡◌, ℕ, List, [], ◌∷◌, is_some, map, option_copied, Some, IfSome, IfOk, IfErr};
+ghost use Rattle.std.specs.Option.{option_map};
+ghost use Rattle.pdb.specs.Text.{name_bytes};
 ghost use Rattle.pdb.specs.Source.{Continues, MayFail};
 ghost use Rattle.pdb.specs.Answers.{debug_information_in};
 ghost use Rattle.pdb_resolve.specs.AsIfEmpty.{if_read, OnlyFails};
 ghost use Rattle.pdb_resolve.specs.ModulePlaces.{module_number_at};
 ghost use Rattle.pdb_resolve.specs.FileParts.{module_numbered};
 ghost use Rattle.pdb_resolve.specs.Frames.{frame_without};
-ghost use Rattle.pdb_resolve.specs.Resolved.{public_of_file, frames_of_file};
+ghost use Rattle.pdb_resolve.specs.Resolved.{function_where, procedures_where, public_of_file, frames_of_file};
+ghost use Rattle.pdb_resolve.specs.ModuleCode.{begins};
 ghost use Rattle.pdb_resolve.specs.KeptFrames.{shown_frame};
-ghost use Rattle.pdb_resolve.specs.KeptParts.{AreGlobalsOf, code_kept};
+ghost use Rattle.pdb_resolve.specs.KeptParts.{code_kept, code_where, codes_of};
 
 use crate::frames::{Frame, frame_without_line, plain_name, push_frame};
-use crate::global_names::GlobalNames;
+use crate::module_code::ModuleCode;
 use crate::module_places::ModulePlaces;
 use crate::modules::Modules;
 use crate::tables::Tables;
-use pdb::{PDB, PdbInternalSectionOffset, Result, Source};
+use pdb::{Error, PDB, PdbInternalSectionOffset, RawString, Result, Source};
 use std::alloc::Global;
 
 /// What is kept of a file: which modules are where, their code, and what names are found by.
@@ -27,20 +30,11 @@ pub(crate) struct KeptFile<'a, 's> {
     pub(crate) tables: Tables<'a, 's>,
 }
 
-/// The frame of a place of which no module's code is known.
-fn bare_frames<'a, 's, S: Source<'s>>(
-    alloc: Global,
-    pdb: &mut PDB<'s, S>,
-    globals: &mut GlobalNames<'a, 's>,
-    place: PdbInternalSectionOffset,
-) -> Result<Vec<Frame<'a>>>
-    requires { AreGlobalsOf pdb.old.file globals.old }
-    ensures continues { Continues pdb.old pdb.new }
-    ensures kept { AreGlobalsOf pdb.old.file globals.new }
-    ensures frames { IfOk result (λ fs. map shown_frame fs.items ≡ frame_without (public_of_file pdb.old.file place) ∷ []) }
-    ensures refused { IfErr result (λ e. OnlyFails (MayFail pdb.old pdb.new) e) }
+/// The frame of a place of which no module's code is known, and the public symbol before it.
+fn bare_frames<'a>(alloc: Global, name: Option<RawString<'a>>) -> Result<Vec<Frame<'a>>>
+    ensures frames { IfOk result (λ fs. map shown_frame fs.items ≡ frame_without (option_map name_bytes name.entry) ∷ []) }
+    ensures refused { IfErr result (λ e. e ≡ Error.OutOfMemory) }
 {
-    let name = globals.find(alloc, pdb, place)?;
     let mut frames = Vec::new(alloc);
     push_frame(&mut frames, frame_without_line(plain_name(name)))?;
     Ok(frames)
@@ -70,6 +64,82 @@ impl<'a, 's> KeptFile<'a, 's> {
         Ok(Some(number))
     }
 
+    /// Whether a function of the module of a number is at a place.
+    fn has_function(&self, number: Option<usize>, place: PdbInternalSectionOffset) -> bool
+        ensures { result ≡ is_some (function_where place (code_where self.now.modules number)) }
+    {
+        match self.code(number) {
+            Some(code) => code.function(place).is_some(),
+            None => false,
+        }
+    }
+
+    /// The code of the module of a number, if it was read.
+    fn code(&self, number: Option<usize>) -> Option<&ModuleCode<'a>>
+        ensures { option_copied result ≡ code_where self.now.modules number }
+    {
+        match number {
+            Some(number) => self.modules.code(number),
+            None => None,
+        }
+    }
+
+    /// Whether a procedure of the module of a number begins at a place.
+    fn begins(
+        &mut self,
+        alloc: Global,
+        number: Option<usize>,
+        place: PdbInternalSectionOffset,
+    ) -> Result<bool>
+        ensures kept { (file : List ℕ) → IsFileKept file self.old → IsFileKept file self.new }
+        ensures codes { codes_of self.new.modules ≡ codes_of self.old.modules }
+        ensures begins { IfOk result (λ b. b ≡ begins place (procedures_where (code_where self.old.modules number))) }
+        ensures refused { IfErr result (λ e. e ≡ Error.OutOfMemory) }
+    {
+        match number {
+            Some(number) => self.modules.begins(alloc, number, place),
+            None => Ok(false),
+        }
+    }
+
+    /// The name of the public symbol before a place, where it counts and no function is there.
+    fn public<S: Source<'s>>(
+        &mut self,
+        alloc: Global,
+        pdb: &mut PDB<'s, S>,
+        number: Option<usize>,
+        place: PdbInternalSectionOffset,
+    ) -> Result<Option<RawString<'a>>>
+        requires { IsFileKept pdb.old.file self.old }
+        ensures continues { Continues pdb.old pdb.new }
+        ensures kept { IsFileKept pdb.old.file self.new }
+        ensures codes { codes_of self.new.modules ≡ codes_of self.old.modules }
+        ensures name { IfOk result (λ n. option_map name_bytes n ≡ public_of_file pdb.old.file (code_where self.old.modules number) place) }
+        ensures refused { IfErr result (λ e. OnlyFails (MayFail pdb.old pdb.new) e) }
+    {
+        if self.has_function(number, place) {
+            return Ok(None);
+        }
+        let Some(public) = self.tables.globals.find(alloc, pdb, place)? else {
+            return Ok(None);
+        };
+        if !self.module_places.reaches(public.place, place) {
+            return Ok(None);
+        }
+        if self.begins(alloc, number, public.place)? {
+            return Ok(None);
+        }
+        Ok(Some(public.name))
+    }
+
+    /// Finds what the sites of the procedure at a place cover, unless it is known.
+    fn measure(&mut self, alloc: Global, number: usize, place: PdbInternalSectionOffset)
+        ensures kept { (file : List ℕ) → IsFileKept file self.old → IsFileKept file self.new }
+        ensures codes { codes_of self.new.modules ≡ codes_of self.old.modules }
+    {
+        self.modules.measure(alloc, number, place);
+    }
+
     /// The frames of a place.
     #[tactic(auto, unfolding(crate::specs::Resolved::frames_of_file))]
     pub(crate) fn frames<S: Source<'s>>(
@@ -84,12 +154,15 @@ impl<'a, 's> KeptFile<'a, 's> {
         ensures frames { IfOk result (λ fs. map shown_frame fs.items ≡ frames_of_file pdb.old.file (Some place)) }
         ensures refused { IfErr result (λ e. OnlyFails (MayFail pdb.old pdb.new) e) }
     {
-        let Some(number) = self.module_at(alloc, pdb, place)? else {
-            return bare_frames(alloc, pdb, &mut self.tables.globals, place);
+        let number = self.module_at(alloc, pdb, place)?;
+        let public = self.public(alloc, pdb, number, place)?;
+        let Some(number) = number else {
+            return bare_frames(alloc, public);
         };
+        self.measure(alloc, number, place);
         match self.modules.code(number) {
-            Some(code) => self.tables.frames(alloc, pdb, code, place),
-            None => bare_frames(alloc, pdb, &mut self.tables.globals, place),
+            Some(code) => self.tables.frames(alloc, pdb, code, public, place),
+            None => bare_frames(alloc, public),
         }
     }
 }

@@ -1,24 +1,29 @@
 //! The code of one module.
 
-ghost use Rattle.std.specs.Prelude.{◌≡◌, ◌+◌, ◌≤◌, ◌<◌, ◌^◌, ℕ, length, [], map, filter_map, IfOk, IfErr};
+ghost use Rattle.std.specs.Prelude.{List, ◌≡◌, ◌+◌, ◌≤◌, ◌<◌, ◌^◌, ℕ, length, [], map, filter_map, IfOk, IfErr};
 ghost use Rattle.std.specs.Option.{option_map};
 ghost use Rattle.pdb.specs.PdbInternalSectionOffset.{PdbInternalSectionOffset};
 ghost use Rattle.pdb.specs.ModuleViews.{inlinees_left};
-ghost use Rattle.pdb_resolve.specs.ModuleCode.{symbols_in, inlinees_in, program_in, function_at, line_at, inlined_at, procedure_of, other_of, procedures_in, others_in, AreCodesApart, says_at, procedure_name_at, name_at};
+ghost use Rattle.pdb_resolve.specs.ModuleCode.{Code, begins, symbols_in, inlinees_in, program_in, function_at, line_at, inlined_at, procedure_of, other_of, procedure_at, procedures_in, others_in, AreCodesApart, says_at, procedure_name_at, name_at};
 ghost use Rattle.pdb.specs.Inlinees.{inlinee_with};
 ghost use Rattle.pdb.specs.Data.{shown};
 ghost use Rattle.pdb.specs.Text.{name_bytes};
 ghost use Rattle.pdb.specs.FileViews.{shown_file};
 ghost use Rattle.pdb_resolve.specs.Frames.{file_in};
-ghost use Rattle.pdb.specs.Views.{symbol_of, symbols_left};
-ghost use Rattle.pdb_resolve.specs.Kept.{shown_call, AreRangesOf, IsListed, head_says, site_of, sites_in};
+ghost use Rattle.pdb.specs.Views.{symbols_left};
+ghost use Rattle.std.specs.List.{All};
+ghost use Rattle.pdb_resolve.specs.Kept.{shown_call, AreRangesOf, AreStartsOf, IsListed, head_says, site_of, sites_in};
+ghost use Rattle.pdb_resolve.specs.Listed.{shown_procedure, entry_of, IsBounded};
 
-use crate::calls::{InlinedCall, calls_from, count_upto};
+use crate::calls::{InlinedCall, calls_of, count_upto};
+use crate::procedures::{ListedProcedure, procedure_with, ranges_of};
+use crate::range::CodeRange;
 use crate::ranges::Ranges;
 use crate::rows::{Rows, rows_of};
+use crate::site::{KeptSite, measure};
 use pdb::{
     Error, FallibleIterator, FileIndex, FileInfo, Inlinee, InlineeFinder, InlineeIterator,
-    LineInfo, LinePlaces, ModuleInfo, PdbInternalSectionOffset, RawString, Result, Steps, Symbol,
+    LineInfo, LinePlaces, ModuleInfo, PdbInternalSectionOffset, RawString, Result, Steps,
     SymbolData, SymbolIndex, SymbolIter,
 };
 use std::alloc::Global;
@@ -30,8 +35,11 @@ pub struct ModuleCode<'a> {
     info: &'a ModuleInfo<'a>,
     procedures: Ranges,
     others: Ranges,
-    // The sites of inlined functions.
-    sites: Vec<Symbol<'a>>,
+    // The procedures as they are listed, and where they begin; the latter is made at the first question.
+    listed: Vec<ListedProcedure>,
+    starts: Option<Ranges>,
+    // The sites of inlined functions. What those of a procedure cover is found when it is first asked for.
+    sites: Vec<KeptSite<'a>>,
     program: Option<LinePlaces<'a>>,
     known: InlineeFinder<'a>,
 }
@@ -42,22 +50,23 @@ impl<'a> Model for ModuleCode<'a> {
     ghost use Rattle.pdb_resolve.specs.ModuleCode.{procedures_in, others_in, program_in, inlinees_in};
     ghost use Rattle.pdb.specs.Inlinees.{inlinee_with};
     ghost use Rattle.std.specs.Prelude.{map};
-    ghost use Rattle.pdb.specs.Views.{symbol_of};
-    ghost use Rattle.pdb_resolve.specs.Kept.{IsKeptOf, sites_in};
+    ghost use Rattle.pdb_resolve.specs.Kept.{AreStartsIfMade, IsKeptOf, sites_in};
+    ghost use Rattle.pdb_resolve.specs.Listed.{shown_procedure, entry_of, AreBounded};
 
     ghost Value = { ModuleBytes };
 
     ghost view = { λ x. x.info.now };
 
-    ghost invariant = { λ x. IsKeptOf (procedures_in x.info.now) x.procedures × IsKeptOf (others_in x.info.now) x.others × (x.program ≡ program_in x.info.now) × (inlinee_with x.known ≡ inlinee_with (inlinees_in x.info.now)) × (map symbol_of x.sites.items ≡ sites_in x.info.now) };
+    ghost invariant = { λ x. IsKeptOf (procedures_in x.info.now) x.procedures × IsKeptOf (others_in x.info.now) x.others × (x.program ≡ program_in x.info.now) × (inlinee_with x.known ≡ inlinee_with (inlinees_in x.info.now)) × (map entry_of x.sites.items ≡ sites_in x.info.now) × (map shown_procedure x.listed.items ≡ procedures_in x.info.now) × AreStartsIfMade (procedures_in x.info.now) x.starts × AreBounded (inlinee_with x.known) x.sites.items };
 }
 
-/// The ranges and the sites of a module's code; none where its symbols are refused.
+/// The procedures, the ranges and the sites of a module's code; none where its symbols are refused.
 #[tactic(auto, unfolding(crate::specs::ModuleCode::symbols_in))]
 fn read_rows<'a>(alloc: Global, info: &'a ModuleInfo<'a>) -> Result<Rows<'a>>
-    ensures procedures { IfOk result (λ rows. AreRangesOf (filter_map procedure_of (symbols_in info.entry.now)) rows.procedures.items) }
+    ensures procedures { IfOk result (λ rows. map shown_procedure rows.procedures.items ≡ filter_map procedure_of (symbols_in info.entry.now)) }
     ensures others { IfOk result (λ rows. AreRangesOf (filter_map other_of (symbols_in info.entry.now)) rows.others.items) }
-    ensures sites { IfOk result (λ rows. map symbol_of rows.sites.items ≡ filter_map site_of (symbols_in info.entry.now)) }
+    ensures sites { IfOk result (λ rows. map entry_of rows.sites.items ≡ filter_map site_of (symbols_in info.entry.now)) }
+    ensures bounded { IfOk result (λ rows. All IsBounded rows.sites.items) }
     ensures refused { IfErr result (λ e. e ≡ Error.OutOfMemory) }
 {
     match info.symbols() {
@@ -102,6 +111,18 @@ fn listed<'a>(alloc: Global, mut inlinees: InlineeIterator<'a>) -> Result<Vec<In
     }
 }
 
+/// Where the procedures of these ranges begin: one byte of each.
+fn starts_of(alloc: Global, listed: &[CodeRange]) -> Result<Ranges>
+    ensures starts { IfOk result (λ starts. (cs : List Code) → AreRangesOf cs listed.now → AreStartsOf cs starts) }
+    ensures refused { IfErr result (λ e. e ≡ Error.OutOfMemory) }
+{
+    let mut rows = Vec::with_capacity(alloc, listed.len())?;
+    for range in listed {
+        rows.push(CodeRange::new(range.place, 1, range.payload))?;
+    }
+    Ranges::new(alloc, rows.as_slice())
+}
+
 /// What the first symbol says that an iterator has left; none where it can't be read.
 fn first_said<'t>(alloc: Global, mut symbols: SymbolIter<'t>) -> Result<Option<SymbolData<'t>>>
     ensures says { IfOk result (λ d. option_map shown d ≡ head_says (symbols_left symbols.entry).items) }
@@ -142,7 +163,8 @@ impl<'a> ModuleCode<'a> {
         ensures refused { IfErr result (λ e. e ≡ Error.OutOfMemory) }
     {
         let rows = read_rows(alloc, info)?;
-        let procedures = Ranges::new(alloc, rows.procedures.as_slice())?;
+        let ranges = ranges_of(alloc, rows.procedures.as_slice())?;
+        let procedures = Ranges::new(alloc, ranges.as_slice())?;
         let others = Ranges::new(alloc, rows.others.as_slice())?;
         let program = read_program(alloc, info)?;
         let known = read_known(alloc, info)?;
@@ -150,6 +172,8 @@ impl<'a> ModuleCode<'a> {
             info,
             procedures,
             others,
+            listed: rows.procedures,
+            starts: None,
             sites: rows.sites,
             program,
             known,
@@ -200,6 +224,16 @@ impl<'a> ModuleCode<'a> {
         self.program.as_ref()?.get_file_info(index).ok()
     }
 
+    // The first procedure that covers a place.
+    fn procedure(&self, place: PdbInternalSectionOffset) -> Option<ListedProcedure>
+        ensures { option_map shown_procedure result ≡ procedure_at place self.now }
+    {
+        match self.procedures.find(place) {
+            Some(index) => procedure_with(self.listed.as_slice(), index),
+            None => None,
+        }
+    }
+
     /// The functions that were inlined at a place into the procedure there, in the order of their sites, each with the
     /// first record of its site that covers the place.
     pub fn inlined(
@@ -210,17 +244,41 @@ impl<'a> ModuleCode<'a> {
         ensures calls { IfOk result (λ calls. map shown_call calls.items ≡ inlined_at place self.now) }
         ensures refused { IfErr result (λ e. e ≡ Error.OutOfMemory) }
     {
-        let Some(index) = self.procedures.find(place) else {
+        let Some(procedure) = self.procedure(place) else {
             return Ok(Vec::new(alloc));
         };
-        match self.info.symbols_at(SymbolIndex(index)) {
-            Ok(symbols) => {
-                let sites = self.sites.as_slice();
-                let (_, behind) = sites.split_at(count_upto(sites, index));
-                calls_from(alloc, &self.known, symbols, behind, place)
-            }
-            Err(_) => Ok(Vec::new(alloc)),
+        let sites = self.sites.as_slice();
+        let (_, behind) = sites.split_at(count_upto(sites, procedure.index));
+        calls_of(alloc, &self.known, behind, place, procedure)
+    }
+
+    // Finds what the sites of the procedure at a place cover, unless it is known. `inlined` then passes those that have
+    // no call there.
+    pub(crate) fn measure(&mut self, alloc: Global, place: PdbInternalSectionOffset)
+        ensures { self.new ≡ self.old }
+    {
+        let Some(procedure) = self.procedure(place) else {
+            return;
+        };
+        let from = count_upto(self.sites.as_slice(), procedure.index);
+        measure(alloc, &self.known, &mut self.sites, from, procedure);
+    }
+
+    /// Whether a procedure begins at a place. At the first question a table is made, and kept. It is refused for want of
+    /// memory alone, and may then be asked again.
+    pub fn begins(&mut self, alloc: Global, place: PdbInternalSectionOffset) -> Result<bool>
+        ensures stays { self.new ≡ self.old }
+        ensures begins { IfOk result (λ b. b ≡ begins place (procedures_in self.old)) }
+        ensures refused { IfErr result (λ e. e ≡ Error.OutOfMemory) }
+    {
+        if let Some(starts) = &self.starts {
+            return Ok(starts.find(place).is_some());
         }
+        let ranges = ranges_of(alloc, self.listed.as_slice())?;
+        let starts = starts_of(alloc, ranges.as_slice())?;
+        let begins = starts.find(place).is_some();
+        self.starts = Some(starts);
+        Ok(begins)
     }
 
     // What the symbol of an index says; none where it can't be read.

@@ -1,15 +1,15 @@
 //! The modules at places.
 
-ghost use Rattle.std.specs.Prelude.{◌≡◌, ◌+◌, ◌++◌, [], ◌∷◌, ◌≤◌, ◌<◌, ◌^◌, ℕ, true, false, length, map, List, IfOk, IfErr, IsOk, OnOk};
+ghost use Rattle.std.specs.Prelude.{find, ◌≡◌, ◌+◌, ◌++◌, [], ◌∷◌, ◌≤◌, ◌<◌, ◌^◌, ℕ, true, false, length, map, List, IfOk, IfErr, IsOk, OnOk};
 ghost use Rattle.std.specs.Option.{option_map};
 ghost use Rattle.pdb.specs.DBISectionContribution.{DBISectionContribution};
 ghost use Rattle.pdb.specs.DbiViews.{contributions_left, contributions_steps};
-ghost use Rattle.pdb_resolve.specs.ModulePlaces.{contributions_known, contributes, module_of, module_among, module_number_at, AreContributionsApart};
+ghost use Rattle.pdb_resolve.specs.ModulePlaces.{contributions_known, contributes, none_listed, reaches, module_of, module_among, module_number_at, AreContributionsApart};
 ghost use Rattle.pdb_resolve.specs.ModuleTable.{pieces_from, IsTableOf};
 ghost use Rattle.pdb_resolve.specs.Kept.{range_parts, AreRangesOf};
 
 use crate::range::CodeRange;
-use crate::ranges::Ranges;
+use crate::ranges::{Ranges, covers};
 use pdb::{
     DBISectionContribution, DBISectionContributionIter, DebugInformation, Error, FallibleIterator,
     PdbInternalSectionOffset, Result, Steps,
@@ -48,6 +48,80 @@ fn look_through(
             Ok(None) => return None,
             Err(_) => return None,
         }
+    }
+}
+
+/// The first contribution that has a place, of those that an iterator has left.
+fn first_having(
+    mut contributions: DBISectionContributionIter<'_>,
+    place: PdbInternalSectionOffset,
+) -> Option<DBISectionContribution>
+    ensures { result ≡ find (contributes place) (contributions_left contributions.entry).items }
+{
+    loop {
+        match contributions.next() {
+            Ok(Some(contribution)) => {
+                if contributes(place, &contribution) {
+                    return Some(contribution);
+                }
+            }
+            Ok(None) => return None,
+            Err(_) => return None,
+        }
+    }
+}
+
+/// Whether an iterator has none left.
+fn has_none(mut contributions: DBISectionContributionIter<'_>) -> bool
+    ensures { result ≡ none_listed (contributions_left contributions.entry).items }
+{
+    match contributions.next() {
+        Ok(Some(_contribution)) => false,
+        Ok(None) => true,
+        Err(_) => true,
+    }
+}
+
+/// Whether a DBI stream lists no contribution.
+#[tactic(auto, unfolding(crate::specs::ModulePlaces::contributions_known))]
+fn lists_none(information: &DebugInformation<'_>) -> bool
+    ensures { result ≡ none_listed (contributions_known (Some information.now)) }
+{
+    match information.section_contributions() {
+        Ok(contributions) => has_none(contributions),
+        Err(_) => true,
+    }
+}
+
+/// The first contribution that a DBI stream lists and that has a place.
+#[tactic(auto, unfolding(crate::specs::ModulePlaces::contributions_known))]
+fn first_listed(
+    information: &DebugInformation<'_>,
+    place: PdbInternalSectionOffset,
+) -> Option<DBISectionContribution>
+    ensures { result ≡ find (contributes place) (contributions_known (Some information.now)) }
+{
+    match information.section_contributions() {
+        Ok(contributions) => first_having(contributions, place),
+        Err(_) => None,
+    }
+}
+
+/// Whether the contribution of a place has another place too, by the contributions as they are listed.
+#[tactic(auto, unfolding(crate::specs::ModulePlaces::contributions_known))]
+fn reaches_listed(
+    information: Option<&DebugInformation<'_>>,
+    from: PdbInternalSectionOffset,
+    place: PdbInternalSectionOffset,
+) -> bool
+    ensures { result ≡ reaches from place (contributions_known (option_map (λ d. d.now) information.entry)) }
+{
+    match information {
+        Some(information) => match first_listed(information, from) {
+            Some(contribution) => contributes(place, &contribution),
+            None => lists_none(information),
+        },
+        None => true,
     }
 }
 
@@ -141,11 +215,14 @@ struct ModuleTable {
     ranges: Ranges,
     // By the contributions' numbers.
     modules: Vec<usize>,
+    // As they are listed.
+    listed: Vec<CodeRange>,
 }
 
 /// The table of a DBI stream's contributions.
 fn table_of(alloc: Global, information: Option<&DebugInformation<'_>>) -> Result<ModuleTable>
     ensures table { IfOk result (λ t. IsTableOf (contributions_known (option_map (λ d. d.now) information.entry)) t.ranges t.modules.items) }
+    ensures listed { IfOk result (λ t. AreRangesOf (pieces_from 0 (contributions_known (option_map (λ d. d.now) information.entry))) t.listed.items) }
     ensures refused { IfErr result (λ e. e ≡ Error.OutOfMemory) }
 {
     let rows = rows_listed(alloc, information)?;
@@ -153,7 +230,25 @@ fn table_of(alloc: Global, information: Option<&DebugInformation<'_>>) -> Result
     Ok(ModuleTable {
         ranges,
         modules: rows.modules,
+        listed: rows.ranges,
     })
+}
+
+/// Whether the contribution of a place has another place too, by a table.
+fn reaches_in(
+    table: &ModuleTable,
+    from: PdbInternalSectionOffset,
+    place: PdbInternalSectionOffset,
+) -> bool
+    ensures { (cs : List DBISectionContribution) → IsTableOf cs table.now.ranges table.now.modules.items → AreRangesOf (pieces_from 0 cs) table.now.listed.items → result ≡ reaches from place cs }
+{
+    match table.ranges.find(from) {
+        Some(number) => match table.listed.get(number as usize) {
+            Some(range) => covers(*range, place),
+            None => false,
+        },
+        None => table.listed.is_empty(),
+    }
 }
 
 /// The module at a place, by a table.
@@ -245,5 +340,15 @@ impl<'a> ModulePlaces<'a> {
         ensures lean { self.old.asked ≡ false → IsOk result }
     {
         self.find_counted(alloc, place, &mut Steps::new())
+    }
+    /// Whether the contribution of a place has another place too: the first listed one that has the first place. It is
+    /// true where no contribution is listed. It takes no memory.
+    pub fn reaches(&self, from: PdbInternalSectionOffset, place: PdbInternalSectionOffset) -> bool
+        ensures { result ≡ reaches from place (contributions_known self.now.stream) }
+    {
+        match &self.table {
+            Some(table) => reaches_in(table, from, place),
+            None => reaches_listed(self.information, from, place),
+        }
     }
 }

@@ -1,18 +1,22 @@
 //! The modules of a file, each of which is read once.
 
-ghost use Rattle.std.specs.Prelude.{◌≡◌, ℕ, List, map, replicate, None, ◌<◌, length, option_copied, slice_get, slice_set, vec_len, Some, IfOk, IfErr, OnOk};
+ghost use Rattle.std.specs.Prelude.{◌≡◌, ◌+◌, ℕ, List, map, replicate, None, ◌<◌, length, option_copied, slice_get, slice_set, vec_len, Some, IfOk, IfErr, OnOk, OnErr};
 ghost use Rattle.pdb.specs.Error.TheVariants.{OutOfMemory};
+ghost use Rattle.pdb.specs.ModuleStream.{ModuleBytes};
 ghost use Rattle.pdb.specs.Answers.{module_info_in, debug_information_in};
 ghost use Rattle.pdb.specs.Source.{Continues, MayFail};
 ghost use Rattle.pdb.specs.DbiViews.{modules_left};
 ghost use Rattle.pdb_resolve.specs.AsIfEmpty.{if_found, if_read, OnlyFails};
 ghost use Rattle.pdb_resolve.specs.FileParts.{module_numbered, modules_where};
-ghost use Rattle.pdb_resolve.specs.KeptParts.{AreModulesOf, boxed, code_kept, codes_of, stream_kept, streams_of};
+ghost use Rattle.pdb_resolve.specs.ModuleCode.{begins};
+ghost use Rattle.pdb_resolve.specs.Resolved.{procedures_where};
+ghost use Rattle.pdb_resolve.specs.KeptParts.{AreModulesOf, boxed, code_kept, codes_of, rooms_left, stream_kept, streams_of};
 
 use crate::module_code::ModuleCode;
 use crate::part::put_down;
 use pdb::{
-    DebugInformation, Error, FallibleIterator, Module, ModuleInfo, ModuleIter, PDB, Result, Source,
+    DebugInformation, Error, FallibleIterator, Module, ModuleInfo, ModuleIter, PDB,
+    PdbInternalSectionOffset, Result, Source,
 };
 use std::alloc::Global;
 
@@ -81,6 +85,7 @@ fn rooms_of<'a, 's>(
     rooms: &'a mut Vec<Option<Box<ModuleInfo<'s>>>>,
     count: usize,
 ) -> Result<&'a mut [Option<Box<ModuleInfo<'s>>>]>
+    ensures many { IfOk result (λ r. length r.now ≡ count) }
     ensures refused { IfErr result (λ e. e ≡ Error.OutOfMemory) }
 {
     rooms.clear();
@@ -155,6 +160,8 @@ impl<'a, 's> Modules<'a, 's> {
         ensures continues { Continues pdb.old pdb.new }
         ensures kept { AreModulesOf pdb.old.file self.new }
         ensures read { IfOk result (λ _. code_kept self.new number ≡ module_numbered pdb.old.file number) }
+        // A stream that is kept isn't read again.
+        ensures once { (m : ModuleBytes) → stream_kept self.old number ≡ Some m → rooms_left self.new ≡ rooms_left self.old }
         ensures refused { IfErr result (λ e. OnlyFails (MayFail pdb.old pdb.new) e) }
     {
         if self.code(number).is_some() {
@@ -199,6 +206,8 @@ impl<'a, 's> Modules<'a, 's> {
         ensures listed { self.new.listed ≡ self.old.listed }
         ensures codes { codes_of self.new ≡ codes_of self.old }
         ensures is { IfOk result (λ r. r.now ≡ info.entry) }
+        ensures taken { OnOk result (rooms_left self.old ≡ rooms_left self.new + 1) }
+        ensures untaken { OnErr result (rooms_left self.new ≡ rooms_left self.old) }
         ensures put { OnOk result ((number < length (streams_of self.old)) × (streams_of self.new ≡ slice_set (streams_of self.old) number (Some info.entry))) }
         ensures refused { IfErr result (λ e. (e ≡ OutOfMemory) × (streams_of self.new ≡ streams_of self.old)) }
     {
@@ -214,6 +223,7 @@ impl<'a, 's> Modules<'a, 's> {
     fn keep(&mut self, alloc: Global, number: usize, info: &'a ModuleInfo<'s>) -> Result<()>
         ensures listed { self.new.listed ≡ self.old.listed }
         ensures streams { streams_of self.new ≡ streams_of self.old }
+        ensures rooms { rooms_left self.new ≡ rooms_left self.old }
         ensures kept { OnOk result ((number < length (codes_of self.old)) × (codes_of self.new ≡ slice_set (codes_of self.old) number (Some info.entry.now))) }
         ensures refused { IfErr result (λ e. (e ≡ OutOfMemory) × (codes_of self.new ≡ codes_of self.old)) }
     {
@@ -228,12 +238,50 @@ impl<'a, 's> Modules<'a, 's> {
     /// Puts the stream of the module of a number down, and keeps its code. Where memory ends behind the first, the
     /// stream stays.
     fn put_and_keep(&mut self, alloc: Global, number: usize, info: ModuleInfo<'s>) -> Result<()>
-        ensures kept { (file : List ℕ) → AreModulesOf file self.old → module_numbered file number ≡ Some info.entry → AreModulesOf file self.new }
+        ensures kept { (file : List ℕ) → AreModulesOf file self.old → stream_kept self.old number ≡ None → module_numbered file number ≡ Some info.entry → AreModulesOf file self.new }
         ensures read { IfOk result (λ _. code_kept self.new number ≡ Some info.entry) }
         ensures refused { IfErr result (λ e. e ≡ OutOfMemory) }
     {
         let info = self.put(alloc, number, info)?;
         self.keep(alloc, number, info)
+    }
+
+    /// Whether a procedure of the module of a number begins at a place; none does where its code wasn't read.
+    pub(crate) fn begins(
+        &mut self,
+        alloc: Global,
+        number: usize,
+        place: PdbInternalSectionOffset,
+    ) -> Result<bool>
+        ensures listed { self.new.listed ≡ self.old.listed }
+        ensures streams { streams_of self.new ≡ streams_of self.old }
+        ensures rooms { rooms_left self.new ≡ rooms_left self.old }
+        ensures codes { codes_of self.new ≡ codes_of self.old }
+        ensures begins { IfOk result (λ b. b ≡ begins place (procedures_where (code_kept self.old number))) }
+        ensures refused { IfErr result (λ e. e ≡ OutOfMemory) }
+    {
+        if number >= self.codes.len() {
+            return Ok(false);
+        }
+        match &mut self.codes[number] {
+            Some(code) => code.begins(alloc, place),
+            None => Ok(false),
+        }
+    }
+
+    /// Finds what the sites of the procedure at a place cover, in the module of a number, unless it is known.
+    pub(crate) fn measure(&mut self, alloc: Global, number: usize, place: PdbInternalSectionOffset)
+        ensures listed { self.new.listed ≡ self.old.listed }
+        ensures streams { streams_of self.new ≡ streams_of self.old }
+        ensures rooms { rooms_left self.new ≡ rooms_left self.old }
+        ensures codes { codes_of self.new ≡ codes_of self.old }
+    {
+        if number >= self.codes.len() {
+            return;
+        }
+        if let Some(code) = &mut self.codes[number] {
+            code.measure(alloc, place);
+        }
     }
 
     /// The code of the module of a number, if it was read.

@@ -1,6 +1,6 @@
 //! Parts of a file that are asked for once.
 
-ghost use Rattle.std.specs.Prelude.{◌≡◌, ◌⊎◌, false, Result, option_copied, Err, IfOk, IfErr};
+ghost use Rattle.std.specs.Prelude.{◌≡◌, ◌⊎◌, ◌+◌, false, true, length, Result, option_copied, Err, IfOk, IfErr, OnOk};
 ghost use Rattle.pdb.specs.Refusal.{Gives};
 ghost use Rattle.pdb_resolve.specs.AsIfEmpty.{if_read};
 ghost use Rattle.pdb.specs.Error.{Error};
@@ -12,7 +12,7 @@ use pdb::{Error, Result};
 #[derive(Drop)]
 pub(crate) struct Part<'a, T> {
     // Where it will be put.
-    rooms: &'a mut [Option<T>],
+    pub(crate) rooms: &'a mut [Option<T>],
     // Whether the file was asked.
     pub(crate) asked: bool,
     pub(crate) there: Option<&'a T>,
@@ -21,7 +21,9 @@ pub(crate) struct Part<'a, T> {
 /// Puts a value into the next room.
 pub(crate) fn put_down<'a, T: Drop>(rooms: &mut &'a mut [Option<T>], value: T) -> Result<&'a T>
     ensures put { IfOk result (λ r. r.now ≡ value) }
-    ensures refused { IfErr result (λ e. e ≡ Error.OutOfMemory) }
+    // It takes one room, and is refused only where there is none.
+    ensures taken { OnOk result (length rooms.old.now ≡ length rooms.new.now + 1) }
+    ensures refused { IfErr result (λ e. (e ≡ Error.OutOfMemory) × (length rooms.old.now ≡ 0) × (length rooms.new.now ≡ 0)) }
 {
     let Some((room, others)) = std::mem::take(rooms).split_first_mut() else {
         return Err(Error::OutOfMemory);
@@ -33,7 +35,8 @@ pub(crate) fn put_down<'a, T: Drop>(rooms: &mut &'a mut [Option<T>], value: T) -
 impl<'a, T: Drop> Part<'a, T> {
     /// A part that wasn't asked for yet.
     pub(crate) fn unasked(rooms: &'a mut [Option<T>]) -> Self
-        ensures { result.asked ≡ false }
+        ensures unasked { result.asked ≡ false }
+        ensures rooms { length result.rooms.now ≡ length rooms.entry.now }
     {
         Part {
             rooms,
@@ -48,7 +51,11 @@ impl<'a, T: Drop> Part<'a, T> {
         requires { self.old.asked ≡ false }
         ensures is { (reading : Result T Error) → Gives (λ x. x) Unit answer reading → IfOk result (λ o. option_copied o ≡ if_read reading) }
         ensures kept { IfOk result (λ o. self.new.there ≡ o) }
+        ensures asked { OnOk result (self.new.asked ≡ true) }
         ensures again { IfErr result (λ _. self.new.asked ≡ false) }
+        // What is refused takes no room, and is refused where the answer was, or no room is left.
+        ensures rooms { IfErr result (λ _. length self.new.rooms.now ≡ length self.old.rooms.now) }
+        ensures passed { IfErr result (λ e. (answer ≡ Err e) ⊎ (length self.old.rooms.now ≡ 0)) }
         ensures refused { IfErr result (λ e. (e ≡ OutOfMemory) ⊎ ((e ≡ IoError) × (answer ≡ Err IoError))) }
     {
         match answer {

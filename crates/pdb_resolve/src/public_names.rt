@@ -2,10 +2,9 @@
 
 ghost use Rattle.std.specs.Prelude.{◌≡◌, ◌+◌, ◌≤◌, ◌<◌, ◌^◌, ℕ, true, false, length, IfOk, IfErr, IsOk};
 ghost use Rattle.std.specs.Option.{option_map};
-ghost use Rattle.pdb.specs.Text.{name_bytes};
 ghost use Rattle.pdb.specs.Views.{symbols_left};
-ghost use Rattle.pdb_resolve.specs.PublicNames.{publics_in, public_name_at};
-ghost use Rattle.pdb_resolve.specs.PublicTable.{head_name, IsPublicTable};
+ghost use Rattle.pdb_resolve.specs.PublicNames.{publics_in, public_at};
+ghost use Rattle.pdb_resolve.specs.PublicTable.{head_public, shown_found, IsPublicTable};
 
 use crate::public_table::{PublicTable, find_in, table_of};
 use crate::publics::{nearest, public_of};
@@ -16,13 +15,25 @@ use pdb::{
 use std::alloc::Global;
 use std::marker::Model;
 
-/// The name of the first symbol that an iterator has left, where it is public.
-fn first_name<'t>(alloc: Global, mut symbols: SymbolIter<'t>) -> Option<RawString<'t>>
-    ensures { option_map name_bytes result ≡ head_name (symbols_left symbols.entry).items }
+/// A public symbol before a place: where it stands, and its name as the file has it.
+#[derive(Clone, Copy, Debug, PartialEq)]
+pub struct PublicName<'a> {
+    /// Where it stands.
+    pub place: PdbInternalSectionOffset,
+    /// Its name.
+    pub name: RawString<'a>,
+}
+
+/// The first symbol that an iterator has left, where it is public.
+fn first_public<'t>(alloc: Global, mut symbols: SymbolIter<'t>) -> Option<PublicName<'t>>
+    ensures { option_map shown_found result ≡ head_public (symbols_left symbols.entry).items }
 {
     match symbols.next() {
         Ok(Some(symbol)) => match public_of(alloc, &symbol) {
-            Some(public) => Some(public.name),
+            Some(public) => Some(PublicName {
+                place: public.place,
+                name: public.name,
+            }),
             None => None,
         },
         Ok(None) => None,
@@ -30,43 +41,46 @@ fn first_name<'t>(alloc: Global, mut symbols: SymbolIter<'t>) -> Option<RawStrin
     }
 }
 
-/// The name of the public symbol before a place, by the symbols as they are listed.
+/// The public symbol before a place, by the symbols as they are listed.
 #[tactic(auto, unfolding(crate::specs::PublicNames::publics_in))]
-fn name_listed<'a>(
+fn public_listed<'a>(
     alloc: Global,
     symbols: &'a SymbolTable<'a>,
     place: PdbInternalSectionOffset,
     steps: &mut Steps,
-) -> Option<RawString<'a>>
-    ensures name { option_map name_bytes result ≡ public_name_at place (Some symbols.entry.now) }
+) -> Option<PublicName<'a>>
+    ensures public { option_map shown_found result ≡ public_at place (Some symbols.entry.now) }
     ensures few { steps.new.count ≤ steps.old.count + length (publics_in (Some symbols.entry.now)) }
 {
     match nearest(alloc, symbols.iter(), place, steps) {
-        Some(public) => Some(public.name),
+        Some(public) => Some(PublicName {
+            place: public.place,
+            name: public.name,
+        }),
         None => None,
     }
 }
 
-/// The name of the public symbol before a place, by a table of the symbols.
-fn name_in<'a>(
+/// The public symbol before a place, by a table of the symbols.
+fn public_in<'a>(
     alloc: Global,
     symbols: &'a SymbolTable<'a>,
     table: &PublicTable,
     place: PdbInternalSectionOffset,
     steps: &mut Steps,
-) -> Option<RawString<'a>>
+) -> Option<PublicName<'a>>
     requires { IsPublicTable (publics_in (Some symbols.now)) table.now.sorted.items }
-    ensures name { option_map name_bytes result ≡ public_name_at place (Some symbols.entry.now) }
+    ensures public { option_map shown_found result ≡ public_at place (Some symbols.entry.now) }
     ensures halved { (digits : ℕ) → length (publics_in (Some symbols.entry.now)) < 2 ^ digits → steps.new.count ≤ steps.old.count + digits }
     ensures few { steps.new.count ≤ steps.old.count + length (publics_in (Some symbols.entry.now)) }
 {
     match find_in(table, place, steps) {
-        Some(index) => first_name(alloc, symbols.iter_at(SymbolIndex(index))),
+        Some(index) => first_public(alloc, symbols.iter_at(SymbolIndex(index))),
         None => None,
     }
 }
 
-/// The public symbols of a stream, of which the name before a place is found. A contract sees them as the stream, if
+/// The public symbols of a stream, of which the one before a place is found. A contract sees them as the stream, if
 /// there is one, and whether it was asked for a place.
 #[derive(Drop)]
 pub struct PublicNames<'a> {
@@ -101,7 +115,7 @@ impl<'a> PublicNames<'a> {
         }
     }
 
-    /// The name of the public symbol before a place, as `find`, with a step for each look at a public symbol: never more
+    /// The public symbol before a place, as `find`, with a step for each look at a public symbol: never more
     /// than there are. From the second question on there are at most as many as their number has binary digits; those
     /// to make the table aren't counted.
     pub fn find_counted(
@@ -109,8 +123,8 @@ impl<'a> PublicNames<'a> {
         alloc: Global,
         place: PdbInternalSectionOffset,
         steps: &mut Steps,
-    ) -> Result<Option<RawString<'a>>>
-        ensures found { IfOk result (λ n. option_map name_bytes n ≡ public_name_at place self.old.stream) }
+    ) -> Result<Option<PublicName<'a>>>
+        ensures found { IfOk result (λ n. option_map shown_found n ≡ public_at place self.old.stream) }
         ensures kept { self.new ≡ record { stream = self.old.stream; asked = true } }
         ensures refused { IfErr result (λ e. e ≡ Error.OutOfMemory) }
         ensures lean { self.old.asked ≡ false → IsOk result }
@@ -125,18 +139,18 @@ impl<'a> PublicNames<'a> {
             None => return Ok(None),
         };
         if let Some(table) = &self.table {
-            return Ok(name_in(alloc, symbols, table, place, steps));
+            return Ok(public_in(alloc, symbols, table, place, steps));
         }
         if !asked {
-            return Ok(name_listed(alloc, symbols, place, steps));
+            return Ok(public_listed(alloc, symbols, place, steps));
         }
         let table = table_of(alloc, symbols)?;
-        let name = name_in(alloc, symbols, &table, place, steps);
+        let public = public_in(alloc, symbols, &table, place, steps);
         self.table = Some(table);
-        Ok(name)
+        Ok(public)
     }
 
-    /// The name of the public symbol before a place: of those in its section that stand there or before it, the one of
+    /// The public symbol before a place: of those in its section that stand there or before it, the one of
     /// the greatest offset, and of several at one offset the first listed; none where there is none. A symbol that can't
     /// be read is as if it weren't there. The first question is one pass over the symbols, which takes no memory; at the
     /// second a table is made and kept, and later ones are looked up there. It is refused for want of memory alone, and
@@ -145,8 +159,8 @@ impl<'a> PublicNames<'a> {
         &mut self,
         alloc: Global,
         place: PdbInternalSectionOffset,
-    ) -> Result<Option<RawString<'a>>>
-        ensures found { IfOk result (λ n. option_map name_bytes n ≡ public_name_at place self.old.stream) }
+    ) -> Result<Option<PublicName<'a>>>
+        ensures found { IfOk result (λ n. option_map shown_found n ≡ public_at place self.old.stream) }
         ensures kept { self.new ≡ record { stream = self.old.stream; asked = true } }
         ensures refused { IfErr result (λ e. e ≡ Error.OutOfMemory) }
         ensures lean { self.old.asked ≡ false → IsOk result }

@@ -69,7 +69,7 @@ fn is_in_order(ranges: &[CodeRange]) -> bool
 }
 
 /// Whether a range covers a place.
-fn covers(range: CodeRange, place: PdbInternalSectionOffset) -> bool
+pub(crate) fn covers(range: CodeRange, place: PdbInternalSectionOffset) -> bool
     ensures { result ≡ covers place range }
 {
     range.place.section == place.section

@@ -4,20 +4,24 @@ ghost use Rattle.std.specs.Prelude.{◌≡◌, ◌++◌, [], ◌∷◌, map, fil
 ghost use Rattle.std.specs.Option.{option_map, option_to_list};
 ghost use Rattle.pdb.specs.Views.{symbol_of, symbols_left};
 ghost use Rattle.pdb_resolve.specs.ModuleCode.{procedure_of, other_of};
+ghost use Rattle.std.specs.List.{All};
 ghost use Rattle.pdb_resolve.specs.Kept.{range_parts, code_parts, AreRangesOf, site_of};
+ghost use Rattle.pdb_resolve.specs.Listed.{shown_procedure, entry_of, IsBounded};
 
+use crate::procedures::ListedProcedure;
 use crate::range::CodeRange;
 use crate::role::{Role, Span, role_of};
+use crate::site::KeptSite;
 use pdb::{Error, FallibleIterator, Result, Symbol, SymbolIndex, SymbolIter};
 use std::alloc::Global;
 
-/// The ranges of a module's procedures, and of its thunks and separated code, whose payload is the symbol's index; and
-/// the sites of its inlined functions.
+/// A module's procedures; the ranges of its thunks and separated code, whose payload is the symbol's index; and the
+/// sites of its inlined functions.
 #[derive(Drop)]
 pub(crate) struct Rows<'t> {
-    pub(crate) procedures: Vec<CodeRange>,
+    pub(crate) procedures: Vec<ListedProcedure>,
     pub(crate) others: Vec<CodeRange>,
-    pub(crate) sites: Vec<Symbol<'t>>,
+    pub(crate) sites: Vec<KeptSite<'t>>,
 }
 
 /// One more range.
@@ -32,12 +36,34 @@ fn push(rows: &mut Vec<CodeRange>, span: Span, index: SymbolIndex) -> Result<()>
     }
 }
 
-/// One more site.
-fn push_site<'t>(sites: &mut Vec<Symbol<'t>>, symbol: &Symbol<'t>) -> Result<()>
-    ensures pushed { OnOk result (map symbol_of sites.new.items ≡ map symbol_of sites.old.items ++ symbol_of symbol.now ∷ []) }
+/// One more procedure.
+fn push_procedure(
+    procedures: &mut Vec<ListedProcedure>,
+    span: Span,
+    index: SymbolIndex,
+) -> Result<()>
+    ensures pushed { OnOk result (map shown_procedure procedures.new.items ≡ map shown_procedure procedures.old.items ++ record { index = index.0; place = span.place; length = span.length; end = span.end.0 } ∷ []) }
     ensures refused { IfErr result (λ e. e ≡ Error.OutOfMemory) }
 {
-    match sites.push(*symbol) {
+    let procedure = ListedProcedure {
+        place: span.place,
+        length: span.length,
+        index: index.0,
+        end: span.end.0,
+    };
+    match procedures.push(procedure) {
+        Ok(()) => Ok(()),
+        Err(_) => Err(Error::OutOfMemory),
+    }
+}
+
+/// One more site.
+fn push_site<'t>(sites: &mut Vec<KeptSite<'t>>, symbol: &Symbol<'t>) -> Result<()>
+    ensures pushed { OnOk result (map entry_of sites.new.items ≡ map entry_of sites.old.items ++ symbol_of symbol.now ∷ []) }
+    ensures bounded { All IsBounded sites.old.items → OnOk result (All IsBounded sites.new.items) }
+    ensures refused { IfErr result (λ e. e ≡ Error.OutOfMemory) }
+{
+    match sites.push(KeptSite::new(symbol)) {
         Ok(()) => Ok(()),
         Err(_) => Err(Error::OutOfMemory),
     }
@@ -45,14 +71,15 @@ fn push_site<'t>(sites: &mut Vec<Symbol<'t>>, symbol: &Symbol<'t>) -> Result<()>
 
 /// One more symbol.
 fn add<'t>(alloc: Global, rows: &mut Rows<'t>, symbol: &Symbol<'t>) -> Result<()>
-    ensures procedures { OnOk result (map range_parts rows.new.procedures.items ≡ map range_parts rows.old.procedures.items ++ map code_parts (option_to_list (procedure_of (symbol_of symbol.now)))) }
+    ensures procedures { OnOk result (map shown_procedure rows.new.procedures.items ≡ map shown_procedure rows.old.procedures.items ++ option_to_list (procedure_of (symbol_of symbol.now))) }
     ensures others { OnOk result (map range_parts rows.new.others.items ≡ map range_parts rows.old.others.items ++ map code_parts (option_to_list (other_of (symbol_of symbol.now)))) }
-    ensures sites { OnOk result (map symbol_of rows.new.sites.items ≡ map symbol_of rows.old.sites.items ++ option_to_list (site_of (symbol_of symbol.now))) }
+    ensures sites { OnOk result (map entry_of rows.new.sites.items ≡ map entry_of rows.old.sites.items ++ option_to_list (site_of (symbol_of symbol.now))) }
+    ensures bounded { All IsBounded rows.old.sites.items → OnOk result (All IsBounded rows.new.sites.items) }
     ensures refused { IfErr result (λ e. e ≡ Error.OutOfMemory) }
 {
     let index = symbol.index();
     match role_of(alloc, symbol) {
-        Ok(Role::Procedure(span)) => push(&mut rows.procedures, span, index),
+        Ok(Role::Procedure(span)) => push_procedure(&mut rows.procedures, span, index),
         Ok(Role::Other(span)) => push(&mut rows.others, span, index),
         Ok(Role::Site(_)) => push_site(&mut rows.sites, symbol),
         Ok(Role::Passed) => Ok(()),
@@ -60,11 +87,12 @@ fn add<'t>(alloc: Global, rows: &mut Rows<'t>, symbol: &Symbol<'t>) -> Result<()
     }
 }
 
-/// The ranges and the sites of the symbols that an iterator has left, up to its fault.
+/// The procedures, the ranges and the sites of the symbols that an iterator has left, up to its fault.
 pub(crate) fn rows_of<'t>(alloc: Global, mut symbols: SymbolIter<'t>) -> Result<Rows<'t>>
-    ensures procedures { IfOk result (λ rows. AreRangesOf (filter_map procedure_of (symbols_left symbols.entry).items) rows.procedures.items) }
+    ensures procedures { IfOk result (λ rows. map shown_procedure rows.procedures.items ≡ filter_map procedure_of (symbols_left symbols.entry).items) }
     ensures others { IfOk result (λ rows. AreRangesOf (filter_map other_of (symbols_left symbols.entry).items) rows.others.items) }
-    ensures sites { IfOk result (λ rows. map symbol_of rows.sites.items ≡ filter_map site_of (symbols_left symbols.entry).items) }
+    ensures sites { IfOk result (λ rows. map entry_of rows.sites.items ≡ filter_map site_of (symbols_left symbols.entry).items) }
+    ensures bounded { IfOk result (λ rows. All IsBounded rows.sites.items) }
     ensures refused { IfErr result (λ e. e ≡ Error.OutOfMemory) }
 {
     let mut rows = Rows {

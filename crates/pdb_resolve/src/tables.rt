@@ -9,9 +9,8 @@ ghost use Rattle.pdb_resolve.specs.AsIfEmpty.{if_read, OnlyFails};
 ghost use Rattle.pdb_resolve.specs.FileParts.{names_in};
 ghost use Rattle.pdb_resolve.specs.Frames.{frames_in, inlined_frame, outer_name};
 ghost use Rattle.pdb_resolve.specs.ModuleCode.{program_in, inlined_at};
-ghost use Rattle.pdb_resolve.specs.Resolved.{public_of_file};
 ghost use Rattle.pdb_resolve.specs.KeptFrames.{shown_frame};
-ghost use Rattle.pdb_resolve.specs.KeptParts.{IsAskedOf, AreTablesOf, AreGlobalsOf};
+ghost use Rattle.pdb_resolve.specs.KeptParts.{IsAskedOf, AreTablesOf};
 
 use crate::frames::{Frame, push_inlined, push_outer};
 use crate::global_names::GlobalNames;
@@ -78,49 +77,46 @@ fn inlined_frames<'a, 's, S: Source<'s>>(
 }
 
 /// The name of the function at a place, or of the public symbol before it where no function is there.
-fn outer_name<'a, 's, S: Source<'s>>(
+fn outer_name<'a>(
     alloc: Global,
-    pdb: &mut PDB<'s, S>,
-    globals: &mut GlobalNames<'a, 's>,
     code: &ModuleCode<'a>,
+    public: Option<RawString<'a>>,
     place: PdbInternalSectionOffset,
 ) -> Result<Option<RawString<'a>>>
-    requires { AreGlobalsOf pdb.old.file globals.old }
-    ensures continues { Continues pdb.old pdb.new }
-    ensures kept { AreGlobalsOf pdb.old.file globals.new }
-    ensures name { IfOk result (λ n. option_map name_bytes n ≡ outer_name (public_of_file pdb.old.file place) place code.now) }
-    ensures refused { IfErr result (λ e. OnlyFails (MayFail pdb.old pdb.new) e) }
+    ensures name { IfOk result (λ n. option_map name_bytes n ≡ outer_name (option_map name_bytes public.entry) place code.now) }
+    ensures refused { IfErr result (λ e. e ≡ Error.OutOfMemory) }
 {
     if let Some(name) = code.function_name(alloc, place)? {
         return Ok(Some(name));
     }
     match code.function(place) {
         Some(_) => Ok(None),
-        None => globals.find(alloc, pdb, place),
+        None => Ok(public),
     }
 }
 
 impl<'a, 's> Tables<'a, 's> {
     ghost use Rattle.pdb_resolve.specs.KeptNames.{AreNamesOf};
 
-    /// The frames of a place in a module.
+    /// The frames of a place in a module, and the public symbol before it.
     #[tactic(auto, unfolding(crate::specs::Frames::frames_in, crate::specs::FileParts::names_in))]
     pub(crate) fn frames<S: Source<'s>>(
         &mut self,
         alloc: Global,
         pdb: &mut PDB<'s, S>,
         code: &ModuleCode<'a>,
+        public: Option<RawString<'a>>,
         place: PdbInternalSectionOffset,
     ) -> Result<Vec<Frame<'a>>>
         requires { AreNamesOf pdb.old.file self.old }
         ensures continues { Continues pdb.old pdb.new }
         ensures kept { AreNamesOf pdb.old.file self.new }
-        ensures frames { IfOk result (λ fs. map shown_frame fs.items ≡ frames_in (names_in pdb.old.file) (public_of_file pdb.old.file place) place code.now) }
+        ensures frames { IfOk result (λ fs. map shown_frame fs.items ≡ frames_in (names_in pdb.old.file) (option_map name_bytes public.entry) place code.now) }
         ensures refused { IfErr result (λ e. OnlyFails (MayFail pdb.old pdb.new) e) }
     {
         let strings = strings_asked(pdb, &mut self.strings)?;
         let mut frames = inlined_frames(alloc, pdb, &mut self.names, code, strings, place)?;
-        let name = outer_name(alloc, pdb, &mut self.globals, code, place)?;
+        let name = outer_name(alloc, code, public, place)?;
         push_outer(&mut frames, code, strings, name, place)?;
         Ok(frames)
     }

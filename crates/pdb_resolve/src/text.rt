@@ -5,46 +5,58 @@ ghost use Rattle.std.specs.Fmt.{decimal};
 ghost use Rattle.std.specs.Option.{option_map};
 ghost use Rattle.pdb.specs.Qualified.{shown_qualified};
 ghost use Rattle.pdb.specs.Text.{name_bytes};
-ghost use Rattle.pdb_resolve.specs.Frames.{qualified_text, scope_text, file_text, frame_text, frames_text};
+ghost use Rattle.pdb_resolve.specs.Frames.{known_text, scoped_text, name_text, file_text, frame_text, frames_text};
 ghost use Rattle.pdb_resolve.specs.KeptFrames.{shown_frame};
 
 use crate::frames::Frame;
 use pdb::{QualifiedName, RawString};
-use pdb_text::{put_decimal, put_line_end};
+use pdb_text::{put_decimal, put_line_end, put_one_line};
 use std::alloc::AllocError;
 
-/// What stands before a name.
-fn put_scope(out: &mut Vec<u8>, scope: Option<RawString<'_>>) -> Result<(), AllocError>
-    ensures { OnOk result (out.new.items ≡ out.old.items ++ scope_text (option_map name_bytes scope.entry)) }
+/// A name on one line, `??` where it is empty.
+fn put_known(out: &mut Vec<u8>, name: &[u8]) -> Result<(), AllocError>
+    ensures { OnOk result (out.new.items ≡ out.old.items ++ known_text name.now) }
+{
+    if name.is_empty() {
+        return out.extend_from_slice(b"??");
+    }
+    put_one_line(out, name)
+}
+
+/// A function's name behind what stands before it.
+fn put_scoped(
+    out: &mut Vec<u8>,
+    scope: Option<RawString<'_>>,
+    name: RawString<'_>,
+) -> Result<(), AllocError>
+    ensures { OnOk result (out.new.items ≡ out.old.items ++ scoped_text (option_map name_bytes scope.entry) (name_bytes name.entry)) }
 {
     match scope {
         Some(scope) => {
-            out.extend_from_slice(scope.as_bytes())?;
-            out.extend_from_slice(b"::")
+            put_one_line(out, scope.as_bytes())?;
+            out.extend_from_slice(b"::")?;
+            put_one_line(out, name.as_bytes())
         }
-        None => Ok(()),
+        None => put_known(out, name.as_bytes()),
     }
 }
 
-/// A function's name, or `??` where there is none.
+/// A function's name, `??` where there is none.
 fn put_name(out: &mut Vec<u8>, name: Option<QualifiedName<'_>>) -> Result<(), AllocError>
-    ensures { OnOk result (out.new.items ≡ out.old.items ++ qualified_text (option_map shown_qualified name.entry)) }
+    ensures { OnOk result (out.new.items ≡ out.old.items ++ name_text (option_map shown_qualified name.entry)) }
 {
     match name {
-        Some(name) => {
-            put_scope(out, name.scope)?;
-            out.extend_from_slice(name.name.as_bytes())
-        }
+        Some(name) => put_scoped(out, name.scope, name.name),
         None => out.extend_from_slice(b"??"),
     }
 }
 
-/// A file's name, or `??` where there is none.
-fn put_file(out: &mut Vec<u8>, file: Option<RawString<'_>>) -> Result<(), AllocError>
+/// Appends the name of a source file on one line, `??` where there is none or it is empty.
+pub fn put_file(out: &mut Vec<u8>, file: Option<RawString<'_>>) -> Result<(), AllocError>
     ensures { OnOk result (out.new.items ≡ out.old.items ++ file_text (option_map name_bytes file.entry)) }
 {
     match file {
-        Some(file) => out.extend_from_slice(file.as_bytes()),
+        Some(file) => put_known(out, file.as_bytes()),
         None => out.extend_from_slice(b"??"),
     }
 }

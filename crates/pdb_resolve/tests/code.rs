@@ -12,23 +12,23 @@ use std::alloc::Global;
 use std::process::Abort;
 
 /// The index that no scope of these modules reaches.
-const END: u32 = 10_000;
+pub const END: u32 = 10_000;
 
 /// A module's symbols; those of its inlined functions that are listed are 0x1001 and 0x1002.
 #[derive(Drop)]
-struct Symbols {
-    bytes: Vec<u8>,
+pub struct Symbols {
+    pub bytes: Vec<u8>,
 }
 
 impl Symbols {
-    fn new(alloc: Global) -> Result<Self> {
+    pub fn new(alloc: Global) -> Result<Self> {
         let mut bytes = Vec::new(alloc);
         bytes.extend_from_slice(&[4, 0, 0, 0])?;
         Ok(Symbols { bytes })
     }
 
     /// The index of the next symbol.
-    fn next(&self) -> u32 {
+    pub fn next(&self) -> u32 {
         self.bytes.len().min(60_000) as u32
     }
 
@@ -47,7 +47,7 @@ impl Symbols {
 
     /// A procedure of so many bytes in section 1, whose scope ends at `end`. Its section, its flags and its name stand
     /// in `rest`.
-    fn procedure(&mut self, offset: u32, length: u32, end: u32, rest: &[u8]) -> Result<u32> {
+    pub fn procedure(&mut self, offset: u32, length: u32, end: u32, rest: &[u8]) -> Result<u32> {
         self.push(0x1110, &[0, end, 0, length, 0, 0, 0, offset], rest)
     }
 
@@ -75,7 +75,7 @@ fn stands(
     let mut bytes = symbols.bytes.clone()?;
     bytes.extend_from_slice(&INLINEES)?;
     let info = info_of(rt, bytes.as_slice(), (size, 0, 36))?;
-    let code = ModuleCode::new(alloc, &info)?;
+    let mut code = ModuleCode::new(alloc, &info)?;
     let place = PdbInternalSectionOffset::new(1, offset);
     is(
         rt,
@@ -87,9 +87,23 @@ fn stands(
         (Some(name), Some(wanted)) => is(rt, "name", &name.as_bytes(), &wanted.as_bytes()),
         (given, wanted) => assert!(rt; given.is_none() && wanted.is_none(), "one has a name"),
     }
+    calls_are(rt, alloc, &code, place, wanted.2)?;
+    // They are the same once it is known what the sites cover.
+    code.measure(alloc, place);
+    calls_are(rt, alloc, &code, place, wanted.2)
+}
+
+/// These ids and lines are inlined at a place.
+fn calls_are(
+    rt: &impl Abort,
+    alloc: Global,
+    code: &ModuleCode<'_>,
+    place: PdbInternalSectionOffset,
+    wanted: &[(u32, u32)],
+) -> Result<()> {
     let calls = code.inlined(alloc, place)?;
-    is(rt, "calls", &calls.len(), &wanted.2.len());
-    for (call, wanted) in calls.as_slice().iter().zip(wanted.2) {
+    is(rt, "calls", &calls.len(), &wanted.len());
+    for (call, wanted) in calls.as_slice().iter().zip(wanted) {
         is(rt, "call", &(call.id.0, call.line.line_start), wanted);
     }
     Ok(())
@@ -168,6 +182,42 @@ fn separated_code_has_its_procedures_name(rt: HostRuntime) -> Result<()> {
     )?;
     stands(&rt, alloc, &symbols, 0x30f, (Some(none), None, &[]))?;
     stands(&rt, alloc, &symbols, 0x210, (None, None, &[]))
+}
+
+#[test]
+fn a_procedure_begins_at_its_own_offset_alone(rt: HostRuntime) -> Result<()> {
+    let alloc = rt.alloc();
+    let mut symbols = Symbols::new(alloc)?;
+    symbols.procedure(0x100, 0x10, END, b"\x01\0\0code\0")?;
+    symbols.procedure(0x120, 0, END, b"\x01\0\0none\0")?;
+    symbols.procedure(0x130, 0x10, END, b"\x02\0\0other\0")?;
+    symbols.procedure(0xffff_ffff, 2, END, b"\x01\0\0last\0")?;
+    // Two procedures at one offset, and a thunk.
+    symbols.procedure(0x100, 0x20, END, b"\x01\0\0same\0")?;
+    symbols.push(0x1102, &[0, END, 0, 0x140], b"\x01\0\x20\0\0thunk\0")?;
+    let size = symbols.next();
+    let info = info_of(&rt, symbols.bytes.as_slice(), (size, 0, 0))?;
+    let mut code = ModuleCode::new(alloc, &info)?;
+    let rows = [
+        (1, 0x100, true),
+        (1, 0x101, false),
+        (1, 0xff, false),
+        // Its procedure has no byte.
+        (1, 0x120, true),
+        (1, 0x121, false),
+        (1, 0x130, false),
+        (2, 0x130, true),
+        (1, 0x140, false),
+        (1, 0xffff_ffff, true),
+    ];
+    for (section, offset, wanted) in &rows {
+        let place = PdbInternalSectionOffset::new(*section, *offset);
+        for _ in 0..2 {
+            let given = (*section, *offset, code.begins(alloc, place)?);
+            is(&rt, "begins", &given, &(*section, *offset, *wanted));
+        }
+    }
+    Ok(())
 }
 
 /// A record of eight bytes that begins 4 bytes behind the last one.
@@ -262,11 +312,14 @@ fn records_without_bytes_or_length_cover_nothing(rt: HostRuntime) -> Result<()> 
     )
 }
 
-/// The ids that are inlined at these offsets in section 1, one after another.
-fn ids_at(alloc: Global, code: &ModuleCode<'_>, offsets: &[u32]) -> Result<Vec<(u32, u32)>> {
+/// The ids that are inlined at these offsets in section 1, one after another, each once it is known what the sites of
+/// its procedure cover.
+fn ids_at(alloc: Global, code: &mut ModuleCode<'_>, offsets: &[u32]) -> Result<Vec<(u32, u32)>> {
     let mut ids = Vec::new(alloc);
     for offset in offsets {
-        let calls = code.inlined(alloc, PdbInternalSectionOffset::new(1, *offset))?;
+        let place = PdbInternalSectionOffset::new(1, *offset);
+        code.measure(alloc, place);
+        let calls = code.inlined(alloc, place)?;
         for call in calls.as_slice() {
             ids.push((*offset, call.id.0))?;
         }
@@ -292,10 +345,10 @@ fn sites_are_those_of_their_procedure_in_any_order(rt: HostRuntime) -> Result<()
     let mut bytes = symbols.bytes.clone()?;
     bytes.extend_from_slice(&INLINEES)?;
     let info = info_of(&rt, bytes.as_slice(), (size, 0, 36))?;
-    let code = ModuleCode::new(alloc, &info)?;
+    let mut code = ModuleCode::new(alloc, &info)?;
     let ids = ids_at(
         alloc,
-        &code,
+        &mut code,
         &[0x304, 0x204, 0x104, 0x20c, 0x10b, 0x304, 0x204],
     )?;
     let wanted = [

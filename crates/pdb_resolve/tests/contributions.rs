@@ -55,6 +55,28 @@ fn modules_are(
     Ok(())
 }
 
+/// Whether the contribution of the first offset in section 1 has the second offset too is this, whatever was asked
+/// before. The table is made at the second question for a module.
+fn reaches_are(
+    rt: &impl Abort,
+    alloc: Global,
+    dbi: &[u8],
+    rows: &[(u32, u32, bool)],
+) -> Result<()> {
+    let information = DebugInformation::parse(Stream::new(dbi).expect(rt, "a short stream"))?;
+    let mut asked = places(&information);
+    for questions in 0..4 {
+        for (from, to, wanted) in rows {
+            let public = PdbInternalSectionOffset::new(1, *from);
+            let given = asked.reaches(public, PdbInternalSectionOffset::new(1, *to));
+            let wanted = (questions, *from, *to, *wanted);
+            is(rt, "reaches", &(questions, *from, *to, given), &wanted);
+        }
+        asked.find(alloc, PdbInternalSectionOffset::new(1, 0))?;
+    }
+    Ok(())
+}
+
 #[test]
 fn contributions_are_found(rt: HostRuntime) -> Result<()> {
     let listed = [
@@ -112,5 +134,86 @@ fn contributions_before_a_fault_count(rt: HostRuntime) -> Result<()> {
         let given = none.find(rt.alloc(), PdbInternalSectionOffset::new(1, 0))?;
         is(&rt, "no stream", &given, &None);
     }
+    Ok(())
+}
+
+#[test]
+fn a_contribution_has_its_own_bytes(rt: HostRuntime) -> Result<()> {
+    let alloc = rt.alloc();
+    // The first has no byte, and the last stands in another section.
+    let listed = [
+        (1, 0x10, 0, 1),
+        (1, 0x20, 0x10, 1),
+        (1, 0x10, 0x10, 1),
+        (2, 0x30, 0x10, 1),
+    ];
+    let rows = [
+        (0x10, 0x10, true),
+        (0x10, 0x1f, true),
+        (0x1f, 0x1f, true),
+        (0x1f, 0x10, true),
+        // The next contribution, of the same module.
+        (0x10, 0x20, false),
+        (0x20, 0x1f, false),
+        (0x20, 0x2f, true),
+        // No contribution has the one, or the other.
+        (0x20, 0x30, false),
+        (0x0f, 0x10, false),
+        (0x30, 0x30, false),
+        (0x30, 0x31, false),
+    ];
+    reaches_are(&rt, alloc, &dbi(alloc, &listed, 0)?, &rows)?;
+    let information = dbi(alloc, &[(1, 0xffff_fff0, 0x20, 1)], 0)?;
+    reaches_are(
+        &rt,
+        alloc,
+        &information,
+        &[(0xffff_fff0, 0xffff_ffff, true), (0, 1, false)],
+    )
+}
+
+#[test]
+fn of_contributions_that_overlap_the_first_listed_one_of_the_first_offset_counts(
+    rt: HostRuntime,
+) -> Result<()> {
+    let alloc = rt.alloc();
+    let listed = [(1, 8, 8, 0), (1, 0, 12, 1), (1, 4, 100, 2)];
+    let rows = [
+        // From 0 to 8 that is the second.
+        (0, 11, true),
+        (0, 12, false),
+        (7, 11, true),
+        (7, 12, false),
+        // From 8 to 16 the first.
+        (8, 15, true),
+        (8, 16, false),
+        (8, 7, false),
+        (15, 8, true),
+        (15, 4, false),
+        // From 16 on the third.
+        (16, 103, true),
+        (16, 104, false),
+        (16, 4, true),
+        (16, 3, false),
+    ];
+    reaches_are(&rt, alloc, &dbi(alloc, &listed, 0)?, &rows)
+}
+
+#[test]
+fn without_contributions_every_offset_counts(rt: HostRuntime) -> Result<()> {
+    let alloc = rt.alloc();
+    let every = [(0, 0, true), (0, 8, true), (8, 0, true)];
+    // An empty list, one that can't be read, and one whose first contribution is cut.
+    reaches_are(&rt, alloc, &dbi(alloc, &[], 0)?, &every)?;
+    reaches_are(&rt, alloc, &dbi(alloc, &[], 1)?, &every)?;
+    reaches_are(&rt, alloc, &dbi(alloc, &[(1, 0, 8, 1)], 1)?, &every)?;
+    // Those before a fault count.
+    let cut = dbi(alloc, &[(1, 0, 8, 1), (1, 8, 8, 1)], 1)?;
+    let rows = [(0, 7, true), (0, 8, false), (8, 8, false)];
+    reaches_are(&rt, alloc, &cut, &rows)?;
+    let none = ModulePlaces::new(None);
+    let place = PdbInternalSectionOffset::new(1, 0);
+    let other = PdbInternalSectionOffset::new(2, 0);
+    is(&rt, "no stream", &none.reaches(place, other), &true);
     Ok(())
 }

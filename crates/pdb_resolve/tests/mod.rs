@@ -6,7 +6,9 @@ mod contributions;
 mod files;
 mod modules;
 mod names;
+mod publics;
 mod resolver;
+mod text;
 
 use crate::{CodeRange, Ranges};
 use pdb::{PdbInternalSectionOffset, Steps};

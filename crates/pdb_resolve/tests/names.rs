@@ -1,7 +1,7 @@
-//! The names of the public symbols before places.
+//! The public symbols before places.
 
-use crate::PublicNames;
 use crate::tests::files::is;
+use crate::{PublicName, PublicNames};
 use pdb::{PdbInternalSectionOffset, Result, Stream, SymbolTable};
 use std::alloc::Global;
 use std::process::Abort;
@@ -23,12 +23,19 @@ fn publics<'a>(symbols: &'a SymbolTable<'a>) -> PublicNames<'a> {
     PublicNames::new(Some(symbols))
 }
 
-/// At these places stand these names, whatever was asked before.
-fn names_are(
+/// Where a public symbol stands, and the first letter of its name.
+fn shown(public: Option<PublicName<'_>>) -> Option<(u16, u32, u8)> {
+    let public = public?;
+    let letter = *public.name.as_bytes().first()?;
+    Some((public.place.section, public.place.offset, letter))
+}
+
+/// Before these places stand these public symbols, whatever was asked before.
+fn publics_are(
     rt: &impl Abort,
     alloc: Global,
     bytes: &[u8],
-    rows: &[(u16, u32, Option<u8>)],
+    rows: &[(u16, u32, Option<(u16, u32, u8)>)],
 ) -> Result<()> {
     let symbols = SymbolTable::new(Stream::new(bytes).expect(rt, "a short stream"));
     let mut asked = publics(&symbols);
@@ -37,13 +44,11 @@ fn names_are(
         let wanted = (*section, *offset, *wanted);
         let mut fresh = publics(&symbols);
         for _ in 0..3 {
-            let name = fresh.find(alloc, place)?;
-            let given = name.and_then(|it| it.as_bytes().first().copied());
-            is(rt, "fresh", &(*section, *offset, given), &wanted);
+            let given = (*section, *offset, shown(fresh.find(alloc, place)?));
+            is(rt, "fresh", &given, &wanted);
         }
-        let name = asked.find(alloc, place)?;
-        let given = name.and_then(|it| it.as_bytes().first().copied());
-        is(rt, "asked before", &(*section, *offset, given), &wanted);
+        let given = (*section, *offset, shown(asked.find(alloc, place)?));
+        is(rt, "asked before", &given, &wanted);
     }
     Ok(())
 }
@@ -61,17 +66,17 @@ fn the_nearest_public_symbol_is_found(rt: HostRuntime) -> Result<()> {
     let rows = [
         (1, 0, None),
         (1, 0xf, None),
-        (1, 0x10, Some(b'c')),
-        (1, 0x1f, Some(b'c')),
-        (1, 0x20, Some(b'a')),
-        (1, 0xffff_fffe, Some(b'a')),
-        (1, 0xffff_ffff, Some(b'g')),
-        (2, 0, Some(b'b')),
-        (2, 0xffff_ffff, Some(b'b')),
+        (1, 0x10, Some((1, 0x10, b'c'))),
+        (1, 0x1f, Some((1, 0x10, b'c'))),
+        (1, 0x20, Some((1, 0x20, b'a'))),
+        (1, 0xffff_fffe, Some((1, 0x20, b'a'))),
+        (1, 0xffff_ffff, Some((1, 0xffff_ffff, b'g'))),
+        (2, 0, Some((2, 0, b'b'))),
+        (2, 0xffff_ffff, Some((2, 0, b'b'))),
         (0, 0xffff_ffff, None),
         (3, 0, None),
     ];
-    names_are(&rt, rt.alloc(), &bytes, &rows)
+    publics_are(&rt, rt.alloc(), &bytes, &rows)
 }
 
 #[test]
@@ -86,12 +91,12 @@ fn symbols_that_cannot_be_read_are_passed(rt: HostRuntime) -> Result<()> {
     put(&mut bytes, 0x110e, (1, 0x1c), b'c')?;
     let rows = [
         (1, 0xf, None),
-        (1, 0x14, Some(b'a')),
-        (1, 0x1b, Some(b'b')),
-        (1, 0x1c, Some(b'b')),
+        (1, 0x14, Some((1, 0x10, b'a'))),
+        (1, 0x1b, Some((1, 0x18, b'b'))),
+        (1, 0x1c, Some((1, 0x18, b'b'))),
     ];
-    names_are(&rt, rt.alloc(), &bytes, &rows)?;
-    names_are(&rt, rt.alloc(), b"", &[(1, 0, None)])?;
+    publics_are(&rt, rt.alloc(), &bytes, &rows)?;
+    publics_are(&rt, rt.alloc(), b"", &[(1, 0, None)])?;
     let mut none = PublicNames::new(None);
     for _ in 0..3 {
         let name = none.find(rt.alloc(), PdbInternalSectionOffset::new(1, 0))?;

@@ -8,7 +8,7 @@ use std::alloc::Global;
 use std::process::Abort;
 
 /// Information: stream 7 has the name `/names`.
-static INFORMATION: [u8; 67] = [
+pub static INFORMATION: [u8; 67] = [
     0x94, 0x2e, 0x31, 0x01, 0x01, 0x00, 0x00, 0x00, 0x02, 0x00, 0x00, 0x00, 0x33, 0x22, 0x11, 0x00,
     0x55, 0x44, 0x77, 0x66, 0x88, 0x99, 0xaa, 0xbb, 0xcc, 0xdd, 0xee, 0xff, 0x07, 0x00, 0x00, 0x00,
     0x2f, 0x6e, 0x61, 0x6d, 0x65, 0x73, 0x00, 0x01, 0x00, 0x00, 0x00, 0x01, 0x00, 0x00, 0x00, 0x01,
@@ -18,7 +18,7 @@ static INFORMATION: [u8; 67] = [
 
 /// A DBI stream: the module of stream 6, whose contribution is 1:100 to 1:130, the symbols of stream 5, and the section
 /// headers of stream 8.
-static DBI: [u8; 184] = [
+pub static DBI: [u8; 184] = [
     0xff, 0xff, 0xff, 0xff, 0x77, 0x09, 0x31, 0x01, 0x02, 0x00, 0x00, 0x00, 0xff, 0xff, 0x00, 0x00,
     0xff, 0xff, 0x00, 0x00, 0x05, 0x00, 0x00, 0x00, 0x4c, 0x00, 0x00, 0x00, 0x20, 0x00, 0x00, 0x00,
     0x00, 0x00, 0x00, 0x00, 0x00, 0x00, 0x00, 0x00, 0x00, 0x00, 0x00, 0x00, 0x00, 0x00, 0x00, 0x00,
@@ -47,10 +47,10 @@ static IDS: [u8; 84] = [
 ];
 
 /// The string table, in which `a.c` stands at 1.
-static STRINGS: &[u8] = b"\xfe\xef\xfe\xef\x01\0\0\0\x05\0\0\0\0a.c\0";
+pub static STRINGS: &[u8] = b"\xfe\xef\xfe\xef\x01\0\0\0\x05\0\0\0\0a.c\0";
 
 /// The headers of one section, from 0x1000 to 0x2000.
-static SECTIONS: [u8; 40] = [
+pub static SECTIONS: [u8; 40] = [
     0x2e, 0x74, 0x65, 0x78, 0x74, 0x00, 0x00, 0x00, 0x00, 0x10, 0x00, 0x00, 0x00, 0x10, 0x00, 0x00,
     0x00, 0x02, 0x00, 0x00, 0x00, 0x04, 0x00, 0x00, 0x00, 0x00, 0x00, 0x00, 0x00, 0x00, 0x00, 0x00,
     0x00, 0x00, 0x00, 0x00, 0x20, 0x00, 0x00, 0x60,
@@ -125,21 +125,21 @@ fn first_text<'s>(
 }
 
 /// These places, one after another, have this text, whatever was asked before.
-fn texts_are(
+pub fn texts_are(
     rt: &impl Abort,
     alloc: Global,
     file: &[u8],
     places: &[Option<(u16, u32)>],
-    wanted: &str,
+    wanted: &[u8],
 ) -> Result<()> {
     let mut fresh = Vec::new(alloc);
     for place in places {
         let text = first_text(alloc, file, &mut Streams::new(alloc), *place)?;
         fresh.extend_from_slice(text.as_slice())?;
     }
-    is(rt, "fresh", &fresh.as_slice(), &wanted.as_bytes());
+    is(rt, "fresh", &fresh.as_slice(), &wanted);
     let asked = texts(alloc, file, &mut Streams::new(alloc), places)?;
-    is(rt, "asked before", &asked.as_slice(), &wanted.as_bytes());
+    is(rt, "asked before", &asked.as_slice(), &wanted);
     Ok(())
 }
 
@@ -156,7 +156,7 @@ fn with_another_byte(
         file[at] = byte;
     }
     let places = [Some((1, 0x108)), Some((1, 0x130))];
-    texts_are(rt, alloc, &file, &places, wanted)
+    texts_are(rt, alloc, &file, &places, wanted.as_bytes())
 }
 
 /// Where the DBI stream begins.
@@ -164,14 +164,16 @@ const DBI_AT: usize = 512 * 6;
 
 #[test]
 fn refused_code_leaves_the_rest(rt: HostRuntime) -> Result<()> {
-    let no_lines = "main\n??:0:0\n\npub\n??:0:0\n\n";
-    let no_module = "pub\n??:0:0\n\npub\n??:0:0\n\n";
+    let no_lines = "main\n??:0:0\n\n??\n??:0:0\n\n";
+    // The public symbol's contribution ends at 1:130.
+    let no_module = "pub\n??:0:0\n\n??\n??:0:0\n\n";
+    let no_contribution = "pub\n??:0:0\n\npub\n??:0:0\n\n";
     let nothing = "??\n??:0:0\n\n??\n??:0:0\n\n";
     // The size of older lines, the number of the module's stream, the size of the contributions, the mark of the DBI
     // stream.
     with_another_byte(&rt, rt.alloc(), (DBI_AT + 104, 1), no_lines)?;
     with_another_byte(&rt, rt.alloc(), (DBI_AT + 98, 99), no_module)?;
-    with_another_byte(&rt, rt.alloc(), (DBI_AT + 30, 0xff), no_module)?;
+    with_another_byte(&rt, rt.alloc(), (DBI_AT + 30, 0xff), no_contribution)?;
     with_another_byte(&rt, rt.alloc(), (DBI_AT, 0), nothing)
 }
 
@@ -186,7 +188,7 @@ fn the_sample_without_ids_has_these_frames(rt: HostRuntime) -> Result<()> {
         Some((2, 0)),
     ];
     let wanted = "main\na.c:1:0\n\n??\na.c:10:0\nmain\na.c:2:0\n\nmain\na.c:2:0\n\n??\n??:0:0\n\n";
-    texts_are(&rt, alloc, &file, &places, wanted)?;
+    texts_are(&rt, alloc, &file, &places, wanted.as_bytes())?;
     let mut streams = Streams::new(alloc);
     let resolver = resolver(alloc, &file, &mut streams)?;
     let place = resolver.place(0x1100).map(|it| (it.section, it.offset));

@@ -131,6 +131,7 @@ impl<'t> FallibleIterator for SymbolIter<'t> {
     ghost left = { symbols_left };
 
     #[tactic(auto, using(pdb_base::proofs::Tilings::few, crate::proofs::SymbolSteps::item_left, crate::proofs::SymbolSteps::padding_left, crate::proofs::SymbolSteps::fault_left, crate::proofs::SymbolSteps::end_left))]
+    #[inline]
     fn next(&mut self) -> Result<Option<Symbol<'t>>>
         ensures yields { Yields symbol_of (symbols_left self.old) result (symbols_left self.new) }
         ensures few { length (symbols_left self.old).items < 2 ^ 64 }

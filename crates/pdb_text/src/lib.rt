@@ -3,6 +3,7 @@
 
 mod digits;
 mod numbers;
+mod one_line;
 mod output;
 mod words;
 
@@ -11,5 +12,6 @@ pub use digits::{
     put_hex8, put_line_end,
 };
 pub use numbers::number_in;
+pub use one_line::put_one_line;
 pub use output::{WriteFailed, write_out};
 pub use words::words_of;

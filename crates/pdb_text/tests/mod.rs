@@ -2,4 +2,5 @@
 
 mod digits;
 mod fakes;
+mod one_line;
 mod output;

@@ -2,7 +2,7 @@
 use Rattle.std.proofs.Common.{◌≡◌, ℕ, suc, ◌+◌, ◌<◌, ◌≤◌, List, [], ◌∷◌, ◌++◌, length, map, get_or, drop, Option, Some, None, Result, Ok, Err, refl, sym, ap, ◌∙◌, append_assoc, append-nil, arith}
 use Rattle.std.proofs.Math.Seq.{drop-cons}
 use Rattle.std.proofs.lemmas.Grind.{common_steps}
-use Rattle.pdb_tool.specs.Words.{all_in, with_first}
+use Rattle.pdb_tool.specs.Operands.{WordAt, all_in, with_first}
 
 -- some before others
 abbrev pub behind : {A : Type 0} → List A → Result (List A) ℕ → Result (List A) ℕ
@@ -14,24 +14,23 @@ first_then xs x (Ok ys) p = ap Ok (sym (append_assoc xs (x ∷ []) ys))
 first_then xs x (Err q) p = refl
 
 -- one more word was read
-pub one_more : {A X : Type 0} (of : List ℕ → Option A) (bytes : X → List ℕ) (words : List X) (told : Result (List A) ℕ) (xs : List A) (i p : ℕ) (d : X) (x : A)
-    → i < length words → of (bytes (get_or words i d)) ≡ Some x
-    → told ≡ behind xs (all_in of (map bytes (drop i words)) (p + i)) → told ≡ behind (xs ++ x ∷ []) (all_in of (map bytes (drop (i + 1) words)) (p + (i + 1)))
-one_more of bytes words told xs i p d x lt e h =
+pub one_more : {A X : Type 0} (of : List ℕ → Option A) (view : X → WordAt) (words : List X) (told : Result (List A) ℕ) (xs : List A) (i : ℕ) (d : X) (x : A)
+    → i < length words → of (view (get_or words i d)).word ≡ Some x
+    → told ≡ behind xs (all_in of (map view (drop i words))) → told ≡ behind (xs ++ x ∷ []) (all_in of (map view (drop (i + 1) words)))
+one_more of view words told xs i d x lt e h =
     let one : suc i ≡ i + 1 = omega arith in
     let next : drop i words ≡ get_or words i d ∷ drop (i + 1) words = rw one at (drop-cons words i d lt) in
-    let place : p + (i + 1) ≡ p + i + 1 = omega arith in
     let s = rw (next, e) at h in
-    rw place (s ∙ first_then xs x (all_in of (map bytes (drop (i + 1) words)) (p + i + 1)) (p + i))
+    s ∙ first_then xs x (all_in of (map view (drop (i + 1) words))) (view (get_or words i d)).place
 
-pub none_there : {A X : Type 0} (of : List ℕ → Option A) (bytes : X → List ℕ) (words : List X) (told : Result (List A) ℕ) (xs : List A) (i p : ℕ) (d : X)
-    → i < length words → of (bytes (get_or words i d)) ≡ None
-    → told ≡ behind xs (all_in of (map bytes (drop i words)) p) → told ≡ Err p
-none_there of bytes words told xs i p d lt e h = rw (drop-cons words i d lt, e) at h
+pub none_there : {A X : Type 0} (of : List ℕ → Option A) (view : X → WordAt) (words : List X) (told : Result (List A) ℕ) (xs : List A) (i : ℕ) (d : X)
+    → i < length words → of (view (get_or words i d)).word ≡ None
+    → told ≡ behind xs (all_in of (map view (drop i words))) → told ≡ Err (view (get_or words i d)).place
+none_there of view words told xs i d lt e h = rw (drop-cons words i d lt, e) at h
 
-pub all_there : {A X : Type 0} (of : List ℕ → Option A) (bytes : X → List ℕ) (words : List X) (told : Result (List A) ℕ) (xs : List A) (i p : ℕ)
-    → length words ≤ i → told ≡ behind xs (all_in of (map bytes (drop i words)) p) → told ≡ Ok xs
-all_there of bytes words told xs i p h t =
+pub all_there : {A X : Type 0} (of : List ℕ → Option A) (view : X → WordAt) (words : List X) (told : Result (List A) ℕ) (xs : List A) (i : ℕ)
+    → length words ≤ i → told ≡ behind xs (all_in of (map view (drop i words))) → told ≡ Ok xs
+all_there of view words told xs i h t =
     let none : drop i words ≡ [] = grind (arith, common_steps) in
     let s = rw none at t in
     s ∙ ap Ok (append-nil xs)
@@ -40,7 +39,5 @@ nothing_before : {A : Type 0} (told : Result (List A) ℕ) → told ≡ behind [
 nothing_before (Ok ys) = refl
 nothing_before (Err q) = refl
 
-pub begins : {A X : Type 0} (of : List ℕ → Option A) (bytes : X → List ℕ) (words : List X) (xs : List A) (p : ℕ) → xs ≡ [] → all_in of (map bytes words) p ≡ behind xs (all_in of (map bytes words) (p + 0))
-begins of bytes words xs p none =
-    let same : p + 0 ≡ p = omega arith in
-    rw (none, same) (nothing_before (all_in of (map bytes words) p))
+pub begins : {A X : Type 0} (of : List ℕ → Option A) (view : X → WordAt) (words : List X) (xs : List A) → xs ≡ [] → all_in of (map view words) ≡ behind xs (all_in of (map view words))
+begins of view words xs none = rw none (nothing_before (all_in of (map view words)))

@@ -1,12 +1,12 @@
 -- Lines that were read and answered, one after another.
-use Rattle.std.proofs.Common.{◌≡◌, ℕ, ◌<◌, ◌≤◌, ◌+◌, ◌-◌, List, [], ◌∷◌, ◌++◌, length, take, Option, Some, None, Bool, true, false, ◌==◌, if◌then◌else◌, Result, Ok, Err, OnOk, OnErr, refl, sym, ap, ◌∙◌, append_assoc, append-nil, arith, flat_map}
-use Rattle.std.specs.Prelude.{IfSome, IsErrAnd}
-use Rattle.std.specs.Io.KnownBytes.{Appends, IsAtEnd}
-use Rattle.std.specs.Io.BufRead.{drop_through, ends_with_byte, first_piece, strip_last, take_through}
+use Rattle.std.proofs.Common.{◌≡◌, ℕ, ◌<◌, List, [], ◌∷◌, ◌++◌, length, Option, Some, None, Bool, true, false, ◌==◌, Result, Ok, Err, OnOk, OnErr, refl, sym, ap, ◌∙◌, append_assoc, append-nil, arith, flat_map}
+use Rattle.std.specs.Prelude.{IfSome, IsErrAnd, IsErrOf}
+use Rattle.std.specs.Io.KnownBytes.{Appends}
+use Rattle.std.specs.Io.BufRead.{drop_through, first_piece, strip_last, take_through}
 use Rattle.std.proofs.lemmas.Grind.{common_steps, flat_map-append}
 use Rattle.pdb_text.specs.Written.{WroteFront}
 use Rattle.pdb_text.proofs.Written.{any_err, appends_then, front_all, front_of, front_then}
-use Rattle.pdb_tool.specs.Asked.{first_longer, lines_of, of_first_line}
+use Rattle.pdb_tool.specs.Asked.{AnsweredUpTo, first_longer, lines_of, of_first_line}
 
 -- ---- the first line of some bytes
 
@@ -126,3 +126,42 @@ on_ok_of (Err e) h = tt
 pub on_ok_failed : {T E : Type 0} (P : Type 0) (Q : E → Type 0) (r : Result T E) → IsErrAnd r Q → OnOk r P
 on_ok_failed P Q (Ok x) h = absurd h
 on_ok_failed P Q (Err e) h = tt
+
+-- ---- lines that were there, and the one whose text couldn't be written
+
+some_by : (xs line : List ℕ) → line ≡ take_through 10 xs → 0 < length line → 0 < length xs
+some_by [] line e h = rw e at h
+some_by (x ∷ xs) line e h = omega arith
+
+-- where bytes were read, bytes were left
+pub some_left : (o : Option (List ℕ)) (line : List ℕ) → IfSome o (λ xs. line ≡ take_through 10 xs) → 0 < length line → IfSome o (λ xs. 0 < length xs)
+some_left None line e h = tt
+some_left (Some xs) line e h = some_by xs line e h
+
+upto_by : (text : List ℕ → List ℕ) (xs rest : List ℕ) (done : List (List ℕ)) (a b c : Option (List ℕ)) → lines_of xs ≡ done ++ lines_of rest → Appends a b (flat_map text done)
+    → 0 < length rest → WroteFront b c (of_first_line text rest) → AnsweredUpTo text xs (drop_through 10 rest) a c
+upto_by text xs [] done a b c e h some w = absurd (omega (arith, some))
+upto_by text xs (x ∷ rest) done a b c e h some w =
+    (done, first_piece 10 (x ∷ rest), b, e ∙ ap (λ ls. done ++ ls) (first_line_of x rest), h, w)
+
+upto_from : (text : List ℕ → List ℕ) (xs rest : List ℕ) (done : List (List ℕ)) (mid left a b c : Option (List ℕ)) → mid ≡ Some rest → lines_of xs ≡ done ++ lines_of rest → Appends a b (flat_map text done)
+    → IfSome mid (λ ys. (0 < length ys) × (left ≡ Some (drop_through 10 ys))) → IfSome mid (λ ys. WroteFront b c (of_first_line text ys)) → IfSome left (λ ys. AnsweredUpTo text xs ys a c)
+upto_from text xs rest done mid left a b c m e h r w =
+    let r1 = rw m at r in
+    let w1 = rw m at w in
+    let is = r1.1 in
+    rw is (upto_by text xs rest done a b c e h r1.0 w1)
+
+-- one more line was read, and a beginning of its text written
+pub answered_upto : (text : List ℕ → List ℕ) (old mid left a b c : Option (List ℕ)) → Answered text old mid a b
+    → IfSome mid (λ ys. (0 < length ys) × (left ≡ Some (drop_through 10 ys))) → IfSome mid (λ ys. WroteFront b c (of_first_line text ys))
+    → IfSome old (λ xs. IfSome left (λ ys. AnsweredUpTo text xs ys a c))
+answered_upto text None mid left a b c h r w = tt
+answered_upto text (Some xs) mid left a b c h r w = upto_from text xs h.0 h.1 mid left a b c h.2 h.3 h.4 r w
+
+-- a call that failed with what it was given
+pub stopped_by : {T U E : Type 0} (r : Result T E) (e w : E) → IsErrAnd r (λ x. x ≡ e) → IsErrOf r w → IsErrOf {T = U} (Err e) w
+stopped_by (Ok x) e w is of = absurd is
+stopped_by (Err x) e w is of =
+    let same : x ≡ w = cc in
+    ap Err (sym is ∙ same)

@@ -1,5 +1,5 @@
 -- A word of hex digits is text, and the number that is read of it is the one that they write.
-use Rattle.std.proofs.Common.{◌≡◌, ◌≢◌, ℕ, ◌<◌, ◌^◌, List, [], ◌∷◌, length, Bool, true, false, ◌&&◌, ◌||◌, ◌==◌, Some, None, Result, Ok, Err, refl, sym, ap, ◌∙◌, arith, nat_lt, nat_le, cond, ltb-true, ltb-false}
+use Rattle.std.proofs.Common.{◌≡◌, ℕ, ◌<◌, ◌^◌, List, [], ◌∷◌, length, Bool, true, false, ◌&&◌, ◌==◌, Some, None, Result, Ok, Err, refl, ap, arith, nat_lt, nat_le, cond, ltb-true, ltb-false}
 use Rattle.std.proofs.lemmas.Bool.{and_parts}
 use Rattle.std.proofs.lemmas.Bool.Decides.{nat_tests}
 use Rattle.std.proofs.lemmas.List.Sums.{AllPass-from_list_all}
@@ -27,7 +27,7 @@ hex_byte b h = record {
 -- it is text
 pub hex_is_text : (word : List ℕ) → is_hex word ≡ true → IsUtf8 word
 hex_is_text word h =
-    let parts = and_parts (nat_lt 0 (length word)) (list_all is_ascii_hexdigit word) h in
+    let parts = and_parts (nat_lt 0 (length word) && nat_le (length word) 16) (list_all is_ascii_hexdigit word) h in
     let all = AllPass-from_list_all is_ascii_hexdigit word parts.1 in
     IsUtf8-from_ascii word (IsAscii-from_all word (λ k d lt. (hex_byte _ (all k d lt)).ascii))
 
@@ -40,7 +40,7 @@ all_digits (c ∷ cs) h =
 bare : (word : List ℕ) → is_hex word ≡ true → without_leading_plus word ≡ word
 bare [] h = absurd cc
 bare (c ∷ cs) h =
-    let parts = and_parts (nat_lt 0 (length (c ∷ cs))) (list_all is_ascii_hexdigit (c ∷ cs)) h in
+    let parts = and_parts (nat_lt 0 (length (c ∷ cs)) && nat_le (length (c ∷ cs)) 16) (list_all is_ascii_hexdigit (c ∷ cs)) h in
     let first = and_parts (is_ascii_hexdigit c) (list_all is_ascii_hexdigit cs) parts.1 in
     let e = (hex_byte c first.0).no_plus in
     rw e refl
@@ -58,7 +58,8 @@ read word (Err e) n q = λ h. q (n, h)
 pub hex_read : {E : Type 0} (word : List ℕ) (r : Result ℕ E) → ParsesUnsigned 64 16 word r → is_hex word ≡ true → result_ok r ≡ hex_in word
 unfolding hex_in
 hex_read word r p h =
-    let parts = and_parts (nat_lt 0 (length word)) (list_all is_ascii_hexdigit word) h in
-    let numeral : IsNumeral 16 word = (ltb-true 0 (length word) parts.0, all_digits word parts.1) in
+    let parts = and_parts (nat_lt 0 (length word) && nat_le (length word) 16) (list_all is_ascii_hexdigit word) h in
+    let some = and_parts (nat_lt 0 (length word)) (nat_le (length word) 16) parts.0 in
+    let numeral : IsNumeral 16 word = (ltb-true 0 (length word) some.0, all_digits word parts.1) in
     let q = rw (bare word h) at p in
     rw h (by_value r (nat_lt (digits_value 16 word) 18446744073709551616) (digits_value 16 word) refl (read word r numeral q))

@@ -2,6 +2,8 @@ pub mod HexWords
 pub mod AnsweredLines
 pub mod RefusalIs
 pub mod AllWords
+pub mod OptionWords
+pub mod OperandWords
 pub mod Blanks
 pub mod Annotations
 pub mod Results

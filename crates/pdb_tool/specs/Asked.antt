@@ -1,41 +1,67 @@
 -- What code a word asks for, and the text that answers it.
-use Rattle.std.specs.Prelude.{◌≡◌, ℕ, ◌+◌, ◌-◌, List, [], ◌∷◌, ◌++◌, length, take, drop, codes, Bool, ◌&&◌, ◌==◌, nat_lt, if◌then◌else◌, Option, Some, None, option_and_then}
+use Rattle.std.specs.Prelude.{◌≡◌, ℕ, ◌+◌, ◌-◌, ◌*◌, List, [], ◌∷◌, ◌++◌, length, take, drop, get_or, codes, Bool, ◌&&◌, ◌||◌, ◌==◌, nat_lt, nat_le, if◌then◌else◌, Option, Some, None, option_and_then, flat_map}
 use Rattle.std.specs.Char.{is_ascii_hexdigit, is_ascii_whitespace}
 use Rattle.std.specs.List.{list_all, position, prefix_len, suffix_len}
 use Rattle.std.specs.Io.BufRead.{first_piece}
+use Rattle.std.specs.Io.KnownBytes.{Appends}
 use Rattle.std.specs.Str.{bytes_eq}
 use Rattle.std.specs.Str.Parse.{digits_value}
 use Rattle.pdb.specs.PdbInternalSectionOffset.{PdbInternalSectionOffset}
 use Rattle.pdb_resolve.specs.Frames.{frames_text}
 use Rattle.pdb_resolve.specs.Resolved.{place_of_file, frames_of_file}
+use Rattle.pdb_text.specs.Written.{WroteFront}
 use Rattle.pdb_tool.specs.declared.asked.Asked.{Asked}
 use Rattle.pdb_tool.specs.declared.asked.Asked.TheVariants.{Address, Place, Nowhere}
 
 -- ---- numbers
 
--- one hex digit or more, and nothing else
+-- 1 to 16 hex digits, and nothing else
 abbrev pub is_hex : List ℕ → Bool
-is_hex word = nat_lt 0 (length word) && list_all is_ascii_hexdigit word
+is_hex word = nat_lt 0 (length word) && nat_le (length word) 16 && list_all is_ascii_hexdigit word
 
 -- the number below 2^64 that hex digits write
 unfoldable pub hex_in : List ℕ → Option ℕ
 hex_in word = if is_hex word && nat_lt (digits_value 16 word) 18446744073709551616 then Some (digits_value 16 word) else None
 
+-- ---- how addresses are spelled
+
+-- 0x or 0X stands in front
+abbrev pub has_prefix : List ℕ → Bool
+has_prefix word = bytes_eq (take 2 word) (codes "0x") || bytes_eq (take 2 word) (codes "0X")
+
+-- a number of 32 bits behind another one; none where one has more
+abbrev pub joined : Option ℕ → Option ℕ → Option ℕ
+joined None low = None
+joined (Some high) None = None
+joined (Some high) (Some low) = if nat_lt high 4294967296 && nat_lt low 4294967296 then Some (high * 4294967296 + low) else None
+
+-- a backtick stands before the last eight digits, as debuggers write addresses
+abbrev pub has_backtick : List ℕ → Bool
+has_backtick word = nat_lt 9 (length word) && (get_or word (length word - 9) 0 == 96)
+
+abbrev pub has_suffix : List ℕ → Bool
+has_suffix word = nat_lt 0 (length word) && (get_or word (length word - 1) 0 == 104)
+
+-- HEX, 0xHEX, 0XHEX, HEXh, or HEX with a backtick before its last eight digits
+unfoldable pub address_number : List ℕ → Option ℕ
+address_number word =
+    if has_prefix word then hex_in (drop 2 word)
+    else if has_backtick word then joined (hex_in (take (length word - 9) word)) (hex_in (drop (length word - 8) word))
+    else if has_suffix word then hex_in (take (length word - 1) word)
+    else hex_in word
+
 -- ---- what a word asks for
 
--- a word without 0x in front
-abbrev pub without_prefix : List ℕ → List ℕ
-without_prefix word = if bytes_eq (take 2 word) (codes "0x") then drop 2 word else word
-
--- an address from its base on: below the base it is nowhere
-abbrev pub relative : ℕ → ℕ → Option Asked
-relative base n =
+-- an address from its base on: below the base, or 2^32 or more above it, it is nowhere; without a base it is below 2^32
+abbrev pub relative : Option ℕ → ℕ → Option Asked
+relative None n = if nat_lt n 4294967296 then Some (Address n) else None
+relative (Some base) n =
     if nat_lt n base then Some Nowhere
     else if nat_lt (n - base) 4294967296 then Some (Address (n - base))
-    else None
+    else Some Nowhere
 
-abbrev pub address_in : ℕ → List ℕ → Option Asked
-address_in base word = option_and_then (relative base) (hex_in (without_prefix word))
+abbrev pub address_in : Option ℕ → List ℕ → Option Asked
+address_in base word = option_and_then (relative base) (address_number word)
 
 -- a section and an offset
 abbrev pub place_of : ℕ → ℕ → Option Asked
@@ -48,12 +74,12 @@ abbrev pub is_colon : ℕ → Bool
 is_colon b = b == 58
 
 -- by the place of the first colon
-abbrev pub asked_by : ℕ → List ℕ → Option ℕ → Option Asked
+abbrev pub asked_by : Option ℕ → List ℕ → Option ℕ → Option Asked
 asked_by base word None = address_in base word
 asked_by base word (Some at) = place_in (take at word) (drop (at + 1) word)
 
 -- an address, or a section and an offset with a colon between; none where the word is neither
-unfoldable pub asked_in : ℕ → List ℕ → Option Asked
+unfoldable pub asked_in : Option ℕ → List ℕ → Option Asked
 asked_in base word = asked_by base word (position is_colon word)
 
 -- ---- the text that answers it
@@ -78,14 +104,6 @@ without_blanks_behind line = take (length line - suffix_len is_ascii_whitespace 
 abbrev pub without_blanks : List ℕ → List ℕ
 without_blanks line = without_blanks_behind (without_blanks_before line)
 
--- the text of what a line asks for; a line that asks for nothing is answered by itself, and a line end
-abbrev pub text_or : List ℕ → List ℕ → Option Asked → List ℕ
-text_or file line None = line ++ codes "\n"
-text_or file line (Some asked) = asked_text file asked
-
-unfoldable pub line_text : List ℕ → ℕ → List ℕ → List ℕ
-line_text file base line = text_or file line (asked_in base (without_blanks line))
-
 -- the lines of some bytes, each without its end: what stands behind the last end is a line too
 abbrev pub first_longer : ℕ → List (List ℕ) → List (List ℕ)
 first_longer b [] = (b ∷ []) ∷ []
@@ -99,3 +117,10 @@ lines_of (b ∷ bs) = if b == 10 then [] ∷ lines_of bs else first_longer b (li
 abbrev pub of_first_line : (List ℕ → List ℕ) → List ℕ → List ℕ
 of_first_line text [] = []
 of_first_line text (b ∷ bs) = text (first_piece 10 (b ∷ bs))
+
+-- of these bytes some first lines and one more were read, and the rest is left: the texts of the first ones stand there
+-- whole, and a beginning of the last one's
+abbrev pub AnsweredUpTo : (List ℕ → List ℕ) → List ℕ → List ℕ → Option (List ℕ) → Option (List ℕ) → Type 0
+AnsweredUpTo text xs rest before after =
+    (first : List (List ℕ)) × (last : List ℕ) × (middle : Option (List ℕ)) × (lines_of xs ≡ first ++ last ∷ lines_of rest)
+    × Appends before middle (flat_map text first) × WroteFront middle after (text last)

@@ -12,7 +12,7 @@ use Rattle.pdb.specs.Modules.{ModuleEntry}
 use Rattle.pdb.specs.ModuleStream.{ModuleBytes, exports_of, imports_of, inlinees_of, symbols_of}
 use Rattle.pdb.specs.SymbolList.{Entry}
 use Rattle.pdb_text.specs.Digits.{hex}
-use Rattle.pdb_tool.specs.Checks.{contributions_of_file, ended_by, files_of_module, global_symbols_of_file, is_damage, items_ended_by, items_of, lines_of_module, modules_of_file, names_in, refused}
+use Rattle.pdb_tool.specs.Checks.{contributions_ended_in, ended_by, files_of_module, global_symbols_of_file, has_empty_dbi, ids_in, is_damage, is_said, items_ended_by, items_of, lines_of_module, modules_of_file, names_in, refused}
 use Rattle.pdb_tool.specs.ErrorLine.{message_of}
 
 -- `FILE: WHERE: TEXT`, where the line's front, which begins with FILE, and a place make up `FILE: WHERE`
@@ -100,7 +100,7 @@ debug_text front file = fault_text front (codes "debug information") (refused (d
 
 -- of the lists of the DBI stream
 unfoldable pub lists_text : List ℕ → List ℕ → List ℕ
-lists_text front file = fault_text front (codes "modules") (ended_by (modules_of_file file)) ++ fault_text front (codes "contributions") (ended_by (contributions_of_file file))
+lists_text front file = fault_text front (codes "modules") (ended_by (modules_of_file file)) ++ fault_text front (codes "contributions") (contributions_ended_in (debug_information_in file))
 
 unfoldable pub sections_text : List ℕ → List ℕ → List ℕ
 sections_text front file = fault_text front (codes "sections") (refused (sections_in file))
@@ -127,21 +127,37 @@ listed_globals_text front place word file =
 unfoldable pub globals_text : List ℕ → List ℕ → List ℕ
 globals_text front file = listed_globals_text front (codes "global symbols") (codes "global symbol ") file
 
+-- a text, unless what it is of isn't there
+abbrev pub unless : Bool → List ℕ → List ℕ
+unless true text = []
+unless false text = text
+
+unfoldable pub types_text : List ℕ → List ℕ → List ℕ
+types_text front file = fault_text front (codes "types") (items_ended_by (stream_of file 2 None))
+
+-- of ids, where the information stream says that they are there
+unfoldable pub ids_text : List ℕ → List ℕ → List ℕ
+ids_text front file = if is_said (ids_in file) then fault_text front (codes "ids") (items_ended_by (stream_of file 4 None)) else []
+
 -- of types and ids
 unfoldable pub items_text : List ℕ → List ℕ → List ℕ
-items_text front file = fault_text front (codes "types") (items_ended_by (stream_of file 2 None)) ++ fault_text front (codes "ids") (items_ended_by (stream_of file 4 None))
+items_text front file = types_text front file ++ ids_text front file
 
--- of the streams that the DBI stream and those before it tell of
-unfoldable pub streams_text : List ℕ → List ℕ → List ℕ
-streams_text front file = first_text front file ++ debug_text front file ++ lists_text front file ++ image_text front file
+-- of the DBI stream, and of what its lists and its streams say of the image
+unfoldable pub debug_parts_text : List ℕ → List ℕ → List ℕ
+debug_parts_text front file = debug_text front file ++ lists_text front file ++ image_text front file ++ frame_table_text front file
+
+-- of the streams up to the frame table, by whether the DBI stream has no byte
+unfoldable pub streams_text : Bool → List ℕ → List ℕ → List ℕ
+streams_text is_empty front file = first_text front file ++ unless is_empty (debug_parts_text front file)
 
 -- of the others
-unfoldable pub tables_text : List ℕ → List ℕ → List ℕ
-tables_text front file = frame_table_text front file ++ string_table_text front file ++ globals_text front file ++ items_text front file
+unfoldable pub tables_text : Bool → List ℕ → List ℕ → List ℕ
+tables_text is_empty front file = string_table_text front file ++ unless is_empty (globals_text front file) ++ items_text front file
 
 -- of all but the modules
 abbrev pub front_text : List ℕ → List ℕ → List ℕ
-front_text front file = streams_text front file ++ tables_text front file
+front_text front file = streams_text (has_empty_dbi file) front file ++ tables_text (has_empty_dbi file) front file
 
 -- all lines of what is wrong
 unfoldable pub findings_text : List ℕ → List ℕ → List ℕ

@@ -1,17 +1,18 @@
 -- What is wrong with a file: the refusals of what is read of it, and the faults that end its lists.
-use Rattle.std.specs.Prelude.{ℕ, List, [], Bool, true, false, Option, Some, None, Result, Ok, Err}
+use Rattle.std.specs.Prelude.{ℕ, List, [], ◌∷◌, Bool, true, false, ◌==◌, Option, Some, None, Result, Ok, Err, if◌then◌else◌}
 use Rattle.pdb.specs.Error.{Error}
 use Rattle.pdb.specs.Error.TheVariants.{StreamNotFound, StreamNameNotFound, GlobalSymbolsNotFound, UnimplementedSymbolKind}
 use Rattle.pdb.specs.Refusal.{◌>>=◌}
 use Rattle.pdb.specs.Left.{Left}
-use Rattle.pdb.specs.Answers.{debug_information_in, global_symbols_in, information_in}
-use Rattle.pdb.specs.Container.{stream_of}
+use Rattle.pdb.specs.Answers.{debug_information_in, global_symbols_in, information_in, raw_stream_in}
 use Rattle.pdb.specs.Contributions.{contributions_in}
+use Rattle.pdb.specs.Features.{has_ids_of}
+use Rattle.pdb.specs.Header.{header_of}
+use Rattle.pdb.specs.DBIHeader.{DBIHeader}
 use Rattle.pdb.specs.Modules.{ModuleEntry, modules_in}
 use Rattle.pdb.specs.Names.{Name, names_of}
 use Rattle.pdb.specs.Items.{items_in}
 use Rattle.pdb.specs.SymbolList.{Entry, symbols_from}
-use Rattle.pdb.specs.DBISectionContribution.{DBISectionContribution}
 use Rattle.pdb.specs.LineInfo.{LineInfo}
 use Rattle.pdb.specs.Lines.{lines_of}
 use Rattle.pdb.specs.Files.{FileOf, files_of}
@@ -48,8 +49,29 @@ names_in file = information_in file >>= λ i. names_of i.bytes i.names_offset i.
 unfoldable pub modules_of_file : List ℕ → Result (Left ModuleEntry) Error
 modules_of_file file = debug_information_in file >>= modules_in
 
-unfoldable pub contributions_of_file : List ℕ → Result (Left DBISectionContribution) Error
-contributions_of_file file = debug_information_in file >>= contributions_in
+-- whether a stream is there, and has no byte
+abbrev pub is_empty_stream : Result (Option (List ℕ)) Error → Bool
+is_empty_stream (Err e) = false
+is_empty_stream (Ok None) = false
+is_empty_stream (Ok (Some [])) = true
+is_empty_stream (Ok (Some (b ∷ bs))) = false
+
+-- whether the DBI stream has no byte, as in files of types alone: nothing is read of it then
+unfoldable pub has_empty_dbi : List ℕ → Bool
+has_empty_dbi file = is_empty_stream (raw_stream_in file 3)
+
+-- whether the part with the contributions has no byte
+abbrev pub has_no_contributions : Result DBIHeader Error → Bool
+has_no_contributions (Ok h) = h.section_contribution_size == 0
+has_no_contributions (Err e) = false
+
+-- what the contributions of a DBI stream end with; of no byte there are none
+unfoldable pub contributions_ended_by : List ℕ → Option Error
+contributions_ended_by b = if has_no_contributions (header_of b) then None else ended_by (contributions_in b)
+
+abbrev pub contributions_ended_in : Result (List ℕ) Error → Option Error
+contributions_ended_in (Ok b) = contributions_ended_by b
+contributions_ended_in (Err e) = Some e
 
 unfoldable pub global_symbols_of_file : List ℕ → Result (Left Entry) Error
 global_symbols_of_file file = global_symbols_in file >>= λ b. Ok (symbols_from b 0)
@@ -59,6 +81,14 @@ abbrev pub items_ended_by : Result (List ℕ) Error → Option Error
 items_ended_by (Ok stream) = ended_by (items_in stream)
 items_ended_by (Err (StreamNotFound n)) = None
 items_ended_by (Err e) = Some e
+
+-- whether the information stream says that stream 4 has ids
+unfoldable pub ids_in : List ℕ → Result Bool Error
+ids_in file = information_in file >>= λ i. has_ids_of i.bytes i.names_offset i.names_size
+
+abbrev pub is_said : Result Bool Error → Bool
+is_said (Ok b) = b
+is_said (Err e) = false
 
 -- ---- what is read of a module
 

@@ -1,11 +1,15 @@
 -- How deep symbols stand in scopes.
-use Rattle.std.specs.Prelude.{ℕ, zero, suc, ◌+◌, ◌-◌, List, [], ◌++◌, codes, if◌then◌else◌}
+use Rattle.std.specs.Prelude.{ℕ, zero, suc, ◌+◌, ◌-◌, List, [], ◌++◌, codes, if◌then◌else◌, min}
 use Rattle.pdb.specs.Scopes.{starts_of, ends_of}
 
--- two blanks for each depth
+-- two blanks so many times
+abbrev pub blanks_of : ℕ → List ℕ
+blanks_of zero = []
+blanks_of (suc times) = codes "  " ++ blanks_of times
+
+-- two blanks for each depth, and no more than 64
 abbrev pub blanks : ℕ → List ℕ
-blanks zero = []
-blanks (suc depth) = codes "  " ++ blanks depth
+blanks depth = blanks_of (min depth 32)
 
 -- the depth of a record of a kind, behind records that leave this depth: one less where it ends a scope
 abbrev pub depth_at : ℕ → ℕ → ℕ

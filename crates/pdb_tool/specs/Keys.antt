@@ -1,5 +1,5 @@
 -- The key under which a symbol server has a file.
-use Rattle.std.specs.Prelude.{ℕ, ◌/◌, ◌%◌, List, [], ◌∷◌, ◌++◌, codes, flat_map, Option, Some, None, Result, Ok, Err, true}
+use Rattle.std.specs.Prelude.{ℕ, ◌/◌, ◌%◌, List, [], ◌∷◌, ◌++◌, flat_map, Option, Some, Result, Ok, true}
 use Rattle.std.specs.Fmt.{digits, digit_glyph}
 use Rattle.pdb.specs.Error.{Error}
 use Rattle.pdb.specs.Refusal.{◌>>=◌}

@@ -1,6 +1,10 @@
 pub mod Asked
 pub mod Stops
 pub mod Keys
+pub mod KeyLines
+pub mod Options
+pub mod Operands
+pub mod Questions
 pub mod Words
 pub mod ErrorLine
 pub mod Values
@@ -16,3 +20,4 @@ pub mod ModuleTexts
 pub mod Checks
 pub mod CheckTexts
 pub mod FileTexts
+pub mod Wanted

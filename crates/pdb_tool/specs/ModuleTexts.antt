@@ -1,14 +1,16 @@
 -- Texts of the modules of a file, one after another.
-use Rattle.std.specs.Prelude.{ℕ, List, [], ◌∷◌, ◌++◌, codes, flat_map, Option, Some, None, Result, Ok, Err}
+use Rattle.std.specs.Prelude.{ℕ, ◌+◌, nat_lt, Bool, false, not, ◌==◌, count_by, if◌then◌else◌, List, [], ◌∷◌, ◌++◌, length, codes, flat_map, Option, Some, None, Result, Ok, Err}
+use Rattle.std.specs.Fmt.{decimal}
 use Rattle.pdb.specs.Error.{Error}
 use Rattle.pdb.specs.Refusal.{◌>>=◌}
 use Rattle.pdb.specs.Left.{Left}
 use Rattle.pdb.specs.Modules.{ModuleEntry, modules_in}
 use Rattle.pdb.specs.ModuleStream.{ModuleBytes}
-use Rattle.pdb.specs.Answers.{debug_information_in, global_symbols_in, module_info_in, module_of_file, string_table_in}
+use Rattle.pdb.specs.Answers.{debug_information_in, global_symbols_in, module_info_in, module_listed, string_table_in}
 use Rattle.pdb_resolve.specs.AsIfEmpty.{if_read}
 use Rattle.pdb_resolve.specs.FileParts.{items_listed}
-use Rattle.pdb_tool.specs.ErrorLine.{fault_line, told}
+use Rattle.pdb_tool.specs.ErrorLine.{error_line, fault_line, told}
+use Rattle.pdb_tool.specs.Values.{behind_blank}
 use Rattle.pdb_tool.specs.LineTexts.{lines_text}
 use Rattle.pdb_tool.specs.ScopeTexts.{scopes_text}
 use Rattle.pdb_tool.specs.SymbolTexts.{global_symbols_text, symbols_text}
@@ -18,25 +20,72 @@ abbrev pub there_text : (ModuleBytes → List ℕ) → List ℕ → Option Modul
 there_text text missing None = missing
 there_text text missing (Some m) = text m
 
--- of the module of this number in the list: `none` where the list has no such module, or it has no stream
-unfoldable pub place_text : (ModuleBytes → List ℕ) → List ℕ → ℕ → List ℕ
-place_text text file k = told (module_of_file file k) (there_text text (codes "none\n"))
+-- the line that names a module, by its index in the list
+unfoldable pub module_line : ℕ → ModuleEntry → List ℕ
+module_line k m = codes "module " ++ decimal k ++ behind_blank m.module_name ++ codes "\n"
 
--- of a module of the list: nothing where it has no stream
-unfoldable pub listed_text : (ModuleBytes → List ℕ) → List ℕ → ModuleEntry → List ℕ
-listed_text text file m = told (module_info_in file m) (there_text text [])
+-- it stands where more than one module is told
+abbrev pub line_if : Bool → ℕ → ModuleEntry → List ℕ
+line_if several k m = if several then module_line k m else []
 
--- of all modules of the list, and then the line of its fault
-abbrev pub list_text : (ModuleBytes → List ℕ) → List ℕ → Left ModuleEntry → List ℕ
-list_text text file left = flat_map (listed_text text file) left.items ++ fault_line left.fault
+-- of a module that the list has, or hasn't: `none` where it hasn't, or the module has no stream
+abbrev pub entry_text : Bool → (ModuleBytes → List ℕ) → List ℕ → ℕ → Option ModuleEntry → List ℕ
+entry_text several text file k None = codes "none\n"
+entry_text several text file k (Some m) = line_if several k m ++ told (module_info_in file m) (there_text text (codes "none\n"))
+
+-- of the module of this index in the list
+unfoldable pub place_text : Bool → (ModuleBytes → List ℕ) → List ℕ → ℕ → List ℕ
+place_text several text file k = told (module_listed file k) (entry_text several text file k)
+
+-- behind the line that names a module; nothing where it has no stream
+abbrev pub headed_text : List ℕ → (ModuleBytes → List ℕ) → Result (Option ModuleBytes) Error → List ℕ
+headed_text line text (Ok None) = []
+headed_text line text (Ok (Some m)) = line ++ text m
+headed_text line text (Err e) = line ++ error_line e
+
+-- of a module of the list
+unfoldable pub listed_text : Bool → (ModuleBytes → List ℕ) → List ℕ → ℕ → ModuleEntry → List ℕ
+listed_text several text file k m = headed_text (line_if several k m) text (module_info_in file m)
+
+-- of modules of which the first has this index
+abbrev pub listed_texts : Bool → (ModuleBytes → List ℕ) → List ℕ → ℕ → List ModuleEntry → List ℕ
+listed_texts several text file k [] = []
+listed_texts several text file k (m ∷ ms) = listed_text several text file k m ++ listed_texts several text file (k + 1) ms
+
+-- of all modules of the list from this index on, and then the line of its fault
+abbrev pub list_text : Bool → (ModuleBytes → List ℕ) → List ℕ → ℕ → Left ModuleEntry → List ℕ
+list_text several text file k left = listed_texts several text file k left.items ++ fault_line left.fault
+
+-- a module has a stream, and so is told
+abbrev pub has_stream : ModuleEntry → Bool
+has_stream m = not (m.stream == 65535)
+
+-- more than one of these modules is told
+abbrev pub tell_several : List ModuleEntry → Bool
+tell_several ms = nat_lt 1 (count_by has_stream ms)
+
+abbrev pub several_in : Result (Left ModuleEntry) Error → Bool
+several_in (Ok left) = tell_several left.items
+several_in (Err e) = false
+
+abbrev pub whole_text : (ModuleBytes → List ℕ) → List ℕ → Left ModuleEntry → List ℕ
+whole_text text file left = list_text (tell_several left.items) text file 0 left
 
 unfoldable pub all_text : (ModuleBytes → List ℕ) → List ℕ → List ℕ
-all_text text file = told (debug_information_in file >>= modules_in) (list_text text file)
+all_text text file = told (debug_information_in file >>= modules_in) (whole_text text file)
 
--- of the modules of these numbers; of all where there is no number
+-- more than one number
+abbrev pub are_several : List ℕ → Bool
+are_several ks = nat_lt 1 (length ks)
+
+-- of the modules of these numbers
+abbrev pub places_text : (ModuleBytes → List ℕ) → List ℕ → List ℕ → List ℕ
+places_text text file ks = flat_map (place_text (are_several ks) text file) ks
+
+-- of all where there is no number
 abbrev pub modules_text : (ModuleBytes → List ℕ) → List ℕ → List ℕ → List ℕ
 modules_text text file [] = all_text text file
-modules_text text file (k ∷ ks) = flat_map (place_text text file) (k ∷ ks)
+modules_text text file (k ∷ ks) = places_text text file (k ∷ ks)
 
 -- ---- the commands
 
@@ -51,4 +100,8 @@ scopes_command file ks = modules_text (scopes_text (items_listed file 4) (items_
 -- `symbols`: those of modules, the global ones where there is no number
 abbrev pub symbols_command : List ℕ → List ℕ → List ℕ
 symbols_command file [] = told (global_symbols_in file) global_symbols_text
-symbols_command file (k ∷ ks) = flat_map (place_text symbols_text file) (k ∷ ks)
+symbols_command file (k ∷ ks) = places_text symbols_text file (k ∷ ks)
+
+-- `symbols --all`: those of all modules
+abbrev pub all_symbols_command : List ℕ → List ℕ
+all_symbols_command file = all_text symbols_text file

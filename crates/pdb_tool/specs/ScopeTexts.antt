@@ -1,5 +1,5 @@
 -- The text of `scopes` of a module.
-use Rattle.std.specs.Prelude.{ℕ, List, [], ◌∷◌, ◌++◌, codes, Result, Ok}
+use Rattle.std.specs.Prelude.{ℕ, List, [], ◌∷◌, ◌++◌, codes, Option, Some, None, Result, Ok}
 use Rattle.std.specs.Fmt.{decimal}
 use Rattle.pdb.specs.Error.{Error}
 use Rattle.pdb.specs.Left.{Left}
@@ -9,9 +9,9 @@ use Rattle.pdb.specs.Data.Data.{Procedure, Block, Thunk, SeparatedCode, InlineSi
 use Rattle.pdb.specs.Forms.{kind_at, record_at}
 use Rattle.pdb.specs.SymbolList.{Entry}
 use Rattle.pdb.specs.Items.{ItemEntry}
-use Rattle.pdb.specs.Qualified.{qualified_of}
+use Rattle.pdb.specs.Qualified.{Qualified, qualified_of}
 use Rattle.pdb.specs.ModuleStream.{ModuleBytes, symbols_of}
-use Rattle.pdb_resolve.specs.Frames.{qualified_text}
+use Rattle.pdb_text.specs.OneLine.{one_line}
 use Rattle.pdb_tool.specs.Depth.{blanks, depth_at, depth_behind}
 use Rattle.pdb_tool.specs.ErrorLine.{fault_line, told}
 use Rattle.pdb_tool.specs.Values.{place_text, behind_blank}
@@ -28,13 +28,22 @@ placed_text word offset name = word ++ codes " " ++ place_text offset ++ behind_
 abbrev pub named_text : List ℕ → List ℕ → List ℕ
 named_text word name = word ++ behind_blank name ++ codes "\n"
 
+-- a function's name on one line, behind a blank: with what stands before it, `??` where there is none
+abbrev pub behind_scoped : Option (List ℕ) → List ℕ → List ℕ
+behind_scoped None name = behind_blank name
+behind_scoped (Some scope) name = codes " " ++ one_line scope ++ codes "::" ++ one_line name
+
+abbrev pub behind_qualified : Option Qualified → List ℕ
+behind_qualified None = codes " ??"
+behind_qualified (Some name) = behind_scoped name.scope name.name
+
 -- the line of what a record says, at a depth, where it has one; the names of inlined functions are those of ids and types
 abbrev pub scope_line : List ItemEntry → List ItemEntry → ℕ → Result Data Error → List ℕ
 scope_line ids types depth (Ok (Procedure s)) = blanks depth ++ code_text (codes "procedure") s.offset s.len s.name
 scope_line ids types depth (Ok (Block parent end len offset name)) = blanks depth ++ code_text (codes "block") offset len name
 scope_line ids types depth (Ok (Thunk s)) = blanks depth ++ code_text (codes "thunk") s.offset s.len s.name
 scope_line ids types depth (Ok (SeparatedCode s)) = blanks depth ++ code_text (codes "separated") s.offset s.len []
-scope_line ids types depth (Ok (InlineSite s)) = blanks depth ++ named_text (codes "inlined") (qualified_text (qualified_of ids types s.inlinee.0))
+scope_line ids types depth (Ok (InlineSite s)) = blanks depth ++ (codes "inlined" ++ behind_qualified (qualified_of ids types s.inlinee.0) ++ codes "\n")
 scope_line ids types depth (Ok (DataItem global managed type_index offset name)) = blanks depth ++ placed_text (codes "data") offset name
 scope_line ids types depth (Ok (ThreadStorage global type_index offset name)) = blanks depth ++ placed_text (codes "thread") offset name
 scope_line ids types depth (Ok (Label offset flags name)) = blanks depth ++ placed_text (codes "label") offset name

@@ -1,7 +1,8 @@
 -- The text of `symbols`.
-use Rattle.std.specs.Prelude.{ℕ, List, [], ◌∷◌, ◌++◌, drop, flat_map, codes, Option, Some, None, Result, Ok, Err}
+use Rattle.std.specs.Prelude.{ℕ, Bool, true, false, if◌then◌else◌, List, [], ◌∷◌, ◌++◌, drop, flat_map, codes, Option, Some, None, Result, Ok, Err}
 use Rattle.std.specs.Fmt.{decimal}
 use Rattle.pdb.specs.Error.{Error}
+use Rattle.pdb.specs.Error.TheVariants.{UnimplementedSymbolKind}
 use Rattle.pdb.specs.Refusal.{number_of}
 use Rattle.pdb.specs.Left.{Left}
 use Rattle.pdb.specs.Data.{Data, name_of}
@@ -20,10 +21,19 @@ abbrev pub name_text : Option (List ℕ) → List ℕ
 name_text None = []
 name_text (Some name) = behind_blank name
 
--- what a record says: its fields and its name; or its refusal, and its bytes behind the kind
+-- the kind has no layout that is read: no damage
+abbrev pub lacks_layout : Error → Bool
+lacks_layout (UnimplementedSymbolKind kind) = true
+lacks_layout e = false
+
+-- the number of an error, where it tells of damage
+abbrev pub damage_text : Error → List ℕ
+damage_text e = if lacks_layout e then [] else codes " error " ++ decimal (number_of e)
+
+-- what a record says: its fields and its name; or its error, and its bytes behind the kind
 abbrev pub record_text : List ℕ → Result Data Error → List ℕ
 record_text b (Ok d) = fields_text d ++ name_text (name_of d)
-record_text b (Err e) = codes " error " ++ decimal (number_of e) ++ codes " bytes=" ++ flat_map (hex 2) (drop 2 b)
+record_text b (Err e) = damage_text e ++ codes " bytes=" ++ flat_map (hex 2) (drop 2 b)
 
 -- the line of a symbol at a depth
 unfoldable pub symbol_line : ℕ → Entry → List ℕ

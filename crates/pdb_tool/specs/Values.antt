@@ -3,6 +3,7 @@ use Rattle.std.specs.Prelude.{ℕ, List, [], ◌∷◌, ◌++◌, Option, Some, 
 use Rattle.std.specs.Fmt.{decimal}
 use Rattle.pdb.specs.PdbInternalSectionOffset.{PdbInternalSectionOffset}
 use Rattle.pdb_text.specs.Digits.{hex}
+use Rattle.pdb_text.specs.OneLine.{one_line}
 
 -- a place: a section and an offset in it
 abbrev pub place_text : PdbInternalSectionOffset → List ℕ
@@ -13,7 +14,7 @@ abbrev pub optional_text : Option ℕ → List ℕ
 optional_text None = codes "-"
 optional_text (Some n) = decimal n
 
--- a name behind a blank, nothing where it is empty
+-- a name on one line, behind a blank; nothing where it is empty
 abbrev pub behind_blank : List ℕ → List ℕ
 behind_blank [] = []
-behind_blank (b ∷ name) = codes " " ++ b ∷ name
+behind_blank (b ∷ name) = codes " " ++ one_line (b ∷ name)

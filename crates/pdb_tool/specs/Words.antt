@@ -1,12 +1,12 @@
 -- What the program's words ask for.
-use Rattle.std.specs.Prelude.{◌≡◌, ℕ, zero, suc, ◌+◌, List, [], ◌∷◌, ◌++◌, length, take, drop, codes, Bool, true, false, ◌&&◌, ◌||◌, Option, Some, None, Result, Ok, Err, nat_lt, if◌then◌else◌}
+use Rattle.std.specs.Prelude.{◌≡◌, ℕ, List, [], ◌∷◌, codes, Bool, ◌||◌, Option, Some, None, Result, Ok, Err, if◌then◌else◌}
 use Rattle.std.specs.Str.{bytes_eq}
-use Rattle.pdb_tool.specs.Asked.{hex_in, without_prefix}
-use Rattle.pdb_tool.specs.declared.asked.Asked.{Asked}
+use Rattle.pdb_tool.specs.Options.{options_of, nothing_given}
+use Rattle.pdb_tool.specs.declared.options.Options.{Options}
 use Rattle.pdb_tool.specs.declared.words.Topic.{Topic}
 use Rattle.pdb_tool.specs.declared.words.Topic.TheVariants.{Resolve, Lines, Scopes, Symbols, Key, Check}
 use Rattle.pdb_tool.specs.declared.words.Request.{Request}
-use Rattle.pdb_tool.specs.declared.words.Request.TheVariants.{Help, Version, Run}
+use Rattle.pdb_tool.specs.declared.words.Request.TheVariants.{Help, ListHelp, Version, Run}
 use Rattle.pdb_tool.specs.declared.words.WordsError.{WordsError}
 use Rattle.pdb_tool.specs.declared.words.WordsError.TheVariants.{BadWord, OutOfMemory}
 
@@ -24,14 +24,6 @@ topic_in word =
 abbrev pub is_help : List ℕ → Bool
 is_help word = bytes_eq word (codes "-h") || bytes_eq word (codes "--help")
 
--- words like an option's
-abbrev pub is_option : List ℕ → Bool
-is_option word = bytes_eq (take 2 word) (codes "--")
-
--- the base that a word tells, where it is such an option
-abbrev pub base_in : List ℕ → Option (Option ℕ)
-base_in word = if bytes_eq (take 7 word) (codes "--base=") then Some (hex_in (without_prefix (drop 7 word))) else None
-
 -- what is asked for, if no word stands behind; else the word at p is bad
 abbrev pub alone : Request → List (List ℕ) → ℕ → Result Request ℕ
 alone request [] p = Ok request
@@ -44,29 +36,19 @@ help_of (Some topic) rest = alone (Help (Some topic)) rest 2
 
 abbrev pub help_in : List (List ℕ) → Result Request ℕ
 help_in [] = Ok (Help None)
-help_in (word ∷ rest) = help_of (topic_in word) rest
+help_in (word ∷ rest) = if bytes_eq word (codes "list") then alone ListHelp rest 2 else help_of (topic_in word) rest
 
--- a command over the file of which the name is the word at p
-abbrev pub run_from : Topic → ℕ → List (List ℕ) → ℕ → Result Request ℕ
-run_from topic base [] p = Err p
-run_from topic base (word ∷ rest) p = if is_option word then Err p else Ok (Run topic base p)
-
-abbrev pub takes_base : Topic → Bool
-takes_base Resolve = true
-takes_base topic = false
-
--- by the base that the first word tells
-abbrev pub based : Topic → Option (Option ℕ) → List (List ℕ) → List (List ℕ) → Result Request ℕ
-based topic None words rest = run_from topic 0 words 1
-based topic (Some None) words rest = Err 1
-based topic (Some (Some base)) words rest = run_from topic base rest 2
+-- a command with its options
+abbrev pub run_with : Topic → Result Options ℕ → Result Request ℕ
+run_with topic (Ok options) = Ok (Run topic options)
+run_with topic (Err p) = Err p
 
 -- behind a command's word
 abbrev pub front_of : Topic → List (List ℕ) → Result Request ℕ
 front_of topic [] = Err 1
 front_of topic (word ∷ rest) =
     if is_help word then alone (Help (Some topic)) rest 2
-    else based topic (if takes_base topic then base_in word else None) (word ∷ rest) rest
+    else run_with topic (options_of topic nothing_given (word ∷ rest) 1)
 
 abbrev pub command_of : Option Topic → List (List ℕ) → Result Request ℕ
 command_of None rest = Err 0
@@ -80,18 +62,6 @@ request_in (word ∷ rest) =
     else if is_help word then alone (Help None) rest 1
     else if bytes_eq word (codes "--version") then alone Version rest 1
     else command_of (topic_in word) rest
-
--- ---- words that are all of one kind
-
--- what the words are, or the place of the first that is none, where the first stands at p
-abbrev pub with_first : {A : Type 0} → Option A → Result (List A) ℕ → ℕ → Result (List A) ℕ
-with_first None rest p = Err p
-with_first (Some x) (Ok xs) p = Ok (x ∷ xs)
-with_first (Some x) (Err q) p = Err q
-
-abbrev pub all_in : {A : Type 0} → (List ℕ → Option A) → List (List ℕ) → ℕ → Result (List A) ℕ
-all_in of [] p = Ok []
-all_in of (word ∷ words) p = with_first (of word) (all_in of words (p + 1)) p
 
 -- a call answered what the words are, seen by view, or wanted memory
 abbrev pub Tells : {X Y : Type 0} → (X → Y) → Result X WordsError → Result Y ℕ → Type 0

@@ -3,7 +3,7 @@
 ghost use Rattle.std.specs.Prelude.{◌≡◌, length};
 ghost use Rattle.std.specs.Char.{is_ascii_hexdigit};
 ghost use Rattle.std.specs.List.{list_all, position};
-ghost use Rattle.pdb_tool.specs.Asked.{is_hex, hex_in, without_prefix, relative, address_in, place_of, place_in, is_colon, asked_in};
+ghost use Rattle.pdb_tool.specs.Asked.{is_hex, hex_in, has_prefix, has_backtick, has_suffix, joined, address_number, relative, address_in, place_of, place_in, is_colon, asked_in};
 
 use pdb::PdbInternalSectionOffset;
 
@@ -19,17 +19,17 @@ pub enum Asked {
 }
 
 /// Whether all bytes of a word are hex digits.
-fn is_all_hex(word: &[u8]) -> bool
+pub fn is_all_hex(word: &[u8]) -> bool
     ensures { result ≡ list_all is_ascii_hexdigit word.now }
 {
     word.iter().all(|b| b.is_ascii_hexdigit())
 }
 
-/// Whether all bytes of a word are hex digits, and there is one at least.
+/// Whether a word is 1 to 16 hex digits.
 fn is_hex(word: &[u8]) -> bool
     ensures { result ≡ is_hex word.now }
 {
-    !word.is_empty() && is_all_hex(word)
+    !word.is_empty() && word.len() <= 16 && is_all_hex(word)
 }
 
 /// The number below 2^64 that hex digits write.
@@ -46,28 +46,76 @@ pub fn hex_in(word: &[u8]) -> Option<u64>
     u64::from_str_radix(text, 16).ok()
 }
 
-/// A word without `0x` in front.
-pub fn without_prefix(word: &[u8]) -> &[u8]
-    ensures { result.now ≡ without_prefix word.now }
+/// Whether `0x` or `0X` stands in front.
+fn has_prefix(word: &[u8]) -> bool
+    ensures { result ≡ has_prefix word.now }
 {
-    word.strip_prefix(b"0x").unwrap_or(word)
+    word.starts_with(b"0x") || word.starts_with(b"0X")
+}
+
+/// Whether a backtick stands before the last eight digits.
+fn has_backtick(word: &[u8]) -> bool
+    ensures { result ≡ has_backtick word.now }
+{
+    word.len() > 9 && word[word.len() - 9] == b'`'
+}
+
+/// Whether an `h` stands at the end.
+fn has_suffix(word: &[u8]) -> bool
+    ensures { result ≡ has_suffix word.now }
+{
+    !word.is_empty() && word[word.len() - 1] == b'h'
+}
+
+/// A number of 32 bits behind another one; none where one of them has more.
+fn joined(high: Option<u64>, low: Option<u64>) -> Option<u64>
+    ensures { result ≡ joined high low }
+{
+    let high = u32::try_from(high?).ok()?;
+    let low = u32::try_from(low?).ok()?;
+    Some(u64::from(high) * 0x1_0000_0000 + u64::from(low))
+}
+
+/// The number that an address is spelled as: `HEX`, `0xHEX`, `0XHEX`, `HEXh`, or `HEX` with a backtick before its last
+/// eight digits, of 1 to 16 digits.
+#[tactic(auto, unfolding(crate::specs::Asked::address_number))]
+pub fn address_number(word: &[u8]) -> Option<u64>
+    ensures { result ≡ address_number word.now }
+{
+    if has_prefix(word) {
+        return hex_in(&word[2..]);
+    }
+    if has_backtick(word) {
+        let (high, rest) = word.split_at(word.len() - 9);
+        return joined(hex_in(high), hex_in(&rest[1..]));
+    }
+    if has_suffix(word) {
+        return hex_in(&word[..word.len() - 1]);
+    }
+    hex_in(word)
 }
 
 /// What an address asks for, relative to its base.
-fn relative(base: u64, address: u64) -> Option<Asked>
+fn relative(base: Option<u64>, address: u64) -> Option<Asked>
     ensures { result ≡ relative base address }
 {
-    match address.checked_sub(base) {
-        Some(relative) => Some(Asked::Address(u32::try_from(relative).ok()?)),
-        None => Some(Asked::Nowhere),
+    match base {
+        Some(base) => match address.checked_sub(base) {
+            Some(relative) => match u32::try_from(relative) {
+                Ok(relative) => Some(Asked::Address(relative)),
+                Err(_) => Some(Asked::Nowhere),
+            },
+            None => Some(Asked::Nowhere),
+        },
+        None => Some(Asked::Address(u32::try_from(address).ok()?)),
     }
 }
 
 /// The address that a word is.
-fn address_in(base: u64, word: &[u8]) -> Option<Asked>
+fn address_in(base: Option<u64>, word: &[u8]) -> Option<Asked>
     ensures { result ≡ address_in base word.now }
 {
-    relative(base, hex_in(without_prefix(word))?)
+    relative(base, address_number(word)?)
 }
 
 /// The place of these numbers, where they are a section's and an offset.
@@ -97,7 +145,7 @@ fn first_colon(word: &[u8]) -> Option<usize>
 /// What a word asks for: `HEX` or `0xHEX`, an address of which `base` is taken off, or `SECTION:OFFSET`, both in hex;
 /// none where the word is neither, or a number is too great.
 #[tactic(auto, unfolding(crate::specs::Asked::asked_in))]
-pub fn asked_in(base: u64, word: &[u8]) -> Option<Asked>
+pub fn asked_in(base: Option<u64>, word: &[u8]) -> Option<Asked>
     ensures { result ≡ asked_in base word.now }
 {
     match first_colon(word) {

@@ -1,18 +1,18 @@
 //! What is wrong with the streams of a file, its modules aside.
 
-ghost use Rattle.std.specs.Prelude.{◌≡◌, ◌≢◌, ◌++◌, ◌⊎◌, flat_map, None, Err, OnOk, IfErr};
+ghost use Rattle.std.specs.Prelude.{◌≡◌, ◌≢◌, ◌++◌, ◌⊎◌, flat_map, None, Err, OnOk, IfOk, IfErr};
 ghost use Rattle.pdb.specs.Error.{Error};
 ghost use Rattle.pdb.specs.Answers.{address_map_in, debug_information_in, frame_table_in, information_in, sections_in, string_table_in};
 ghost use Rattle.pdb.specs.Container.{stream_of};
 ghost use Rattle.pdb.specs.Source.{Continues};
 ghost use Rattle.pdb.specs.Views.{symbol_of, symbols_left};
-ghost use Rattle.pdb_tool.specs.Checks.{contributions_of_file, ended_by, items_ended_by, modules_of_file, names_in, refused};
-ghost use Rattle.pdb_tool.specs.CheckTexts.{address_map_text, debug_text, fault_text, first_text, frame_table_text, front_text, globals_text, image_text, items_text, listed_globals_text, lists_text, record_text, sections_text, streams_text, string_table_text, tables_text};
+ghost use Rattle.pdb_tool.specs.Checks.{contributions_ended_by, contributions_ended_in, ended_by, ids_in, is_said, items_ended_by, modules_of_file, names_in, refused};
+ghost use Rattle.pdb_tool.specs.CheckTexts.{address_map_text, debug_text, fault_text, first_text, frame_table_text, globals_text, ids_text, image_text, items_text, listed_globals_text, lists_text, record_text, sections_text, string_table_text, types_text};
 ghost use Rattle.pdb_tool.specs.declared.stop.Stop.{Stop};
 
 use crate::findings::{put_answer, put_end, put_list, put_refusal, put_refused_record};
 use crate::stop::Stop;
-use pdb::{Error, FallibleIterator, PDB, Source, Symbol, SymbolIter};
+use pdb::{DebugInformation, Error, FallibleIterator, PDB, Source, Symbol, SymbolIter};
 use std::alloc::Global;
 
 // piece: put_names
@@ -88,8 +88,24 @@ fn put_module_list<'s, S: Source<'s>>(
     }
 }
 
+/// The line of the list of section contributions of a DBI stream; of no byte there are none.
+#[tactic(auto, unfolding(crate::specs::Checks::contributions_ended_by))]
+fn put_listed_contributions(
+    out: &mut Vec<u8>,
+    front: &[u8],
+    place: &[u8],
+    stream: &DebugInformation<'_>,
+) -> Result<(), Stop>
+    ensures text { OnOk result (out.new.items ≡ out.old.items ++ fault_text front.now place.now (contributions_ended_by stream.now)) }
+    ensures unwritten { IfErr result (λ e. (e ≡ Stop.Memory) ⊎ (e ≡ Stop.Read)) }
+{
+    if stream.header().section_contribution_size == 0 {
+        return Ok(());
+    }
+    put_list(out, front, place, stream.section_contributions())
+}
+
 /// The line of the list of section contributions.
-#[tactic(auto, unfolding(crate::specs::Checks::contributions_of_file))]
 fn put_contributions<'s, S: Source<'s>>(
     pdb: &mut PDB<'s, S>,
     out: &mut Vec<u8>,
@@ -97,11 +113,11 @@ fn put_contributions<'s, S: Source<'s>>(
     place: &[u8],
 ) -> Result<(), Stop>
     ensures continues { Continues pdb.old pdb.new }
-    ensures text { OnOk result (out.new.items ≡ out.old.items ++ fault_text front.now place.now (ended_by (contributions_of_file pdb.old.file))) }
+    ensures text { OnOk result (out.new.items ≡ out.old.items ++ fault_text front.now place.now (contributions_ended_in (debug_information_in pdb.old.file))) }
     ensures unwritten { IfErr result (λ e. (e ≡ Stop.Memory) ⊎ (e ≡ Stop.Read)) }
 {
     match pdb.debug_information() {
-        Ok(stream) => put_list(out, front, place, stream.section_contributions()),
+        Ok(stream) => put_listed_contributions(out, front, place, &stream),
         Err(e) => put_refusal(out, front, place, e),
     }
 }
@@ -246,8 +262,8 @@ fn put_types<'s, S: Source<'s>>(
     }
 }
 
-/// The line of the ids.
-fn put_ids<'s, S: Source<'s>>(
+/// The line of the stream of ids.
+fn put_id_stream<'s, S: Source<'s>>(
     pdb: &mut PDB<'s, S>,
     out: &mut Vec<u8>,
     front: &[u8],
@@ -261,6 +277,38 @@ fn put_ids<'s, S: Source<'s>>(
         Ok(ids) => put_list(out, front, place, ids.iter()),
         Err(e) => put_items_refusal(out, front, place, e),
     }
+}
+
+/// Whether the information stream says that stream 4 has ids.
+#[tactic(auto, unfolding(crate::specs::Checks::ids_in))]
+fn has_ids<'s, S: Source<'s>>(pdb: &mut PDB<'s, S>) -> Result<bool, Stop>
+    ensures continues { Continues pdb.old pdb.new }
+    ensures said { IfOk result (λ b. b ≡ is_said (ids_in pdb.old.file)) }
+    ensures unwritten { IfErr result (λ e. (e ≡ Stop.Memory) ⊎ (e ≡ Stop.Read)) }
+{
+    match pdb.pdb_information() {
+        Ok(information) => Ok(information.has_ids().unwrap_or(false)),
+        Err(Error::OutOfMemory) => Err(Stop::Memory),
+        Err(Error::IoError) => Err(Stop::Read),
+        Err(_) => Ok(false),
+    }
+}
+
+/// The line of the ids, where the information stream says that they are there.
+#[tactic(auto, unfolding(crate::specs::CheckTexts::ids_text))]
+fn put_ids<'s, S: Source<'s>>(
+    pdb: &mut PDB<'s, S>,
+    out: &mut Vec<u8>,
+    front: &[u8],
+) -> Result<(), Stop>
+    ensures continues { Continues pdb.old pdb.new }
+    ensures text { OnOk result (out.new.items ≡ out.old.items ++ ids_text front.now pdb.old.file) }
+    ensures unwritten { IfErr result (λ e. (e ≡ Stop.Memory) ⊎ (e ≡ Stop.Read)) }
+{
+    if !has_ids(pdb)? {
+        return Ok(());
+    }
+    put_id_stream(pdb, out, front, b"ids")
 }
 
 /// The line of the string table.
@@ -282,7 +330,7 @@ fn put_string_table<'s, S: Source<'s>>(
 
 /// The lines of the information stream and of the names of streams.
 #[tactic(auto, unfolding(crate::specs::CheckTexts::first_text))]
-fn put_first<'s, S: Source<'s>>(
+pub(crate) fn put_first<'s, S: Source<'s>>(
     alloc: Global,
     pdb: &mut PDB<'s, S>,
     out: &mut Vec<u8>,
@@ -298,7 +346,7 @@ fn put_first<'s, S: Source<'s>>(
 
 /// The line of the DBI stream.
 #[tactic(auto, unfolding(crate::specs::CheckTexts::debug_text))]
-fn put_debug<'s, S: Source<'s>>(
+pub(crate) fn put_debug<'s, S: Source<'s>>(
     pdb: &mut PDB<'s, S>,
     out: &mut Vec<u8>,
     front: &[u8],
@@ -312,7 +360,7 @@ fn put_debug<'s, S: Source<'s>>(
 
 /// The lines of the lists of modules and of section contributions.
 #[tactic(auto, unfolding(crate::specs::CheckTexts::lists_text))]
-fn put_lists<'s, S: Source<'s>>(
+pub(crate) fn put_lists<'s, S: Source<'s>>(
     pdb: &mut PDB<'s, S>,
     out: &mut Vec<u8>,
     front: &[u8],
@@ -355,7 +403,7 @@ fn put_map<'s, S: Source<'s>>(
 
 /// The lines of the section headers and the address map.
 #[tactic(auto, unfolding(crate::specs::CheckTexts::image_text))]
-fn put_image<'s, S: Source<'s>>(
+pub(crate) fn put_image<'s, S: Source<'s>>(
     pdb: &mut PDB<'s, S>,
     out: &mut Vec<u8>,
     front: &[u8],
@@ -368,27 +416,9 @@ fn put_image<'s, S: Source<'s>>(
     put_map(pdb, out, front)
 }
 
-/// The lines of what the first streams tell.
-#[tactic(auto, unfolding(crate::specs::CheckTexts::streams_text))]
-fn put_streams<'s, S: Source<'s>>(
-    alloc: Global,
-    pdb: &mut PDB<'s, S>,
-    out: &mut Vec<u8>,
-    front: &[u8],
-) -> Result<(), Stop>
-    ensures continues { Continues pdb.old pdb.new }
-    ensures text { OnOk result (out.new.items ≡ out.old.items ++ streams_text front.now pdb.old.file) }
-    ensures unwritten { IfErr result (λ e. (e ≡ Stop.Memory) ⊎ (e ≡ Stop.Read)) }
-{
-    put_first(alloc, pdb, out, front)?;
-    put_debug(pdb, out, front)?;
-    put_lists(pdb, out, front)?;
-    put_image(pdb, out, front)
-}
-
 /// The line of the frame table.
 #[tactic(auto, unfolding(crate::specs::CheckTexts::frame_table_text))]
-fn put_frames<'s, S: Source<'s>>(
+pub(crate) fn put_frames<'s, S: Source<'s>>(
     pdb: &mut PDB<'s, S>,
     out: &mut Vec<u8>,
     front: &[u8],
@@ -402,7 +432,7 @@ fn put_frames<'s, S: Source<'s>>(
 
 /// The line of the string table.
 #[tactic(auto, unfolding(crate::specs::CheckTexts::string_table_text))]
-fn put_strings<'s, S: Source<'s>>(
+pub(crate) fn put_strings<'s, S: Source<'s>>(
     pdb: &mut PDB<'s, S>,
     out: &mut Vec<u8>,
     front: &[u8],
@@ -416,7 +446,7 @@ fn put_strings<'s, S: Source<'s>>(
 
 /// The lines of the global symbols.
 #[tactic(auto, unfolding(crate::specs::CheckTexts::globals_text))]
-fn put_globals<'s, S: Source<'s>>(
+pub(crate) fn put_globals<'s, S: Source<'s>>(
     alloc: Global,
     pdb: &mut PDB<'s, S>,
     out: &mut Vec<u8>,
@@ -429,9 +459,23 @@ fn put_globals<'s, S: Source<'s>>(
     put_listed_globals(alloc, pdb, out, front, b"global symbols", b"global symbol ")
 }
 
+/// The line of the types.
+#[tactic(auto, unfolding(crate::specs::CheckTexts::types_text))]
+fn put_typed<'s, S: Source<'s>>(
+    pdb: &mut PDB<'s, S>,
+    out: &mut Vec<u8>,
+    front: &[u8],
+) -> Result<(), Stop>
+    ensures continues { Continues pdb.old pdb.new }
+    ensures text { OnOk result (out.new.items ≡ out.old.items ++ types_text front.now pdb.old.file) }
+    ensures unwritten { IfErr result (λ e. (e ≡ Stop.Memory) ⊎ (e ≡ Stop.Read)) }
+{
+    put_types(pdb, out, front, b"types")
+}
+
 /// The lines of the types and the ids.
 #[tactic(auto, unfolding(crate::specs::CheckTexts::items_text))]
-fn put_items<'s, S: Source<'s>>(
+pub(crate) fn put_items<'s, S: Source<'s>>(
     pdb: &mut PDB<'s, S>,
     out: &mut Vec<u8>,
     front: &[u8],
@@ -440,39 +484,6 @@ fn put_items<'s, S: Source<'s>>(
     ensures text { OnOk result (out.new.items ≡ out.old.items ++ items_text front.now pdb.old.file) }
     ensures unwritten { IfErr result (λ e. (e ≡ Stop.Memory) ⊎ (e ≡ Stop.Read)) }
 {
-    put_types(pdb, out, front, b"types")?;
-    put_ids(pdb, out, front, b"ids")
-}
-
-/// The lines of the frame table, the string table, the global symbols, the types and the ids.
-#[tactic(auto, unfolding(crate::specs::CheckTexts::tables_text))]
-fn put_tables<'s, S: Source<'s>>(
-    alloc: Global,
-    pdb: &mut PDB<'s, S>,
-    out: &mut Vec<u8>,
-    front: &[u8],
-) -> Result<(), Stop>
-    ensures continues { Continues pdb.old pdb.new }
-    ensures text { OnOk result (out.new.items ≡ out.old.items ++ tables_text front.now pdb.old.file) }
-    ensures unwritten { IfErr result (λ e. (e ≡ Stop.Memory) ⊎ (e ≡ Stop.Read)) }
-{
-    put_frames(pdb, out, front)?;
-    put_strings(pdb, out, front)?;
-    put_globals(alloc, pdb, out, front)?;
-    put_items(pdb, out, front)
-}
-
-/// The lines of what is wrong with all but the modules, behind what each of them begins with.
-pub fn put_front<'s, S: Source<'s>>(
-    alloc: Global,
-    pdb: &mut PDB<'s, S>,
-    out: &mut Vec<u8>,
-    front: &[u8],
-) -> Result<(), Stop>
-    ensures continues { Continues pdb.old pdb.new }
-    ensures text { OnOk result (out.new.items ≡ out.old.items ++ front_text front.now pdb.old.file) }
-    ensures unwritten { IfErr result (λ e. (e ≡ Stop.Memory) ⊎ (e ≡ Stop.Read)) }
-{
-    put_streams(alloc, pdb, out, front)?;
-    put_tables(alloc, pdb, out, front)
+    put_typed(pdb, out, front)?;
+    put_ids(pdb, out, front)
 }

@@ -11,7 +11,7 @@ ghost use Rattle.pdb_tool.specs.Checks.{items_of, modules_of_file};
 ghost use Rattle.pdb_tool.specs.CheckTexts.{check_text, file_front, findings_text, is_nothing, module_front, module_text, modules_text, stream_text};
 ghost use Rattle.pdb_tool.specs.declared.stop.Stop.{Stop};
 
-use crate::check_file::put_front;
+use crate::check_front::put_front;
 use crate::check_module::put_parts;
 use crate::findings::put_refusal;
 use crate::opening::opened;

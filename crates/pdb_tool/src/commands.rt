@@ -13,7 +13,7 @@ ghost use Rattle.pdb_tool.specs.ErrorLine.{told};
 ghost use Rattle.pdb_tool.specs.LineTexts.{lines_text};
 ghost use Rattle.pdb_tool.specs.ScopeTexts.{scopes_text};
 ghost use Rattle.pdb_tool.specs.SymbolTexts.{global_symbols_text, symbols_text};
-ghost use Rattle.pdb_tool.specs.ModuleTexts.{lines_command, modules_text, place_text, scopes_command, symbols_command};
+ghost use Rattle.pdb_tool.specs.ModuleTexts.{all_symbols_command, lines_command, modules_text, place_text, scopes_command, symbols_command};
 ghost use Rattle.pdb_tool.specs.declared.stop.Stop.{Stop};
 
 use crate::line_texts::put_lines;
@@ -268,4 +268,20 @@ pub fn write_symbols<'s, S: Source<'s>, W: Write>(
 {
     let mut pdb = opened(alloc, source)?;
     write_numbered(alloc, &mut pdb, places, out)
+}
+
+/// Writes the symbols of all modules of a source's file.
+#[tactic(auto, using(pdb_text::proofs::Written::any_err, crate::proofs::AnsweredLines::front_none))]
+pub fn write_all_symbols<'s, S: Source<'s>, W: Write>(
+    alloc: Global,
+    source: S,
+    out: &mut W,
+) -> Result<(), Stop>
+    ensures opened { OnOk result (opens (S.state source).file ≡ Ok tt) }
+    ensures ok { OnOk result (Appends (W.contents out.old) (W.contents out.new) (all_symbols_command (S.state source).file)) }
+    ensures refused { (S.state source).steady ≡ true → (e : Error) → IsErrOf result (Stop.Open e) → opens (S.state source).file ≡ Err e }
+    ensures front { OnErr result (WroteFront (W.contents out.old) (W.contents out.new) (all_symbols_command (S.state source).file)) }
+{
+    let mut pdb = opened(alloc, source)?;
+    write_all(alloc, &mut pdb, &Symbols, out)
 }

@@ -8,11 +8,12 @@ ghost use Rattle.pdb_tool.specs.Depth.{blanks, depth_at};
 use pdb::Symbol;
 use std::alloc::AllocError;
 
-/// Two blanks for each depth.
+/// Two blanks for each depth, and no more than 64: a file may nest as deep as it is long.
 pub fn put_blanks(out: &mut Vec<u8>, depth: usize) -> Result<(), AllocError>
     ensures { OnOk result (out.new.items ≡ out.old.items ++ blanks depth) }
 {
-    for _ in 0..depth {
+    let times = depth.min(32);
+    for _ in 0..times {
         out.extend_from_slice(b"  ")?;
     }
     Ok(())

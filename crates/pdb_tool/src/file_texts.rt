@@ -8,8 +8,8 @@ ghost use Rattle.pdb_text.specs.Written.{WroteFront};
 ghost use Rattle.pdb_tool.specs.FileTexts.{file_text};
 ghost use Rattle.pdb_tool.specs.declared.stop.Stop.{Stop};
 
-use crate::asked::Asked;
-use crate::commands::{write_lines, write_scopes, write_symbols};
+use crate::commands::{write_all_symbols, write_lines, write_scopes, write_symbols};
+use crate::question::Question;
 use crate::resolve::resolve_words;
 use crate::stop::Stop;
 use pdb::Source;
@@ -21,13 +21,15 @@ use std::io::Write;
 #[derive(Clone, Copy, Debug)]
 pub enum FileText<'a> {
     /// The code at addresses, one after another.
-    Code(&'a [Asked]),
+    Code(&'a [Question<'a>]),
     /// The line records of the modules of these numbers.
     Lines(&'a [u32]),
     /// The scopes of the modules of these numbers.
     Scopes(&'a [u32]),
     /// The symbols of the modules of these numbers.
     Symbols(&'a [u32]),
+    /// The symbols of all modules.
+    AllSymbols,
 }
 
 /// Writes what a command writes of a source's file.
@@ -44,9 +46,10 @@ pub fn write_text<'s, S: Source<'s>, W: Write>(
     ensures front { OnErr result (WroteFront (W.contents out.old) (W.contents out.new) (file_text (S.state source).file text.entry)) }
 {
     match text {
-        FileText::Code(asked) => resolve_words(alloc, source, asked, out),
+        FileText::Code(questions) => resolve_words(alloc, source, questions, out),
         FileText::Lines(places) => write_lines(alloc, source, places, out),
         FileText::Scopes(places) => write_scopes(alloc, source, places, out),
         FileText::Symbols(places) => write_symbols(alloc, source, places, out),
+        FileText::AllSymbols => write_all_symbols(alloc, source, out),
     }
 }

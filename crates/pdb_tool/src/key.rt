@@ -23,7 +23,7 @@ fn glyph(d: u8) -> u8
 }
 
 /// The bytes in two hex digits each.
-fn put_bytes(out: &mut Vec<u8>, bytes: &[u8]) -> std::result::Result<(), AllocError>
+pub fn put_bytes(out: &mut Vec<u8>, bytes: &[u8]) -> std::result::Result<(), AllocError>
     ensures { OnOk result (out.new.items ≡ out.old.items ++ flat_map byte_text bytes.now) }
 {
     for byte in bytes {
@@ -41,7 +41,7 @@ fn put_hex(alloc: Global, out: &mut Vec<u8>, n: u32) -> std::result::Result<(), 
 }
 
 /// The text of a key.
-fn text(alloc: Global, guid: &[u8; 16], age: u32) -> std::result::Result<Vec<u8>, AllocError>
+pub fn text(alloc: Global, guid: &[u8; 16], age: u32) -> std::result::Result<Vec<u8>, AllocError>
     ensures { IfOk result (λ v. v.items ≡ key_text guid.now age) }
 {
     let mut out = Vec::new(alloc);

@@ -41,10 +41,7 @@ fn put_file(
 ) -> Result<(), AllocError>
     ensures { OnOk result (out.new.items ≡ out.old.items ++ file_text (file_name (option_copied strings.entry) (file_in (Some program.now) index.0))) }
 {
-    match file_name(strings, program, index) {
-        Some(name) => out.extend_from_slice(name.as_bytes()),
-        None => out.extend_from_slice(b"??"),
-    }
+    pdb_resolve::put_file(out, file_name(strings, program, index))
 }
 
 /// `:` and a number.

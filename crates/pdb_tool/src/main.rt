@@ -5,6 +5,7 @@ ghost use Rattle.std.specs.Prelude.{◌+◌, ◌<◌, ◌^◌, length};
 
 mod asked;
 mod check_file;
+mod check_front;
 mod check_module;
 mod checks;
 mod commands;
@@ -20,10 +21,16 @@ mod flags;
 mod help;
 mod in_parts;
 mod key;
+mod key_line;
 mod kind_names;
 mod line_texts;
+mod list_help;
 mod module_texts;
 mod opening;
+mod operands;
+mod options;
+mod output;
+mod question;
 mod report;
 mod resolve;
 mod scope_texts;
@@ -32,28 +39,43 @@ mod symbol_texts;
 mod text_asked;
 mod values;
 mod values_forms;
+mod wanted;
 mod words;
 
 use checks::write_check;
-use file_texts::{FileText, write_text};
+use file_texts::FileText;
 use help::{VERSION, help_of};
-use in_parts::write_in_parts;
-use key::{key_in_parts, key_of};
-use pdb::MemorySource;
+use key_line::{key_line, line_in_parts};
+use list_help::LIST;
+use operands::{Operand, all_numbers, all_questions, operands_in};
+use options::{Options, Wanted};
+use output::Output;
 use pdb_file::{read_all, size_of};
 use pdb_text::{words_of, write_out};
-use report::{Fault, report, write_stop};
-use resolve::resolve_lines;
+use report::{Fault, file_in_word, report, status_of, write_notice, write_other_key, write_stop};
 use std::alloc::Global;
 use std::fs::{self, File};
-use std::io::{self, ErrorKind, Input, Write};
+use std::io::{self, ErrorKind, Input, IsTerminal, Write};
+use std::os::fd::AsRawFd;
 use std::process::ExitCode;
 use std::rt::{Env, Files};
-use stop::{Stop, stop_of_opening};
-use words::{Request, Topic, WordsError, all_asked, all_numbers, request_in};
+use stop::Stop;
+use wanted::{
+    ImageWants, answer_wanted, key_in_word, wants_in, write_wanted, write_wanted_in_parts,
+};
+use words::{Request, Topic, WordsError, request_in};
 
 /// Whether all was told and nothing was wrong: else a file among several wasn't told, or isn't well, and that was said.
 type Told = Result<bool, Fault>;
+
+/// Where a command writes: its texts, and what it says beside them.
+#[derive(Drop)]
+struct Streams<'a, W: Write, E: Write> {
+    out: &'a mut W,
+    err: &'a mut E,
+    /// Whether standard input is a terminal.
+    is_asked_by_hand: bool,
+}
 
 /// Why words ask for nothing.
 fn words_fault(e: WordsError) -> Fault {
@@ -71,143 +93,196 @@ fn unread_words(e: &io::Error) -> Fault {
     }
 }
 
-/// The words from a place on.
-fn words_from(words: &[String], place: usize) -> &[String]
-    ensures { place + length result.now < 2 ^ 64 }
+/// The words behind the command.
+fn words_behind(words: &[String]) -> &[String]
+    ensures { 1 + length result.now < 2 ^ 64 }
 {
-    words.get(place..).unwrap_or(&[])
+    words.get(1..).unwrap_or(&[])
 }
 
 /// How many addresses are looked for in a file of which parts are read: more of them ask for most of it.
 const MOST_IN_PARTS: usize = 64;
 
-/// The file that the word at a place names.
-fn file_named(rt: &impl Files<File = File>, words: &[String], place: usize) -> Result<File, Fault> {
-    let name = words.get(place).ok_or(Fault::BadWord(place))?;
-    fs::open(rt, name.as_str()).map_err(|_| Fault::Stopped(Stop::Read, place))
+/// The file that an operand names.
+fn file_named(rt: &impl Files<File = File>, name: &Operand<'_>) -> Result<File, Fault> {
+    fs::open(rt, name.word).map_err(|_| Fault::Stopped(Stop::Read, name.place))
 }
 
 /// How many bytes a file has of which parts are read for a text; none where it is read whole.
 fn size_in_parts(file: &File, text: FileText<'_>) -> Option<u64> {
     match text {
-        FileText::Code(asked) if asked.len() > MOST_IN_PARTS => None,
+        FileText::Code(questions) if questions.len() > MOST_IN_PARTS => None,
         _ => size_of(file),
     }
 }
 
-/// Writes the text of an open file.
+/// Writes the text of an open file, where it is the wanted one; else answers its key.
 fn write_text_of<W: Write>(
     alloc: Global,
     file: File,
+    wanted: Option<&[u8]>,
     text: FileText<'_>,
     out: &mut W,
-) -> Result<(), Stop> {
+) -> Result<Option<Vec<u8>>, Stop> {
     let mut file = file;
     if let Some(size) = size_in_parts(&file, text) {
-        return write_in_parts(alloc, &file, size, text, out);
+        return write_wanted_in_parts(alloc, &file, size, wanted, text, out);
     }
     let bytes = read_all(alloc, &mut file)?;
-    write_text(alloc, MemorySource::new(&bytes), text, out)
+    write_wanted(alloc, &bytes, wanted, text, out)
 }
 
-/// Tells the text of the file that the word at a place names.
-fn tell_text(
-    rt: &(impl Files<File = File> + Print + AllocGlobal),
-    words: &[String],
-    place: usize,
+/// Tells the text of the file that an operand names.
+fn tell_text<W: Write, E: Write>(
+    rt: &(impl Files<File = File> + AllocGlobal),
+    name: &Operand<'_>,
+    wanted: Option<&[u8]>,
     text: FileText<'_>,
+    streams: &mut Streams<'_, W, E>,
 ) -> Told {
-    let file = file_named(rt, words, place)?;
-    match write_text_of(rt.alloc(), file, text, &mut io::writer(rt)) {
-        Ok(()) => Ok(true),
-        Err(stop) => Err(Fault::Stopped(stop, place)),
+    let file = file_named(rt, name)?;
+    let written = write_text_of(rt.alloc(), file, wanted, text, streams.out);
+    told_or_other(written, name, wanted, streams.err)
+}
+
+/// Whether a text was told; that the file isn't the wanted one is said.
+fn told_or_other<E: Write>(
+    written: Result<Option<Vec<u8>>, Stop>,
+    name: &Operand<'_>,
+    wanted: Option<&[u8]>,
+    err: &mut E,
+) -> Told {
+    match written {
+        Ok(None) => Ok(true),
+        Ok(Some(key)) => {
+            let _ = write_other_key(name.word, &key, wanted.unwrap_or(&[]), err);
+            Err(Fault::OtherKey)
+        }
+        Err(stop) => Err(Fault::Stopped(stop, name.place)),
     }
 }
 
 /// Tells what code stands at the addresses that the lines of standard input are. The file is read whole: which of its
-/// modules the lines will ask for isn't known.
-fn tell_lines_read(
-    rt: &(impl Files<File = File> + Print + Input + AllocGlobal),
-    words: &[String],
-    base: u64,
-    place: usize,
+/// modules the lines will ask for isn't known. Where standard input is closed, the file has its descriptor.
+fn tell_lines_read<W: Write, E: Write>(
+    rt: &(impl Files<File = File> + Input + AllocGlobal),
+    options: Options,
+    name: &Operand<'_>,
+    wanted: Option<&[u8]>,
+    streams: &mut Streams<'_, W, E>,
 ) -> Told {
     let alloc = rt.alloc();
-    let mut file = file_named(rt, words, place)?;
-    let bytes = read_all(alloc, &mut file).map_err(|e| Fault::Stopped(Stop::from(e), place))?;
-    let source = MemorySource::new(&bytes);
-    match resolve_lines(alloc, source, base, &mut rt.reader(), &mut io::writer(rt)) {
-        Ok(()) => Ok(true),
-        Err(stop) => Err(Fault::Stopped(stop, place)),
+    let mut file = file_named(rt, name)?;
+    if file.as_raw_fd() == 0 {
+        return Err(Fault::NoInput);
+    }
+    let bytes = read_all(alloc, &mut file).map_err(|e| Fault::Stopped(Stop::from(e), name.place))?;
+    if streams.is_asked_by_hand {
+        let _ = write_notice(streams.err);
+    }
+    let input = &mut rt.reader();
+    let written = answer_wanted(alloc, &bytes, wanted, options, input, streams.out);
+    told_or_other(written, name, wanted, streams.err)
+}
+
+/// The image that the word at a place names, read, and what it wants.
+fn wants_of_named(
+    rt: &(impl Files<File = File> + AllocGlobal),
+    word: &str,
+) -> Result<ImageWants, Stop> {
+    let mut file = fs::open(rt, file_in_word(word)).map_err(|_| Stop::Read)?;
+    let bytes = read_all(rt.alloc(), &mut file)?;
+    wants_in(rt.alloc(), &bytes)
+}
+
+/// The wanted key, where one is wanted; and the options, with an image's load address where no other base is given.
+fn wanted_in(
+    rt: &(impl Files<File = File> + AllocGlobal),
+    options: Options,
+    words: &[String],
+) -> Result<(Option<Vec<u8>>, Options), Fault> {
+    match options.wanted {
+        None => Ok((None, options)),
+        Some(Wanted::Key(place)) => {
+            let word = words.get(place).ok_or(Fault::BadWord(place))?;
+            let key = key_in_word(rt.alloc(), word.as_str()).map_err(Stop::from)?;
+            Ok((Some(key), options))
+        }
+        Some(Wanted::Image(place)) => {
+            let word = words.get(place).ok_or(Fault::BadWord(place))?;
+            match wants_of_named(rt, word.as_str()) {
+                Ok(wants) => Ok((Some(wants.key), options.with_base_of(wants.base))),
+                Err(stop) => Err(Fault::Stopped(stop, place)),
+            }
+        }
     }
 }
 
-/// Tells what code stands at addresses: those of the words behind the file's name, or else of the lines of standard
-/// input.
-fn tell_code(
-    rt: &(impl Files<File = File> + Print + Input + AllocGlobal),
+/// Tells what code stands at addresses: those of the operands behind the file's name, or else of the lines of standard
+/// input. The image that is given is read first.
+fn tell_code<W: Write, E: Write>(
+    rt: &(impl Files<File = File> + Input + AllocGlobal),
+    options: Options,
     words: &[String],
-    base: u64,
-    place: usize,
+    operands: &[Operand<'_>],
+    streams: &mut Streams<'_, W, E>,
 ) -> Told {
-    let alloc = rt.alloc();
-    let rest = words_from(words, place.saturating_add(1));
-    let asked = all_asked(alloc, base, rest, place.saturating_add(1)).map_err(words_fault)?;
-    if asked.is_empty() {
-        return tell_lines_read(rt, words, base, place);
+    let (name, rest) = operands.split_first().ok_or(Fault::BadWord(words.len()))?;
+    let (key, options) = wanted_in(rt, options, words)?;
+    let wanted = key.as_deref();
+    let questions = all_questions(rt.alloc(), options, rest).map_err(words_fault)?;
+    if questions.is_empty() {
+        return tell_lines_read(rt, options, name, wanted, streams);
     }
-    tell_text(rt, words, place, FileText::Code(&asked))
+    tell_text(rt, name, wanted, FileText::Code(&questions), streams)
 }
 
 /// Tells the texts of a file's modules: of those whose numbers stand behind the file's name, or else of all.
-fn tell_modules(
-    rt: &(impl Files<File = File> + Print + AllocGlobal),
-    words: &[String],
+fn tell_modules<W: Write, E: Write>(
+    rt: &(impl Files<File = File> + AllocGlobal),
     topic: Topic,
-    place: usize,
+    options: Options,
+    name: &Operand<'_>,
+    rest: &[Operand<'_>],
+    streams: &mut Streams<'_, W, E>,
 ) -> Told {
-    let alloc = rt.alloc();
-    let rest = words_from(words, place.saturating_add(1));
-    let places = all_numbers(alloc, rest, place.saturating_add(1)).map_err(words_fault)?;
-    let text = match topic {
-        Topic::Lines => FileText::Lines(&places),
-        Topic::Scopes => FileText::Scopes(&places),
+    let places = all_numbers(rt.alloc(), rest).map_err(words_fault)?;
+    let text = match (topic, rest.first()) {
+        (Topic::Lines, _) => FileText::Lines(&places),
+        (Topic::Scopes, _) => FileText::Scopes(&places),
+        (_, Some(number)) if options.all => return Err(Fault::BadWord(number.place)),
+        (_, None) if options.all => FileText::AllSymbols,
         _ => FileText::Symbols(&places),
     };
-    tell_text(rt, words, place, text)
+    tell_text(rt, name, None, text, streams)
 }
 
-/// The key of the file of a name.
-fn key_of_named(rt: &(impl Files<File = File> + AllocGlobal), name: &str) -> Result<Vec<u8>, Stop> {
+/// The line of the file of a name: its key, and of an image that of its PDB.
+fn key_line_of(rt: &(impl Files<File = File> + AllocGlobal), name: &str) -> Result<Vec<u8>, Stop> {
     let mut file = fs::open(rt, name).map_err(|_| Stop::Read)?;
     if let Some(size) = size_of(&file) {
-        return key_in_parts(rt.alloc(), &file, size);
+        if let Some(line) = line_in_parts(rt.alloc(), &file, size, name.as_bytes())? {
+            return Ok(line);
+        }
     }
     let bytes = read_all(rt.alloc(), &mut file)?;
-    key_of(rt.alloc(), MemorySource::new(&bytes)).map_err(stop_of_opening)
+    key_line(rt.alloc(), &bytes, name.as_bytes())
 }
 
 /// Tells the keys of files. One that can't be read or opened is told as such, and the next follows.
-fn tell_keys<E: Write>(
-    rt: &(impl Files<File = File> + Print + AllocGlobal),
-    words: &[String],
-    place: usize,
-    err: &mut E,
+fn tell_keys<W: Write, E: Write>(
+    rt: &(impl Files<File = File> + AllocGlobal),
+    names: &[Operand<'_>],
+    streams: &mut Streams<'_, W, E>,
 ) -> Told {
-    let mut out = io::writer(rt);
     let mut all = true;
-    for (index, name) in words_from(words, place).iter().enumerate() {
-        match key_of_named(rt, name.as_str()) {
-            Ok(key) => {
-                write_out(&mut out, &key)?;
-                write_out(&mut out, b" ")?;
-                write_out(&mut out, name.as_bytes())?;
-                write_out(&mut out, b"\n")?;
-            }
-            Err(Stop::Memory) => return Err(Fault::Stopped(Stop::Memory, index)),
+    for name in names {
+        match key_line_of(rt, name.word) {
+            Ok(line) => write_out(streams.out, &line)?,
+            Err(Stop::Memory) => return Err(Fault::Stopped(Stop::Memory, name.place)),
             Err(stop) => {
                 all = false;
-                let _ = write_stop(rt.alloc(), stop, name.as_str(), err);
+                let _ = write_stop(rt.alloc(), stop, name.word, streams.err);
             }
         }
     }
@@ -226,47 +301,64 @@ fn check_named<W: Write>(
 }
 
 /// Tells what is wrong with files. One that can't be read or opened is told as such, and the next follows.
-fn tell_checks<E: Write>(
-    rt: &(impl Files<File = File> + Print + AllocGlobal),
-    words: &[String],
-    place: usize,
-    err: &mut E,
+fn tell_checks<W: Write, E: Write>(
+    rt: &(impl Files<File = File> + AllocGlobal),
+    names: &[Operand<'_>],
+    streams: &mut Streams<'_, W, E>,
 ) -> Told {
-    let mut out = io::writer(rt);
     let mut all = true;
-    for name in words_from(words, place) {
-        match check_named(rt, name.as_str(), &mut out) {
+    for name in names {
+        match check_named(rt, name.word, streams.out) {
             Ok(well) => all = all && well,
-            Err(Stop::Memory) => return Err(Fault::Stopped(Stop::Memory, place)),
-            Err(Stop::Write) => return Err(Fault::Stopped(Stop::Write, place)),
+            Err(Stop::Memory) => return Err(Fault::Stopped(Stop::Memory, name.place)),
+            Err(Stop::Write) => return Err(Fault::Stopped(Stop::Write, name.place)),
             Err(stop) => {
                 all = false;
-                let _ = write_stop(rt.alloc(), stop, name.as_str(), err);
+                let _ = write_stop(rt.alloc(), stop, name.word, streams.err);
             }
         }
     }
     Ok(all)
 }
 
-/// Does what the words ask for.
-fn run<E: Write>(
-    rt: &(impl Files<File = File> + Print + Input + AllocGlobal),
+/// Does what a command is asked for.
+fn run_command<W: Write, E: Write>(
+    rt: &(impl Files<File = File> + Input + AllocGlobal),
+    topic: Topic,
+    options: Options,
     words: &[String],
-    err: &mut E,
+    streams: &mut Streams<'_, W, E>,
+) -> Told {
+    let operands = operands_in(rt.alloc(), words_behind(words), 1).map_err(Stop::from)?;
+    let (name, rest) = operands.split_first().ok_or(Fault::BadWord(words.len()))?;
+    match topic {
+        Topic::Resolve => tell_code(rt, options, words, &operands, streams),
+        Topic::Key => tell_keys(rt, &operands, streams),
+        Topic::Check => tell_checks(rt, &operands, streams),
+        _ => tell_modules(rt, topic, options, name, rest, streams),
+    }
+}
+
+/// Does what the words ask for.
+fn run<W: Write, E: Write>(
+    rt: &(impl Files<File = File> + Input + AllocGlobal),
+    words: &[String],
+    streams: &mut Streams<'_, W, E>,
 ) -> Told {
     match request_in(words).map_err(words_fault)? {
         Request::Help(topic) => {
-            write_out(&mut io::writer(rt), help_of(topic).as_bytes())?;
+            write_out(streams.out, help_of(topic).as_bytes())?;
+            Ok(true)
+        }
+        Request::ListHelp => {
+            write_out(streams.out, LIST.as_bytes())?;
             Ok(true)
         }
         Request::Version => {
-            write_out(&mut io::writer(rt), VERSION.as_bytes())?;
+            write_out(streams.out, VERSION.as_bytes())?;
             Ok(true)
         }
-        Request::Run(Topic::Resolve, base, place) => tell_code(rt, words, base, place),
-        Request::Run(Topic::Key, _, place) => tell_keys(rt, words, place, err),
-        Request::Run(Topic::Check, _, place) => tell_checks(rt, words, place, err),
-        Request::Run(topic, _, place) => tell_modules(rt, words, topic, place),
+        Request::Run(topic, options) => run_command(rt, topic, options, words, streams),
     }
 }
 
@@ -276,9 +368,16 @@ fn main(rt: HostRuntime) -> ExitCode {
         Ok(words) => words,
         Err(e) => return ExitCode::from(report(rt.alloc(), unread_words(&e), &[], &mut err)),
     };
-    match run(&rt, &words, &mut err) {
+    let mut out = Output::new(io::writer(&rt));
+    let mut streams = Streams {
+        out: &mut out,
+        err: &mut err,
+        is_asked_by_hand: rt.stdin().is_terminal(),
+    };
+    match run(&rt, &words, &mut streams) {
         Ok(true) => ExitCode::SUCCESS,
         Ok(false) => ExitCode::FAILURE,
+        Err(fault) if out.is_closed() => ExitCode::from(status_of(fault)),
         Err(fault) => ExitCode::from(report(rt.alloc(), fault, &words, &mut err)),
     }
 }

@@ -1,22 +1,25 @@
 //! Texts of the modules of a file, one after another.
 
-ghost use Rattle.std.specs.Prelude.{◌≡◌, ◌≢◌, ◌++◌, ◌⊎◌, [], ℕ, List, codes, flat_map, IfOk, IfErr, OnOk, OnErr, IsErrOf, IsErrAnd};
+ghost use Rattle.std.specs.Prelude.{◌≡◌, ◌≢◌, ◌++◌, ◌⊎◌, Some, [], ℕ, List, codes, count_by, flat_map, IfOk, IfErr, OnOk, OnErr, IsErrOf, IsErrAnd};
 ghost use Rattle.std.specs.Io.KnownBytes.{Appends};
 ghost use Rattle.pdb.specs.Error.{Error};
 ghost use Rattle.pdb.specs.Error.TheVariants.{OutOfMemory, IoError};
-ghost use Rattle.pdb.specs.DbiViews.{modules_left};
-ghost use Rattle.pdb.specs.ModuleStream.{ModuleBytes};
-ghost use Rattle.pdb.specs.Answers.{module_info_in, module_of_file};
+ghost use Rattle.pdb.specs.DbiViews.{modules_left, modules_steps};
+ghost use Rattle.pdb.specs.Modules.{modules_in};
+ghost use Rattle.pdb.specs.Answers.{item_at, module_info_in};
 ghost use Rattle.pdb.specs.Source.{Continues};
 ghost use Rattle.pdb_text.specs.Written.{WroteFirst, WroteFront};
-ghost use Rattle.pdb_tool.specs.ErrorLine.{error_line};
-ghost use Rattle.pdb_tool.specs.ModuleTexts.{all_text, list_text, listed_text, place_text, there_text};
+ghost use Rattle.pdb_tool.specs.ErrorLine.{error_line, told};
+ghost use Rattle.pdb_tool.specs.ModuleTexts.{all_text, are_several, entry_text, has_stream, line_if, list_text, listed_text, module_line, place_text, places_text, several_in, there_text};
 ghost use Rattle.pdb_tool.specs.declared.stop.Stop.{Stop};
 
 use crate::error_line::put_error_line;
 use crate::stop::Stop;
-use pdb::{Error, FallibleIterator, Module, ModuleInfo, ModuleIter, PDB, Source};
-use pdb_text::write_out;
+use crate::values::put_behind_blank;
+use pdb::{
+    DebugInformation, Error, FallibleIterator, Module, ModuleInfo, ModuleIter, PDB, Source, item_at,
+};
+use pdb_text::{put_decimal, put_line_end, write_out};
 use std::alloc::{AllocError, Global};
 use std::io::Write;
 
@@ -45,62 +48,177 @@ fn put_refused(out: &mut Vec<u8>, e: Error) -> Result<(), Stop>
     }
 }
 
-/// The text of what was found of a module.
+/// The line that names a module, by its index in the list.
+#[tactic(auto, unfolding(crate::specs::ModuleTexts::module_line))]
+fn put_module_line(out: &mut Vec<u8>, k: u64, module: &Module<'_>) -> Result<(), AllocError>
+    ensures { OnOk result (out.new.items ≡ out.old.items ++ module_line k «module».now) }
+{
+    out.extend_from_slice(b"module ")?;
+    put_decimal(out, k)?;
+    put_behind_blank(out, module.raw_module_name().as_bytes())?;
+    put_line_end(out)
+}
+
+/// The line that names a module, where several are told.
+fn put_line_if(
+    out: &mut Vec<u8>,
+    several: bool,
+    k: u64,
+    module: &Module<'_>,
+) -> Result<(), AllocError>
+    ensures { OnOk result (out.new.items ≡ out.old.items ++ line_if several k «module».now) }
+{
+    if several {
+        put_module_line(out, k, module)
+    } else {
+        Ok(())
+    }
+}
+
+/// The text of what was found of a module whose number was given.
 fn put_found<T: ModuleText>(
     alloc: Global,
     out: &mut Vec<u8>,
     texts: &T,
-    missing: &[u8],
     found: pdb::Result<Option<ModuleInfo<'_>>>,
 ) -> Result<(), Stop>
-    ensures found { IfOk found.entry (λ m. OnOk result (out.new.items ≡ out.old.items ++ there_text (T.text texts.now) missing.now m)) }
+    ensures found { IfOk found.entry (λ m. OnOk result (out.new.items ≡ out.old.items ++ there_text (T.text texts.now) (codes "none\n") m)) }
     ensures refused { IfErr found.entry (λ e. OnOk result ((e ≢ Error.OutOfMemory) × (e ≢ Error.IoError) × (out.new.items ≡ out.old.items ++ error_line e))) }
     ensures unwritten { IfErr result (λ e. (e ≡ Stop.Memory) ⊎ (e ≡ Stop.Read)) }
 {
     match found {
         Ok(Some(info)) => Ok(texts.put(alloc, out, &info)?),
-        Ok(None) => Ok(out.extend_from_slice(missing)?),
+        Ok(None) => Ok(out.extend_from_slice(b"none\n")?),
+        Err(e) => put_refused(out, e),
+    }
+}
+
+/// The text of a module of this index, behind the line that names it where several are told.
+fn put_entry<'s, S: Source<'s>, T: ModuleText>(
+    alloc: Global,
+    pdb: &mut PDB<'s, S>,
+    texts: &T,
+    several: bool,
+    k: u32,
+    module: &Module<'_>,
+    out: &mut Vec<u8>,
+) -> Result<(), Stop>
+    ensures continues { Continues pdb.old pdb.new }
+    ensures text { OnOk result (out.new.items ≡ out.old.items ++ entry_text several (T.text texts.now) pdb.old.file k (Some «module».now)) }
+    ensures unwritten { IfErr result (λ e. (e ≡ Stop.Memory) ⊎ (e ≡ Stop.Read)) }
+{
+    put_line_if(out, several, u64::from(k), module)?;
+    let found = pdb.module_info(module);
+    put_found(alloc, out, texts, found)
+}
+
+/// The text of the module of an index, of those that an iterator has left.
+fn put_item<'s, S: Source<'s>, T: ModuleText>(
+    alloc: Global,
+    pdb: &mut PDB<'s, S>,
+    texts: &T,
+    several: bool,
+    k: u32,
+    modules: ModuleIter<'_>,
+    out: &mut Vec<u8>,
+) -> Result<(), Stop>
+    ensures continues { Continues pdb.old pdb.new }
+    ensures text { OnOk result (out.new.items ≡ out.old.items ++ told (item_at k (modules_left modules.entry)) (entry_text several (T.text texts.now) pdb.old.file k)) }
+    ensures unwritten { IfErr result (λ e. (e ≡ Stop.Memory) ⊎ (e ≡ Stop.Read)) }
+{
+    match item_at(modules, k as usize) {
+        Ok(Some(module)) => put_entry(alloc, pdb, texts, several, k, &module, out),
+        Ok(None) => Ok(out.extend_from_slice(b"none\n")?),
         Err(e) => put_refused(out, e),
     }
 }
 
 // piece: put_place
-/// The text of the module of a number in the list.
-#[tactic(auto, unfolding(crate::specs::ModuleTexts::place_text))]
+/// The text of the module of an index in the list, behind the line that names it where several are told.
+#[tactic(auto, unfolding(crate::specs::ModuleTexts::place_text, pdb::specs::Answers::module_listed))]
 fn put_place<'s, S: Source<'s>, T: ModuleText>(
     alloc: Global,
     pdb: &mut PDB<'s, S>,
     texts: &T,
+    several: bool,
     k: u32,
     out: &mut Vec<u8>,
 ) -> Result<(), Stop>
     ensures continues { Continues pdb.old pdb.new }
-    ensures text { OnOk result (out.new.items ≡ out.old.items ++ place_text (T.text texts.now) pdb.old.file k) }
+    ensures text { OnOk result (out.new.items ≡ out.old.items ++ place_text several (T.text texts.now) pdb.old.file k) }
     ensures unwritten { IfErr result (λ e. (e ≡ Stop.Memory) ⊎ (e ≡ Stop.Read)) }
 {
-    let found = pdb.module_at(k as usize);
-    put_found(alloc, out, texts, b"none\n", found)
+    let information = match pdb.debug_information() {
+        Ok(information) => information,
+        Err(e) => return put_refused(out, e),
+    };
+    match information.modules() {
+        Ok(modules) => put_item(alloc, pdb, texts, several, k, modules, out),
+        Err(e) => put_refused(out, e),
+    }
 }
 // end
 
-/// The text of a module of the list.
+/// The text of a module of the list, behind the line that names it.
 #[tactic(auto, unfolding(crate::specs::ModuleTexts::listed_text))]
 fn put_listed<'s, S: Source<'s>, T: ModuleText>(
     alloc: Global,
     pdb: &mut PDB<'s, S>,
     texts: &T,
+    several: bool,
+    k: u64,
     module: &Module<'_>,
     out: &mut Vec<u8>,
 ) -> Result<(), Stop>
     ensures continues { Continues pdb.old pdb.new }
-    ensures text { OnOk result (out.new.items ≡ out.old.items ++ listed_text (T.text texts.now) pdb.old.file «module».now) }
+    ensures text { OnOk result (out.new.items ≡ out.old.items ++ listed_text several (T.text texts.now) pdb.old.file k «module».now) }
     ensures unwritten { IfErr result (λ e. (e ≡ Stop.Memory) ⊎ (e ≡ Stop.Read)) }
 {
-    let found = pdb.module_info(module);
-    put_found(alloc, out, texts, b"", found)
+    match pdb.module_info(module) {
+        Ok(Some(info)) => {
+            put_line_if(out, several, k, module)?;
+            Ok(texts.put(alloc, out, &info)?)
+        }
+        Ok(None) => Ok(()),
+        Err(e) => {
+            put_line_if(out, several, k, module)?;
+            put_refused(out, e)
+        }
+    }
+}
+
+/// Whether more than one number is given.
+fn are_several(places: &[u32]) -> bool
+    ensures { result ≡ are_several places.now }
+{
+    places.len() > 1
 }
 
 /// Writes the texts of the modules of these numbers. Each is composed and then written.
+fn write_each<'s, S: Source<'s>, T: ModuleText, W: Write>(
+    alloc: Global,
+    pdb: &mut PDB<'s, S>,
+    texts: &T,
+    several: bool,
+    places: &[u32],
+    out: &mut W,
+) -> Result<(), Stop>
+    ensures opened { (e : Error) → IsErrOf result (Stop.Open e) → ⊥ }
+    // All texts were written.
+    ensures ok { OnOk result (Appends (W.contents out.old) (W.contents out.new) (flat_map (place_text several (T.text texts.now) pdb.old.file) places.now)) }
+    // A beginning of the texts was written.
+    ensures front { OnErr result (WroteFront (W.contents out.old) (W.contents out.new) (flat_map (place_text several (T.text texts.now) pdb.old.file) places.now)) }
+{
+    let mut text = Vec::new(alloc);
+    for k in places {
+        text.clear();
+        put_place(alloc, pdb, texts, several, *k, &mut text)?;
+        write_out(out, &text)?;
+    }
+    Ok(())
+}
+
+/// Writes the texts of the modules of these numbers, each behind the line that names it where there are several.
 pub fn write_places<'s, S: Source<'s>, T: ModuleText, W: Write>(
     alloc: Global,
     pdb: &mut PDB<'s, S>,
@@ -110,17 +228,11 @@ pub fn write_places<'s, S: Source<'s>, T: ModuleText, W: Write>(
 ) -> Result<(), Stop>
     ensures opened { (e : Error) → IsErrOf result (Stop.Open e) → ⊥ }
     // All texts were written.
-    ensures ok { OnOk result (Appends (W.contents out.old) (W.contents out.new) (flat_map (place_text (T.text texts.now) pdb.old.file) places.now)) }
+    ensures ok { OnOk result (Appends (W.contents out.old) (W.contents out.new) (places_text (T.text texts.now) pdb.old.file places.now)) }
     // A beginning of the texts was written.
-    ensures front { OnErr result (WroteFront (W.contents out.old) (W.contents out.new) (flat_map (place_text (T.text texts.now) pdb.old.file) places.now)) }
+    ensures front { OnErr result (WroteFront (W.contents out.old) (W.contents out.new) (places_text (T.text texts.now) pdb.old.file places.now)) }
 {
-    let mut text = Vec::new(alloc);
-    for k in places {
-        text.clear();
-        put_place(alloc, pdb, texts, *k, &mut text)?;
-        write_out(out, &text)?;
-    }
-    Ok(())
+    write_each(alloc, pdb, texts, are_several(places), places, out)
 }
 
 /// Writes the line of a refusal.
@@ -141,22 +253,62 @@ fn write_left<'s, S: Source<'s>, T: ModuleText, W: Write>(
     alloc: Global,
     pdb: &mut PDB<'s, S>,
     texts: &T,
+    several: bool,
     mut modules: ModuleIter<'_>,
     out: &mut W,
 ) -> Result<(), Stop>
+    requires { modules_steps modules ≡ 0 }
     ensures opened { (e : Error) → IsErrOf result (Stop.Open e) → ⊥ }
-    ensures ok { OnOk result (Appends (W.contents out.old) (W.contents out.new) (list_text (T.text texts.now) pdb.old.file (modules_left modules.entry))) }
-    ensures front { OnErr result (WroteFront (W.contents out.old) (W.contents out.new) (list_text (T.text texts.now) pdb.old.file (modules_left modules.entry))) }
+    ensures ok { OnOk result (Appends (W.contents out.old) (W.contents out.new) (list_text several (T.text texts.now) pdb.old.file 0 (modules_left modules.entry))) }
+    ensures front { OnErr result (WroteFront (W.contents out.old) (W.contents out.new) (list_text several (T.text texts.now) pdb.old.file 0 (modules_left modules.entry))) }
 {
     let mut text = Vec::new(alloc);
+    let mut k = 0;
     loop {
         text.clear();
         match modules.next() {
-            Ok(Some(module)) => put_listed(alloc, pdb, texts, &module, &mut text)?,
+            Ok(Some(module)) => put_listed(alloc, pdb, texts, several, k, &module, &mut text)?,
             Ok(None) => return Ok(()),
             Err(e) => return write_refused(alloc, e, out),
         }
         write_out(out, &text)?;
+        k += 1;
+    }
+}
+
+/// Whether a module has a stream.
+fn has_stream(module: &Module<'_>) -> bool
+    ensures { result ≡ has_stream «module».now }
+{
+    module.stream().0 != 0xffff
+}
+
+/// How many of the modules that an iterator has left are told, up to its fault.
+fn count_told(mut modules: ModuleIter<'_>) -> u64
+    requires { modules_steps modules ≡ 0 }
+    ensures { result ≡ count_by has_stream (modules_left modules.entry).items }
+{
+    let mut count = 0;
+    loop {
+        match modules.next() {
+            Ok(Some(module)) => {
+                if has_stream(&module) {
+                    count += 1;
+                }
+            }
+            Ok(None) => return count,
+            Err(_) => return count,
+        }
+    }
+}
+
+/// Whether more than one module of a list is told.
+fn tells_several(information: &DebugInformation<'_>) -> bool
+    ensures { result ≡ several_in (modules_in information.now) }
+{
+    match information.modules() {
+        Ok(modules) => count_told(modules) > 1,
+        Err(_) => false,
     }
 }
 
@@ -176,8 +328,9 @@ pub fn write_all<'s, S: Source<'s>, T: ModuleText, W: Write>(
         Ok(information) => information,
         Err(e) => return write_refused(alloc, e, out),
     };
+    let several = tells_several(&information);
     match information.modules() {
-        Ok(modules) => write_left(alloc, pdb, texts, modules, out),
+        Ok(modules) => write_left(alloc, pdb, texts, several, modules, out),
         Err(e) => write_refused(alloc, e, out),
     }
 }

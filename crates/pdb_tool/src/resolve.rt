@@ -1,17 +1,20 @@
 //! Texts of the code at addresses.
 
-ghost use Rattle.std.specs.Prelude.{◌≡◌, ◌≢◌, ◌++◌, ◌⊎◌, ℕ, true, false, flat_map, IfOk, IfErr, IfSome, OnOk, OnErr, IsErrOf, IsErrAnd, Some, Ok, Err, length};
+ghost use Rattle.std.specs.Prelude.{◌≡◌, ◌≢◌, ◌<◌, ◌++◌, ◌⊎◌, ℕ, true, false, flat_map, IfOk, IfErr, IfSome, OnOk, OnErr, IsErrOf, IsErrAnd, Some, Ok, Err, length};
 ghost use Rattle.std.specs.Io.KnownBytes.{Appends, IsAtEnd};
 ghost use Rattle.std.specs.Io.BufRead.{drop_through, strip_last, take_through};
 ghost use Rattle.pdb.specs.Container.{opens};
 ghost use Rattle.pdb.specs.Error.{Error};
 ghost use Rattle.pdb.specs.Source.{Continues};
 ghost use Rattle.pdb_text.specs.Written.{WroteFirst, WroteFront};
-ghost use Rattle.pdb_tool.specs.Asked.{asked_place, asked_text, line_text, lines_of, of_first_line, without_blanks};
+ghost use Rattle.pdb_tool.specs.Questions.{asks_text, line_text, question_text, question_view};
+ghost use Rattle.pdb_tool.specs.Asked.{AnsweredUpTo, asked_place, asked_text, lines_of, of_first_line, without_blanks};
 ghost use Rattle.pdb_tool.specs.declared.stop.Stop.{Stop};
 
-use crate::asked::{Asked, asked_in};
+use crate::asked::Asked;
 use crate::opening::opened;
+use crate::options::Options;
+use crate::question::{Question, question_of};
 use crate::stop::{Stop, stop_of};
 use pdb::Source;
 use pdb_resolve::{Resolver, Streams};
@@ -40,27 +43,45 @@ pub fn put_asked<'s, S: Source<'s>>(
 }
 // end
 
+/// The text of a question: what asks it, where that is written, and what code stands there.
+#[tactic(auto, unfolding(crate::specs::Questions::question_text))]
+pub fn put_question<'s, S: Source<'s>>(
+    resolver: &mut Resolver<'_, 's, S>,
+    out: &mut Vec<u8>,
+    question: &Question<'_>,
+) -> Result<(), Stop>
+    ensures continues { Continues resolver.old resolver.new }
+    ensures text { OnOk result (out.new.items ≡ out.old.items ++ asks_text resolver.old.file question.now) }
+    ensures unwritten { IfErr result (λ e. (e ≡ Stop.Memory) ⊎ (e ≡ Stop.Read)) }
+{
+    if let Some(heading) = question.heading {
+        out.extend_from_slice(heading)?;
+        put_line_end(out)?;
+    }
+    put_asked(resolver, out, question.asked)
+}
+
 // piece: write_asked
 /// Writes the texts of what is asked for, one after another. Each is composed and then written.
 pub fn write_asked<'s, S: Source<'s>, W: Write>(
     alloc: Global,
     resolver: &mut Resolver<'_, 's, S>,
-    asked: &[Asked],
+    questions: &[Question<'_>],
     out: &mut W,
 ) -> Result<(), Stop>
     ensures continues { Continues resolver.old resolver.new }
     ensures opened { (e : Error) → IsErrOf result (Stop.Open e) → ⊥ }
     // All texts were written.
-    ensures ok { OnOk result (Appends (W.contents out.old) (W.contents out.new) (flat_map (asked_text resolver.old.file) asked.now)) }
+    ensures ok { OnOk result (Appends (W.contents out.old) (W.contents out.new) (flat_map (asks_text resolver.old.file) questions.now)) }
     // The texts of some first words were written, whole.
-    ensures stopped { IsErrAnd result (λ e. e ≢ Stop.Write) → WroteFirst (asked_text resolver.old.file) (W.contents out.old) (W.contents out.new) asked.now }
+    ensures stopped { IsErrAnd result (λ e. e ≢ Stop.Write) → WroteFirst (asks_text resolver.old.file) (W.contents out.old) (W.contents out.new) questions.now }
     // A beginning of the texts was written.
-    ensures write { IsErrOf result Stop.Write → WroteFront (W.contents out.old) (W.contents out.new) (flat_map (asked_text resolver.old.file) asked.now) }
+    ensures write { IsErrOf result Stop.Write → WroteFront (W.contents out.old) (W.contents out.new) (flat_map (asks_text resolver.old.file) questions.now) }
 {
     let mut text = Vec::new(alloc);
-    for it in asked {
+    for question in questions {
         text.clear();
-        put_asked(resolver, &mut text, *it)?;
+        put_question(resolver, &mut text, question)?;
         write_out(out, &text)?;
     }
     Ok(())
@@ -68,19 +89,19 @@ pub fn write_asked<'s, S: Source<'s>, W: Write>(
 // end
 
 /// The text that answers a line without its end.
-#[tactic(auto, unfolding(crate::specs::Asked::line_text), using(std::proofs::lemmas::Str::Ascii::trim_ascii_is))]
+#[tactic(auto, unfolding(crate::specs::Questions::line_text), using(std::proofs::lemmas::Str::Ascii::trim_ascii_is))]
 fn put_answer<'s, S: Source<'s>>(
     resolver: &mut Resolver<'_, 's, S>,
-    base: u64,
+    options: Options,
     line: &[u8],
     out: &mut Vec<u8>,
 ) -> Result<(), Stop>
     ensures continues { Continues resolver.old resolver.new }
-    ensures text { OnOk result (out.new.items ≡ out.old.items ++ line_text resolver.old.file base line.now) }
+    ensures text { OnOk result (out.new.items ≡ out.old.items ++ line_text resolver.old.file options line.now) }
     ensures unwritten { IfErr result (λ e. (e ≡ Stop.Memory) ⊎ (e ≡ Stop.Read)) }
 {
-    match asked_in(base, trimmed(line)) {
-        Some(asked) => put_asked(resolver, out, asked),
+    match question_of(options, trimmed(line)) {
+        Some(question) => put_question(resolver, out, &question),
         None => {
             out.extend_from_slice(line)?;
             put_line_end(out)?;
@@ -107,11 +128,13 @@ fn line_stop(e: &io::Error) -> Stop
 }
 
 /// Reads the next line of a reader, with its end, in place of what is there; answers how many bytes it has.
+#[tactic(auto, using(crate::proofs::AnsweredLines::some_left))]
 fn read_line<R: BufRead>(input: &mut R, line: &mut Vec<u8>) -> Result<usize, Stop>
     ensures line { IfSome (R.remaining input.old) (λ xs. OnOk result (line.new.items ≡ take_through 10 xs)) }
     ensures rest { IfSome (R.remaining input.old) (λ xs. OnOk result (R.remaining input.new ≡ Some (drop_through 10 xs))) }
     ensures end { IfOk result (λ n. n ≡ 0 → IsAtEnd (R.remaining input.old)) }
     ensures count { IfOk result (λ n. n ≡ length line.new.items) }
+    ensures some { IfOk result (λ n. 0 < n → IfSome (R.remaining input.old) (λ xs. 0 < length xs)) }
     ensures unwritten { IfErr result (λ e. (e ≡ Stop.Memory) ⊎ (e ≡ Stop.Read)) }
 {
     line.clear();
@@ -145,7 +168,7 @@ impl LineRooms {
 /// Reads the next line of a reader, and writes the text that answers it; answers whether there was one.
 pub fn answer_line<'s, S: Source<'s>, R: BufRead, W: Write>(
     resolver: &mut Resolver<'_, 's, S>,
-    base: u64,
+    options: Options,
     rooms: &mut LineRooms,
     input: &mut R,
     out: &mut W,
@@ -154,16 +177,20 @@ pub fn answer_line<'s, S: Source<'s>, R: BufRead, W: Write>(
     ensures opened { (e : Error) → IsErrOf result (Stop.Open e) → ⊥ }
     // The first line that was left, and no more, was read, and the text that answers it was written.
     ensures read { IfSome (R.remaining input.old) (λ xs. OnOk result (R.remaining input.new ≡ Some (drop_through 10 xs))) }
-    ensures answered { IfSome (R.remaining input.old) (λ xs. OnOk result (Appends (W.contents out.old) (W.contents out.new) (of_first_line (line_text resolver.old.file base) xs))) }
+    ensures answered { IfSome (R.remaining input.old) (λ xs. OnOk result (Appends (W.contents out.old) (W.contents out.new) (of_first_line (line_text resolver.old.file options) xs))) }
+    // There was a line exactly where bytes were left.
     ensures end { IfOk result (λ more. more ≡ false → IsAtEnd (R.remaining input.old)) }
+    ensures more { IfOk result (λ more. more ≡ true → IfSome (R.remaining input.old) (λ xs. 0 < length xs)) }
+    // Where its text can't be written, that line and no more was read.
+    ensures write { IsErrOf result Stop.Write → IfSome (R.remaining input.old) (λ xs. (0 < length xs) × (R.remaining input.new ≡ Some (drop_through 10 xs))) }
     // A beginning of that text was written.
-    ensures refused { IfSome (R.remaining input.old) (λ xs. OnErr result (WroteFront (W.contents out.old) (W.contents out.new) (of_first_line (line_text resolver.old.file base) xs))) }
+    ensures refused { IfSome (R.remaining input.old) (λ xs. OnErr result (WroteFront (W.contents out.old) (W.contents out.new) (of_first_line (line_text resolver.old.file options) xs))) }
 {
     if read_line(input, &mut rooms.line)? == 0 {
         return Ok(false);
     }
     rooms.text.clear();
-    put_answer(resolver, base, without_end(&rooms.line), &mut rooms.text)?;
+    put_answer(resolver, options, without_end(&rooms.line), &mut rooms.text)?;
     write_out(out, &rooms.text)?;
     Ok(true)
 }
@@ -171,7 +198,7 @@ pub fn answer_line<'s, S: Source<'s>, R: BufRead, W: Write>(
 /// Answers the lines of a reader, one after another: the text of each is written before the next line is read.
 pub fn answer_lines<'s, S: Source<'s>, R: BufRead, W: Write>(
     resolver: &mut Resolver<'_, 's, S>,
-    base: u64,
+    options: Options,
     rooms: &mut LineRooms,
     input: &mut R,
     out: &mut W,
@@ -179,12 +206,14 @@ pub fn answer_lines<'s, S: Source<'s>, R: BufRead, W: Write>(
     ensures continues { Continues resolver.old resolver.new }
     ensures opened { (e : Error) → IsErrOf result (Stop.Open e) → ⊥ }
     // All lines were read and answered.
-    ensures ok { IfSome (R.remaining input.old) (λ xs. OnOk result (Appends (W.contents out.old) (W.contents out.new) (flat_map (line_text resolver.old.file base) (lines_of xs)))) }
+    ensures ok { IfSome (R.remaining input.old) (λ xs. OnOk result (Appends (W.contents out.old) (W.contents out.new) (flat_map (line_text resolver.old.file options) (lines_of xs)))) }
     // A beginning of the texts was written.
-    ensures refused { IfSome (R.remaining input.old) (λ xs. OnErr result (WroteFront (W.contents out.old) (W.contents out.new) (flat_map (line_text resolver.old.file base) (lines_of xs)))) }
+    ensures refused { IfSome (R.remaining input.old) (λ xs. OnErr result (WroteFront (W.contents out.old) (W.contents out.new) (flat_map (line_text resolver.old.file options) (lines_of xs)))) }
+    // No line is read before the texts of those before it stand there.
+    ensures order { IsErrOf result Stop.Write → IfSome (R.remaining input.old) (λ xs. IfSome (R.remaining input.new) (λ rest. AnsweredUpTo (line_text resolver.old.file options) xs rest (W.contents out.old) (W.contents out.new))) }
 {
     for _ in 0..u64::MAX {
-        if !answer_line(resolver, base, rooms, input, out)? {
+        if !answer_line(resolver, options, rooms, input, out)? {
             return Ok(());
         }
     }
@@ -213,37 +242,37 @@ pub fn resolver_over<'a, 's, S: Source<'s>>(
 pub fn resolve_words<'s, S: Source<'s>, W: Write>(
     alloc: Global,
     source: S,
-    asked: &[Asked],
+    questions: &[Question<'_>],
     out: &mut W,
 ) -> Result<(), Stop>
     ensures opened { OnOk result (opens (S.state source).file ≡ Ok tt) }
-    ensures ok { OnOk result (Appends (W.contents out.old) (W.contents out.new) (flat_map (asked_text (S.state source).file) asked.now)) }
+    ensures ok { OnOk result (Appends (W.contents out.old) (W.contents out.new) (flat_map (asks_text (S.state source).file) questions.now)) }
     ensures refused { (S.state source).steady ≡ true → (e : Error) → IsErrOf result (Stop.Open e) → opens (S.state source).file ≡ Err e }
     // The texts of some first words were written, whole.
-    ensures stopped { IsErrAnd result (λ e. e ≢ Stop.Write) → WroteFirst (asked_text (S.state source).file) (W.contents out.old) (W.contents out.new) asked.now }
+    ensures stopped { IsErrAnd result (λ e. e ≢ Stop.Write) → WroteFirst (asks_text (S.state source).file) (W.contents out.old) (W.contents out.new) questions.now }
     // A beginning of the texts was written.
-    ensures write { IsErrOf result Stop.Write → WroteFront (W.contents out.old) (W.contents out.new) (flat_map (asked_text (S.state source).file) asked.now) }
+    ensures write { IsErrOf result Stop.Write → WroteFront (W.contents out.old) (W.contents out.new) (flat_map (asks_text (S.state source).file) questions.now) }
 {
     let mut streams = Streams::new(alloc);
     let mut resolver = resolver_over(alloc, source, &mut streams)?;
-    write_asked(alloc, &mut resolver, asked, out)
+    write_asked(alloc, &mut resolver, questions, out)
 }
 
 /// Answers the lines of a reader over a source's file, each before the next is read.
 pub fn resolve_lines<'s, S: Source<'s>, R: BufRead, W: Write>(
     alloc: Global,
     source: S,
-    base: u64,
+    options: Options,
     input: &mut R,
     out: &mut W,
 ) -> Result<(), Stop>
     ensures opened { OnOk result (opens (S.state source).file ≡ Ok tt) }
-    ensures ok { IfSome (R.remaining input.old) (λ xs. OnOk result (Appends (W.contents out.old) (W.contents out.new) (flat_map (line_text (S.state source).file base) (lines_of xs)))) }
+    ensures ok { IfSome (R.remaining input.old) (λ xs. OnOk result (Appends (W.contents out.old) (W.contents out.new) (flat_map (line_text (S.state source).file options) (lines_of xs)))) }
     ensures refused { (S.state source).steady ≡ true → (e : Error) → IsErrOf result (Stop.Open e) → opens (S.state source).file ≡ Err e }
-    ensures front { IfSome (R.remaining input.old) (λ xs. OnErr result (WroteFront (W.contents out.old) (W.contents out.new) (flat_map (line_text (S.state source).file base) (lines_of xs)))) }
+    ensures front { IfSome (R.remaining input.old) (λ xs. OnErr result (WroteFront (W.contents out.old) (W.contents out.new) (flat_map (line_text (S.state source).file options) (lines_of xs)))) }
 {
     let mut streams = Streams::new(alloc);
     let mut resolver = resolver_over(alloc, source, &mut streams)?;
     let mut rooms = LineRooms::new(alloc);
-    answer_lines(&mut resolver, base, &mut rooms, input, out)
+    answer_lines(&mut resolver, options, &mut rooms, input, out)
 }

@@ -8,9 +8,8 @@ ghost use Rattle.pdb.specs.Forms.{kind_at, record_at};
 ghost use Rattle.pdb.specs.Qualified.{qualified_of, shown_qualified};
 ghost use Rattle.pdb.specs.Text.{name_bytes};
 ghost use Rattle.pdb.specs.Views.{symbol_of, symbols_left};
-ghost use Rattle.pdb_resolve.specs.Frames.{qualified_text, scope_text};
 ghost use Rattle.pdb_tool.specs.Depth.{blanks, depth_at};
-ghost use Rattle.pdb_tool.specs.ScopeTexts.{code_text, named_text, placed_text, scope_line, scopes_left, scopes_text};
+ghost use Rattle.pdb_tool.specs.ScopeTexts.{behind_qualified, behind_scoped, code_text, named_text, placed_text, scope_line, scopes_left, scopes_text};
 ghost use Rattle.pdb_tool.specs.Values.{behind_blank, place_text};
 
 use crate::depth::{depth_of, put_blanks};
@@ -20,7 +19,7 @@ use pdb::{
     Error, FallibleIterator, IdIndex, ItemFinder, ModuleInfo, PdbInternalSectionOffset,
     QualifiedName, RawString, Symbol, SymbolData, SymbolIter, qualified_name,
 };
-use pdb_text::{put_field, put_line_end};
+use pdb_text::{put_field, put_line_end, put_one_line};
 use std::alloc::{AllocError, Global};
 
 /// A word, a place and a length.
@@ -88,25 +87,35 @@ fn put_named(
     put_line_end(out)
 }
 
+/// A name behind a blank and what stands before it.
+fn put_behind_scoped(
+    out: &mut Vec<u8>,
+    scope: Option<RawString<'_>>,
+    name: RawString<'_>,
+) -> Result<(), AllocError>
+    ensures { OnOk result (out.new.items ≡ out.old.items ++ behind_scoped (option_map name_bytes scope.entry) (name_bytes name.entry)) }
+{
+    match scope {
+        Some(scope) => {
+            out.push(b' ')?;
+            put_one_line(out, scope.as_bytes())?;
+            out.extend_from_slice(b"::")?;
+            put_one_line(out, name.as_bytes())
+        }
+        None => put_behind_blank(out, name.as_bytes()),
+    }
+}
+
 /// A function's name behind a blank, `??` where there is none, and nothing where it is empty.
-#[tactic(auto, using(crate::proofs::Blanks::scoped))]
 fn put_behind_qualified(
     out: &mut Vec<u8>,
     name: Option<QualifiedName<'_>>,
 ) -> Result<(), AllocError>
-    ensures { OnOk result (out.new.items ≡ out.old.items ++ behind_blank (qualified_text (option_map shown_qualified name.entry))) }
+    ensures { OnOk result (out.new.items ≡ out.old.items ++ behind_qualified (option_map shown_qualified name.entry)) }
 {
-    let Some(name) = name else {
-        return out.extend_from_slice(b" ??");
-    };
-    match name.scope {
-        Some(scope) => {
-            out.push(b' ')?;
-            out.extend_from_slice(scope.as_bytes())?;
-            out.extend_from_slice(b"::")?;
-            out.extend_from_slice(name.name.as_bytes())
-        }
-        None => put_behind_blank(out, name.name.as_bytes()),
+    match name {
+        Some(name) => put_behind_scoped(out, name.scope, name.name),
+        None => out.extend_from_slice(b" ??"),
     }
 }
 
@@ -118,7 +127,7 @@ fn put_inlined(
     depth: usize,
     id: IdIndex,
 ) -> Result<(), AllocError>
-    ensures { OnOk result (out.new.items ≡ out.old.items ++ (blanks depth ++ named_text (codes "inlined") (qualified_text (qualified_of ids.now types.now id.0)))) }
+    ensures { OnOk result (out.new.items ≡ out.old.items ++ (blanks depth ++ (codes "inlined" ++ behind_qualified (qualified_of ids.now types.now id.0) ++ codes "\n"))) }
 {
     put_blanks(out, depth)?;
     out.extend_from_slice(b"inlined")?;

@@ -7,6 +7,7 @@ ghost use Rattle.pdb_tool.specs.declared.stop.Stop.{Stop};
 
 use pdb::Error;
 use pdb_file::FetchError;
+use pdb_image::ImageError;
 use pdb_text::WriteFailed;
 use std::alloc::AllocError;
 
@@ -17,6 +18,10 @@ pub enum Stop {
     Read,
     /// The file can't be opened as a container.
     Open(Error),
+    /// The image is refused.
+    Image(ImageError),
+    /// The image, whose PDB is wanted, names none.
+    NoPdb,
     /// Memory was refused.
     Memory,
     /// Standard output failed.

@@ -11,7 +11,7 @@ ghost use Rattle.pdb.specs.Views.{symbol_of, symbols_left};
 ghost use Rattle.pdb_text.specs.Digits.{hex};
 ghost use Rattle.pdb_tool.specs.Depth.{blanks, depth_at};
 ghost use Rattle.pdb_tool.specs.FieldTexts.{field, fields_text};
-ghost use Rattle.pdb_tool.specs.SymbolTexts.{global_symbols_text, name_text, record_text, symbol_line, symbol_list_text, symbols_text};
+ghost use Rattle.pdb_tool.specs.SymbolTexts.{damage_text, global_symbols_text, lacks_layout, name_text, record_text, symbol_line, symbol_list_text, symbols_text};
 ghost use Rattle.pdb_tool.specs.Values.{behind_blank};
 ghost use Rattle.pdb_tool.specs.ValueTexts.{kind_text};
 
@@ -108,6 +108,24 @@ fn put_says(
     put_name(out, parsed.name())
 }
 
+/// Whether a record isn't read since its kind has no layout here, which is no damage.
+fn lacks_layout(e: Error) -> bool
+    ensures { result ≡ lacks_layout e }
+{
+    matches!(e, Error::UnimplementedSymbolKind(_))
+}
+
+/// The number of an error that tells of damage.
+fn put_damage(out: &mut Vec<u8>, e: Error) -> Result<(), AllocError>
+    ensures { OnOk result (out.new.items ≡ out.old.items ++ damage_text e) }
+{
+    if lacks_layout(e) {
+        return Ok(());
+    }
+    out.extend_from_slice(b" error ")?;
+    put_decimal(out, u64::from(e.number()))
+}
+
 /// A refusal in a symbol's line, and the record's bytes behind the kind; want of memory is passed on.
 fn put_refused(out: &mut Vec<u8>, e: Error, bytes: &[u8]) -> Result<(), AllocError>
     ensures { OnOk result ((e ≢ OutOfMemory) × (out.new.items ≡ out.old.items ++ record_text bytes.now (Err e))) }
@@ -115,8 +133,7 @@ fn put_refused(out: &mut Vec<u8>, e: Error, bytes: &[u8]) -> Result<(), AllocErr
     match e {
         Error::OutOfMemory => Err(AllocError),
         e => {
-            out.extend_from_slice(b" error ")?;
-            put_decimal(out, u64::from(e.number()))?;
+            put_damage(out, e)?;
             out.extend_from_slice(b" bytes=")?;
             put_hex_bytes(out, bytes.get(2..).unwrap_or(&[]))
         }

@@ -1,8 +1,8 @@
 //! What of a file is asked for before its text is written.
 
-use crate::asked::Asked;
 use crate::file_texts::FileText;
-use crate::resolve::{put_asked, resolver_over};
+use crate::question::Question;
+use crate::resolve::{put_question, resolver_over};
 use pdb::{Error, FallibleIterator, PDB, Result, Source};
 use pdb_file::{AnyFile, Asks, HeldSource};
 use pdb_resolve::Streams;
@@ -34,15 +34,15 @@ fn is_missed<T>(answer: &Result<T>) -> bool {
 }
 
 /// Asks for what the code at addresses is told from.
-fn ask_code<'s, S: Source<'s>>(alloc: Global, source: S, asked: &[Asked]) {
+fn ask_code<'s, S: Source<'s>>(alloc: Global, source: S, questions: &[Question<'_>]) {
     let mut streams = Streams::new(alloc);
     let Ok(mut resolver) = resolver_over(alloc, source, &mut streams) else {
         return;
     };
     let mut text = Vec::new(alloc);
-    for it in asked {
+    for question in questions {
         text.clear();
-        let _ = put_asked(&mut resolver, &mut text, *it);
+        let _ = put_question(&mut resolver, &mut text, question);
     }
 }
 
@@ -98,6 +98,7 @@ impl TextAsked<'_> {
             FileText::Symbols(places) => {
                 self.shared = places.is_empty() && is_missed(&pdb.global_symbols());
             }
+            FileText::AllSymbols => self.shared = false,
         }
     }
 
@@ -122,6 +123,7 @@ impl TextAsked<'_> {
             FileText::Code(_) => false,
             FileText::Lines(places) | FileText::Scopes(places) => !ask_modules(pdb, places),
             FileText::Symbols(places) => !places.is_empty() && !ask_modules(pdb, places),
+            FileText::AllSymbols => !ask_all(pdb),
         };
     }
 }
@@ -130,8 +132,8 @@ impl Asks for TextAsked<'_> {
     fn ask(&mut self, alloc: Global, source: HeldSource<'_, '_, '_, AnyFile>) -> bool {
         let text = self.text;
         match text {
-            FileText::Code(asked) => {
-                ask_code(alloc, source, asked);
+            FileText::Code(questions) => {
+                ask_code(alloc, source, questions);
                 false
             }
             _ => self.ask_streams(alloc, source),

@@ -5,7 +5,7 @@ ghost use Rattle.pdb_text.specs.Digits.{hex};
 ghost use Rattle.pdb_tool.specs.Values.{behind_blank, optional_text, place_text};
 
 use pdb::PdbInternalSectionOffset;
-use pdb_text::{put_decimal, put_hex4, put_hex8};
+use pdb_text::{put_decimal, put_hex4, put_hex8, put_one_line};
 use std::alloc::AllocError;
 
 /// A section, `:` and an offset in it, in hex digits.
@@ -27,7 +27,7 @@ pub fn put_optional(out: &mut Vec<u8>, number: Option<u32>) -> Result<(), AllocE
     }
 }
 
-/// A name behind a blank, nothing where it is empty.
+/// A name on one line, behind a blank; nothing where it is empty.
 pub fn put_behind_blank(out: &mut Vec<u8>, name: &[u8]) -> Result<(), AllocError>
     ensures { OnOk result (out.new.items ≡ out.old.items ++ behind_blank name.now) }
 {
@@ -35,5 +35,5 @@ pub fn put_behind_blank(out: &mut Vec<u8>, name: &[u8]) -> Result<(), AllocError
         return Ok(());
     }
     out.push(b' ')?;
-    out.extend_from_slice(name)
+    put_one_line(out, name)
 }

@@ -1,13 +1,10 @@
 //! What the program's words ask for.
 
 ghost use Rattle.std.specs.Prelude.{◌≡◌, ◌+◌, ◌<◌, ◌^◌, map, string_bytes, length};
-ghost use Rattle.pdb_text.specs.Numbers.{number_in};
-ghost use Rattle.pdb_tool.specs.Asked.{asked_in};
-ghost use Rattle.pdb_tool.specs.Words.{Tells, all_in, alone, command_of, front_of, help_in, base_in, is_help, is_option, request_in, run_from, takes_base, topic_in};
+ghost use Rattle.pdb_tool.specs.Words.{Tells, alone, front_of, help_in, is_help, request_in, topic_in};
 
-use crate::asked::{Asked, asked_in, hex_in, without_prefix};
-use pdb_text::number_in;
-use std::alloc::{AllocFailed, Global};
+use crate::options::{Options, options_in};
+use std::alloc::{AllocError, AllocFailed};
 
 /// A command.
 #[derive(Clone, Copy, Debug, PartialEq, Eq)]
@@ -31,10 +28,12 @@ pub enum Topic {
 pub enum Request {
     /// What the program can do, or a command.
     Help(Option<Topic>),
+    /// What `pdb_list` can do.
+    ListHelp,
     /// The program's version.
     Version,
-    /// A command, the base of addresses, and the place of the word that names the first file.
-    Run(Topic, u64, usize),
+    /// A command, and its options.
+    Run(Topic, Options),
 }
 
 /// Why words ask for nothing.
@@ -45,6 +44,16 @@ pub enum WordsError {
     BadWord(usize),
     /// Memory was refused.
     OutOfMemory,
+}
+
+impl From<AllocError> for WordsError {
+    ghost use Rattle.pdb_tool.specs.declared.words.WordsError.TheVariants.{OutOfMemory};
+
+    ghost from_gives = { λ _ e. e ≡ OutOfMemory };
+
+    fn from(_e: AllocError) -> WordsError {
+        WordsError::OutOfMemory
+    }
 }
 
 impl<T: Drop> From<AllocFailed<T>> for WordsError {
@@ -78,18 +87,6 @@ fn is_help(word: &str) -> bool
     word == "-h" || word == "--help"
 }
 
-fn is_option(word: &str) -> bool
-    ensures { result ≡ is_option word.now }
-{
-    word.as_bytes().starts_with(b"--")
-}
-
-fn takes_base(topic: Topic) -> bool
-    ensures { result ≡ takes_base topic }
-{
-    matches!(topic, Topic::Resolve)
-}
-
 /// What is asked for, if no word stands at this place or behind it.
 fn alone(request: Request, words: &[String], place: usize) -> Result<Request, WordsError>
     ensures { Tells (λ r. r) result (alone request (map string_bytes words.now) place) }
@@ -108,32 +105,18 @@ fn help_in(words: &[String]) -> Result<Request, WordsError>
     let Some((word, rest)) = words.split_first() else {
         return Ok(Request::Help(None));
     };
+    if word.as_str() == "list" {
+        return alone(Request::ListHelp, rest, 2);
+    }
     match topic_in(word.as_str()) {
         Some(topic) => alone(Request::Help(Some(topic)), rest, 2),
         None => Err(WordsError::BadWord(1)),
     }
 }
 
-/// A command over the file whose name stands at this place.
-fn run_from(topic: Topic, base: u64, words: &[String], place: usize) -> Result<Request, WordsError>
-    ensures { Tells (λ r. r) result (run_from topic base (map string_bytes words.now) place) }
-{
-    match words.first() {
-        Some(word) if !is_option(word.as_str()) => Ok(Request::Run(topic, base, place)),
-        _ => Err(WordsError::BadWord(place)),
-    }
-}
-
-/// The base that a word tells, where it is such an option.
-fn base_in(word: &str) -> Option<Option<u64>>
-    ensures { result ≡ base_in word.now }
-{
-    let spelled = word.as_bytes().strip_prefix(b"--base=")?;
-    Some(hex_in(without_prefix(spelled)))
-}
-
 /// What words behind a command's word ask for.
 fn front_of(topic: Topic, words: &[String]) -> Result<Request, WordsError>
+    requires { 1 + length words.now < 2 ^ 64 }
     ensures { Tells (λ r. r) result (front_of topic (map string_bytes words.now)) }
 {
     let Some((word, rest)) = words.split_first() else {
@@ -142,14 +125,7 @@ fn front_of(topic: Topic, words: &[String]) -> Result<Request, WordsError>
     if is_help(word.as_str()) {
         return alone(Request::Help(Some(topic)), rest, 2);
     }
-    if takes_base(topic) {
-        match base_in(word.as_str()) {
-            Some(Some(base)) => return run_from(topic, base, rest, 2),
-            Some(None) => return Err(WordsError::BadWord(1)),
-            None => {}
-        }
-    }
-    run_from(topic, 0, words, 1)
+    Ok(Request::Run(topic, options_in(topic, words, 1)?))
 }
 
 /// What words ask for.
@@ -168,41 +144,4 @@ pub fn request_in(words: &[String]) -> Result<Request, WordsError>
             None => Err(WordsError::BadWord(0)),
         },
     }
-}
-
-/// What addresses and places the words are, of which the first stands at `place` among the program's words.
-#[tactic(auto, using(crate::proofs::AllWords::all_there, crate::proofs::AllWords::begins, crate::proofs::AllWords::none_there, crate::proofs::AllWords::one_more))]
-pub fn all_asked(
-    alloc: Global,
-    base: u64,
-    words: &[String],
-    place: usize,
-) -> Result<Vec<Asked>, WordsError>
-    requires { place + length words.now < 2 ^ 64 }
-    ensures { Tells (λ v. v.items) result (all_in (asked_in base) (map string_bytes words.now) place) }
-{
-    let mut all = Vec::new(alloc);
-    for (index, word) in words.iter().enumerate() {
-        match asked_in(base, word.as_bytes()) {
-            Some(asked) => all.push(asked)?,
-            None => return Err(WordsError::BadWord(place + index)),
-        }
-    }
-    Ok(all)
-}
-
-/// What numbers the words are, of which the first stands at `place` among the program's words.
-#[tactic(auto, using(crate::proofs::AllWords::all_there, crate::proofs::AllWords::begins, crate::proofs::AllWords::none_there, crate::proofs::AllWords::one_more))]
-pub fn all_numbers(alloc: Global, words: &[String], place: usize) -> Result<Vec<u32>, WordsError>
-    requires { place + length words.now < 2 ^ 64 }
-    ensures { Tells (λ v. v.items) result (all_in number_in (map string_bytes words.now) place) }
-{
-    let mut all = Vec::new(alloc);
-    for (index, word) in words.iter().enumerate() {
-        match number_in(word.as_str()) {
-            Some(number) => all.push(number)?,
-            None => return Err(WordsError::BadWord(place + index)),
-        }
-    }
-    Ok(all)
 }

@@ -43,7 +43,6 @@ static FINDINGS: &[u8] = b"a.pdb: information: the data ends before a record doe
     a.pdb: global symbols: the data ends before a record does\n\
     a.pdb: global symbol 00000000: the data ends before a record does\n\
     a.pdb: types: the data ends before a record does\n\
-    a.pdb: ids: the data ends before a record does\n\
     a.pdb: module 0 symbols: the data ends before a record does\n\
     a.pdb: module 0 symbol 00000004: the data ends before a record does\n\
     a.pdb: module 0 site 0000000d: binary annotation 14 is unknown\n\
@@ -64,7 +63,7 @@ fn damaged(alloc: Global) -> Result<Vec<u8>, AllocError> {
     modules.extend_from_slice(&module_record(0xffff, 0, 0))?;
     modules.extend_from_slice(&module_record(20, 0, 0))?;
     modules.push(0)?;
-    let debug = debug_stream(alloc, 5, &modules, b"", &[0])?;
+    let debug = debug_stream(alloc, 5, &modules, &[0], &[0])?;
     let streams: [Option<&[u8]>; 9] = [
         Some(b""),
         Some(&INFORMATION[..20]),
@@ -100,15 +99,67 @@ fn all_that_is_wrong_is_told(rt: HostRuntime) -> Result<(), Fail> {
     text_is(&rt, rt.alloc(), &file, false, FINDINGS)
 }
 
-#[test]
-fn what_is_not_there_is_not_wrong(rt: HostRuntime) -> Result<(), Fail> {
+/// Nothing is wrong with a file of one module without a stream, and these contributions.
+fn is_well(rt: &impl Abort, alloc: Global, contributions: &[u8]) -> Result<(), Fail> {
     let modules = module_record(0xffff, 9, 9);
-    let debug = debug_stream(rt.alloc(), 0xffff, &modules, CONTRIBUTIONS, &[0xff; 22])?;
+    let debug = debug_stream(alloc, 0xffff, &modules, contributions, &[0xff; 22])?;
     let mut streams: [Option<&[u8]>; 9] = [None; 9];
     streams[1] = Some(&INFORMATION);
     streams[3] = Some(&debug);
+    let file = file_of(alloc, &streams)?;
+    text_is(rt, alloc, &file, true, b"a.pdb: ok\n")
+}
+
+#[test]
+fn what_is_not_there_is_not_wrong(rt: HostRuntime) -> Result<(), Fail> {
+    is_well(&rt, rt.alloc(), CONTRIBUTIONS)
+}
+
+#[test]
+fn contributions_of_no_byte_are_not_wrong(rt: HostRuntime) -> Result<(), Fail> {
+    is_well(&rt, rt.alloc(), b"")
+}
+
+#[test]
+fn a_dbi_stream_of_no_byte_is_not_wrong(rt: HostRuntime) -> Result<(), Fail> {
+    let mut streams: [Option<&[u8]>; 9] = [None; 9];
+    streams[1] = Some(&INFORMATION);
+    streams[2] = Some(&IDS[..20]);
+    streams[3] = Some(b"");
     let file = file_of(rt.alloc(), &streams)?;
-    text_is(&rt, rt.alloc(), &file, true, b"a.pdb: ok\n")
+    let wanted: &[u8] = b"a.pdb: types: the data ends before a record does\n";
+    text_is(&rt, rt.alloc(), &file, false, wanted)
+}
+
+/// What stands behind the map of names, and what `check` writes of a stream of ids without its end.
+static CODES: [(&[u8], &[u8]); 5] = [
+    (b"", b"a.pdb: ok\n"),
+    (b"NTSM", b"a.pdb: ok\n"),
+    (b"NTSM\x41\x91\x32", b"a.pdb: ok\n"),
+    (
+        b"NTSM\x41\x91\x32\x01",
+        b"a.pdb: ids: the data ends before a record does\n",
+    ),
+    (
+        b"\xdc\x51\x33\x01INIM",
+        b"a.pdb: ids: the data ends before a record does\n",
+    ),
+];
+
+#[test]
+fn ids_are_read_where_the_information_stream_says_so(rt: HostRuntime) -> Result<(), Fail> {
+    for (codes, wanted) in &CODES {
+        let mut information = Vec::new(rt.alloc());
+        information.extend_from_slice(&INFORMATION)?;
+        information.extend_from_slice(codes)?;
+        let mut streams: [Option<&[u8]>; 9] = [None; 9];
+        streams[1] = Some(&information);
+        streams[3] = Some(b"");
+        streams[4] = Some(IDS);
+        let file = file_of(rt.alloc(), &streams)?;
+        text_is(&rt, rt.alloc(), &file, codes.len() < 8, wanted)?;
+    }
+    Ok(())
 }
 
 #[test]

@@ -9,5 +9,7 @@ mod findings;
 mod forms;
 mod kinds;
 mod modules;
+mod options;
 mod parts;
 mod streams;
+mod wanted;

@@ -4,6 +4,7 @@ use super::files::{debug_stream, file_of, module_record};
 use crate::asked::Asked;
 use crate::file_texts::{FileText, write_text};
 use crate::in_parts::write_in_parts;
+use crate::question::Question;
 use crate::stop::Stop;
 use crate::tests::fakes::{Narrow, is};
 use pdb::{Error, MemorySource, PdbInternalSectionOffset};
@@ -57,16 +58,22 @@ fn both(rt: &(impl Abort + AllocGlobal), bytes: &Vec<u8>, text: FileText<'_>, wa
 fn texts_of_a_file(rt: HostRuntime) -> Result<(), Fail> {
     let bytes = small(rt.alloc())?;
     let asked = [
-        Asked::Place(PdbInternalSectionOffset {
-            section: 1,
-            offset: 0x5f,
-        }),
-        Asked::Nowhere,
+        Question {
+            heading: None,
+            asked: Asked::Place(PdbInternalSectionOffset {
+                section: 1,
+                offset: 0x5f,
+            }),
+        },
+        Question {
+            heading: Some(b"17"),
+            asked: Asked::Nowhere,
+        },
     ];
-    let code: &[u8] = b"f\n??:0:0\n\n??\n??:0:0\n\n";
+    let code: &[u8] = b"f\n??:0:0\n\n17\n??\n??:0:0\n\n";
     both(&rt, &bytes, FileText::Code(&asked), code);
     both(&rt, &bytes, FileText::Lines(&[]), b"");
-    both(&rt, &bytes, FileText::Lines(&[0, 1]), b"none\n");
+    both(&rt, &bytes, FileText::Lines(&[0, 1]), b"module 0 a\nnone\n");
     let scopes: &[u8] = b"procedure 0001:00000050 33 f\n";
     both(&rt, &bytes, FileText::Scopes(&[]), scopes);
     both(&rt, &bytes, FileText::Scopes(&[0]), scopes);
@@ -76,6 +83,7 @@ fn texts_of_a_file(rt: HostRuntime) -> Result<(), Fail> {
     let symbols: &[u8] =
         b"00000004 S_GPROC32 parent=- end=00000090 next=- len=33 dbg_start_offset=4 dbg_end_offset=30 type_index=00001009 offset=0001:00000050 flags=- global=true dpc=false f\n";
     both(&rt, &bytes, FileText::Symbols(&[0]), symbols);
+    both(&rt, &bytes, FileText::AllSymbols, symbols);
     Ok(())
 }
 

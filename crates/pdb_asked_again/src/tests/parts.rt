@@ -196,7 +196,7 @@ fn refused_copies_of_tables_are_made_when_asked_again(rt: HostRuntime) -> Result
 
 /// So much memory is never there. `tests/memory/check` takes it for a mark: until it is asked for again, no memory is to
 /// be asked for.
-fn mark(alloc: Global) -> bool {
+pub fn mark(alloc: Global) -> bool {
     let room: std::result::Result<Vec<u8>, _> = Vec::with_capacity(alloc, 0x4000_0000_0000);
     room.is_ok()
 }

@@ -12,14 +12,14 @@ loop-buffer-preserved c = record {
   importing = imported_next c.args.part.now c.loop-buffer.buffer c.read_imported.new.buffer c.loop-buffer.invariant.same _ c.loop-buffer.invariant.importing c.in-Ok.imported c.in-Ok.ensures _ c.in_ok-push_imported-in-Ok.ensures.pushed;
 }
 
-pub returns-in-Err : goal.returns-in-Err
-returns-in-Err c =
+pub returns-in-Err-clause-modules : goal.returns-in-Err-clause-modules
+returns-in-Err-clause-modules c =
     let differ : c.loop-buffer.buffer.place ≡ length c.loop-buffer.buffer.bytes → ⊥ = λ e. (let f = c.loop-buffer-test.ensures.1 e in cc) in
     let below : c.loop-buffer.buffer.place < length c.args.part.now = let i = c.loop-buffer.invariant.inside in omega (arith, differ, ap length c.loop-buffer.invariant.same) in
     imports_refused c.args.part.now c.loop-buffer.buffer c.read_imported.new.buffer c.loop-buffer.invariant.same _ c.loop-buffer.invariant.importing c.in-Err.error below c.in-Err.ensures
 
-pub returns : goal.returns
-returns c =
+pub returns-clause-modules : goal.returns-clause-modules
+returns-clause-modules c =
     let ended : c.loop-buffer.buffer.place ≡ length c.loop-buffer.buffer.bytes = c.loop-buffer-test.ensures.0 refl in
     let past : length c.args.part.now ≤ c.loop-buffer.buffer.place = omega (arith, ap length c.loop-buffer.invariant.same) in
     imports_whole c.args.part.now c.loop-buffer.buffer c.loop-buffer.buffer c.loop-buffer.invariant.same _ c.loop-buffer.invariant.importing past

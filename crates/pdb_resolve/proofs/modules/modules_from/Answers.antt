@@ -1,7 +1,7 @@
 use Rattle.std.proofs.Common.{◌≡◌, map, length, ap, ◌∙◌, arith}
 use Rattle.std.specs.Prelude.{option_copied}
 use Rattle.pdb_resolve.specs.FileParts.{modules_where, modules_listed}
-use Rattle.pdb_resolve.proofs.Kepts.{none_kept, none_many, none_there}
+use Rattle.pdb_resolve.proofs.Kepts.{none_kept, none_many, none_there, none_unkept}
 use Rattle.pdb_resolve.proofs.modules.modules_from.Goals as goal
 
 pub returns-clause-modules : goal.returns-clause-modules
@@ -16,4 +16,5 @@ returns-clause-modules c = λ file h.
       streams = λ k m e. absurd (none_kept _ _ k m streams e);
       as_many = none_many _ _ c.in_ok-codes.ensures.unread ∙ many;
       as_many_streams = none_many _ _ streams ∙ more;
+      rooms = let wanted = none_unkept _ _ streams in let room = c.in_ok-rooms.ensures.many in omega (arith, wanted, room, more, c.len-2.ensures, c.len-3.ensures);
     }

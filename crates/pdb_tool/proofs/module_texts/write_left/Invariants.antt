@@ -1,5 +1,5 @@
-use Rattle.std.proofs.Common.{length}
-use Rattle.pdb.specs.DbiViews.{modules_left}
+use Rattle.std.proofs.Common.{◌≡◌, length}
+use Rattle.pdb.specs.DbiViews.{modules_left, modules_steps}
 use Rattle.pdb.specs.Source.{Continues}
 use Rattle.pdb_tool.specs.ModuleTexts.{list_text}
 use Rattle.pdb_tool.proofs.WrittenSoFar.{Before}
@@ -9,7 +9,8 @@ use Rattle.pdb_tool.proofs.module_texts.write_left.Given as goal
 abbrev pub invariant-loop-module : goal.invariant-loop-module
 invariant-loop-module g l = record {
   continues : Continues l.fn.pdb l.pdb;
-  told : Before (g.W.Write.contents l.fn.out) (g.W.Write.contents l.out) (list_text (g.T.ModuleText.text l.texts) l.fn.pdb.file (modules_left l.modules)) (list_text (g.T.ModuleText.text l.texts) l.fn.pdb.file (modules_left l.fn.modules));
+  counted : modules_steps l.modules ≡ l.k;
+  told : Before (g.W.Write.contents l.fn.out) (g.W.Write.contents l.out) (list_text l.several (g.T.ModuleText.text l.texts) l.fn.pdb.file l.k (modules_left l.modules)) (list_text l.several (g.T.ModuleText.text l.texts) l.fn.pdb.file 0 (modules_left l.fn.modules));
 }
 
 abbrev pub decreases-loop-module : goal.decreases-loop-module

@@ -1,6 +1,5 @@
-use Rattle.std.proofs.Common.{◌≡◌}
 use Rattle.pdb.specs.Source.{Continues}
-use Rattle.pdb_tool.specs.Asked.{line_text}
+use Rattle.pdb_tool.specs.Questions.{line_text}
 use Rattle.pdb_tool.proofs.AnsweredLines.{Answered}
 use Rattle.pdb_tool.proofs.resolve.answer_lines.Given as goal
 
@@ -8,5 +7,5 @@ use Rattle.pdb_tool.proofs.resolve.answer_lines.Given as goal
 abbrev pub invariant-loop : goal.invariant-loop
 invariant-loop g l = record {
   continues : Continues l.fn.resolver l.resolver;
-  told : Answered (line_text l.fn.resolver.file l.base) (g.R.Read.remaining l.fn.input) (g.R.Read.remaining l.input) (g.W.Write.contents l.fn.out) (g.W.Write.contents l.out);
+  told : Answered (line_text l.fn.resolver.file l.options) (g.R.Read.remaining l.fn.input) (g.R.Read.remaining l.input) (g.W.Write.contents l.fn.out) (g.W.Write.contents l.out);
 }

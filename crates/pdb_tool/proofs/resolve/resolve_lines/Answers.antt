@@ -1,9 +1,4 @@
-use Rattle.std.proofs.Common.{flat_map}
-use Rattle.std.specs.Prelude.{OnOk, OnErr}
-use Rattle.std.specs.Io.KnownBytes.{Appends}
-use Rattle.pdb_text.specs.Written.{WroteFront}
 use Rattle.pdb_text.proofs.Written.{any_err}
-use Rattle.pdb_tool.specs.Asked.{line_text, lines_of}
 use Rattle.pdb_tool.proofs.AnsweredLines.{front_none, if_any, on_ok_failed, on_ok_of}
 use Rattle.pdb_tool.proofs.resolve.resolve_lines.Goals as goal
 

@@ -9,7 +9,7 @@ use Rattle.pdb_resolve.proofs.module_places.ModulePlaces.find_counted.Goals as g
 made : (cs ds : List DBISectionContribution) (o : Option ModuleTable) (t : ModuleTable) → cs ≡ ds → o ≡ Some t → IsTableIfMade cs o → IsTableOf ds t.ranges t.modules.items
 made cs ds o t e f h =
     let table : IsTableIfMade cs (Some t) = subst (λ (o : Option ModuleTable). IsTableIfMade cs o) f h in
-    subst (λ (xs : List DBISectionContribution). IsTableOf xs t.ranges t.modules.items) e table
+    subst (λ (xs : List DBISectionContribution). IsTableOf xs t.ranges t.modules.items) e table.0
 
 pub returns-in-Some-clause-halved : goal.returns-in-Some-clause-halved
 returns-in-Some-clause-halved c = λ asked apart digits l.

@@ -1,4 +1,4 @@
-use Rattle.std.proofs.Common.{sym, ap, ◌∙◌}
+use Rattle.std.proofs.Common.{◌≡◌, None, Some, sym, ap, ◌∙◌}
 use Rattle.std.specs.Prelude.{option_copied}
 use Rattle.pdb_resolve.proofs.Kepts.{none_numbered, one_numbered, none_copied, numbered_then}
 use Rattle.pdb_resolve.proofs.modules.Modules.read.Goals as goal
@@ -11,7 +11,7 @@ returns-in_default-module_at-clause-read g c =
 pub returns-in-Some-2-clause-kept : goal.returns-in-Some-2-clause-kept
 returns-in-Some-2-clause-kept g c =
     let numbered = one_numbered _ _ c.requires c.args.number c.in-Some-module_at.module.now (sym c.module_at.ensures ∙ ap option_copied c.in-Some-module_at.is) in
-    c.put_and_keep.ensures.kept _ c.requires (numbered ∙ (sym c.in_ok-info.ensures.is ∙ c.in-Some-2.is))
+    c.put_and_keep.ensures.kept _ c.requires (sym c.stream.ensures ∙ ap option_copied c.in_default.is) (numbered ∙ (sym c.in_ok-info.ensures.is ∙ c.in-Some-2.is))
 
 pub returns-in-Some-2-clause-read : goal.returns-in-Some-2-clause-read
 returns-in-Some-2-clause-read g c =
@@ -22,3 +22,9 @@ pub returns-in-None-clause-read : goal.returns-in-None-clause-read
 returns-in-None-clause-read g c =
     let numbered = one_numbered _ _ c.requires c.args.number c.in-Some-module_at.module.now (sym c.module_at.ensures ∙ ap option_copied c.in-Some-module_at.is) in
     sym c.code.ensures ∙ (none_copied c.code.result c.if-is_some.ensures ∙ sym (numbered ∙ (sym c.in_ok-info.ensures.is ∙ c.in-None.is)))
+
+pub returns-in-Some-2-clause-once : goal.returns-in-Some-2-clause-once
+returns-in-Some-2-clause-once g c = λ m e.
+    let none = sym c.stream.ensures ∙ ap option_copied c.in_default.is in
+    let both : None ≡ Some m = sym none ∙ e in
+    absurd cc

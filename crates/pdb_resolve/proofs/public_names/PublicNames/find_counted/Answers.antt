@@ -2,12 +2,12 @@ use Rattle.std.proofs.Common.{◌≡◌, ℕ, List, Option, None, sym, ap, ◌�
 use Rattle.std.specs.Option.{option_map}
 use Rattle.pdb.specs.PdbInternalSectionOffset.{PdbInternalSectionOffset}
 use Rattle.pdb_resolve.specs.AskedStream.{AskedStream}
-use Rattle.pdb_resolve.specs.PublicNames.{publics_in, public_name_at}
+use Rattle.pdb_resolve.specs.PublicNames.{publics_in, public_at}
 use Rattle.pdb_resolve.proofs.public_names.PublicNames.find_counted.Goals as goal
 
-without_stream : (q : PdbInternalSectionOffset) (s : Option (List ℕ)) → s ≡ None → public_name_at q s ≡ None
+without_stream : (q : PdbInternalSectionOffset) (s : Option (List ℕ)) → s ≡ None → public_at q s ≡ None
 unfolding publics_in
-without_stream q s e = ap (public_name_at q) e
+without_stream q s e = ap (public_at q) e
 
 pub returns-in-None-clause-found : goal.returns-in-None-clause-found
 returns-in-None-clause-found c =

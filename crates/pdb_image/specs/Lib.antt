@@ -1,0 +1,4 @@
+pub mod Parts
+pub mod Headers
+pub mod Debug
+pub mod Images

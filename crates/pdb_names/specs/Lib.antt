@@ -1,0 +1,3 @@
+pub mod CNames
+pub mod ItaniumNames
+pub mod Spelling

@@ -1,0 +1,3 @@
+//! Tests of what no clause says: names and what they spell, from outside.
+
+mod names;

@@ -1,0 +1,93 @@
+-- What the options of a command say.
+use Rattle.std.specs.Prelude.{ℕ, ◌+◌, List, [], ◌∷◌, length, take, drop, codes, nat_lt, nat_le, Bool, true, false, not, ◌&&◌, Option, Some, None, Result, Ok, Err, if◌then◌else◌}
+use Rattle.std.specs.Char.{is_ascii_hexdigit}
+use Rattle.std.specs.List.{list_all}
+use Rattle.std.specs.Option.{is_some, unwrap_or}
+use Rattle.std.specs.Str.{bytes_eq}
+use Rattle.pdb_tool.specs.Asked.{address_number}
+use Rattle.pdb_tool.specs.declared.words.Topic.{Topic}
+use Rattle.pdb_tool.specs.declared.words.Topic.TheVariants.{Resolve, Symbols}
+use Rattle.pdb_tool.specs.declared.options.Options.{Options}
+use Rattle.pdb_tool.specs.declared.options.Given.{Given}
+use Rattle.pdb_tool.specs.declared.options.Wanted.{Wanted}
+use Rattle.pdb_tool.specs.declared.options.Wanted.TheVariants.{Key, Image}
+
+-- words like an option's
+abbrev pub is_option : List ℕ → Bool
+is_option word = bytes_eq (take 2 word) (codes "--")
+
+-- the option whose value is the word behind it
+abbrev pub is_base : List ℕ → Bool
+is_base word = bytes_eq word (codes "--base")
+
+-- with the next word as the base; none where there is a base
+abbrev pub wanting_base : Given → Option Given
+wanting_base g = if is_some g.options.base then None else Some (record g { wants_base = true })
+
+-- with this base; none where there is one, or where a word is no number
+abbrev pub base_given : Given → Option ℕ → Option Given
+base_given g None = None
+base_given g (Some base) = Some (record g { options = record g.options { base = Some base }; wants_base = false })
+
+abbrev pub with_base : Given → Option ℕ → Option Given
+with_base g base = if is_some g.options.base then None else base_given g base
+
+-- 33 to 40 hex digits
+abbrev pub is_key : List ℕ → Bool
+is_key word = nat_lt 32 (length word) && nat_le (length word) 40 && list_all is_ascii_hexdigit word
+
+-- with what names the PDB that is wanted; none where something named it before
+abbrev pub with_wanted : Given → Wanted → Option Given
+with_wanted g wanted = if is_some g.options.wanted then None else Some (record g { options = record g.options { wanted = Some wanted } })
+
+-- with an option at p that names it
+unfoldable pub with_wanted_option : Given → ℕ → List ℕ → Option Given
+with_wanted_option g p word =
+    if bytes_eq (take 8 word) (codes "--image=") then with_wanted g (Image p)
+    else if bytes_eq (take 6 word) (codes "--key=") then (if is_key (drop 6 word) then with_wanted g (Key p) else None)
+    else None
+
+-- with an option of `resolve` at p
+unfoldable pub with_resolve_option : Given → ℕ → List ℕ → Option Given
+with_resolve_option g p word =
+    if is_base word then wanting_base g
+    else if bytes_eq (take 7 word) (codes "--base=") then with_base g (address_number (drop 7 word))
+    else if bytes_eq word (codes "--addresses") then Some (record g { options = record g.options { addresses = true } })
+    else with_wanted_option g p word
+
+-- with one of `symbols`
+abbrev pub with_symbols_option : Given → List ℕ → Option Given
+with_symbols_option g word = if bytes_eq word (codes "--all") then Some (record g { options = record g.options { all = true } }) else None
+
+abbrev pub with_option : Topic → Given → ℕ → List ℕ → Option Given
+with_option Resolve g p word = with_resolve_option g p word
+with_option Symbols g p word = with_symbols_option g word
+with_option topic g p word = None
+
+-- with one more word, at p; none where it can't stand there
+unfoldable pub with_word : Topic → Given → ℕ → List ℕ → Option Given
+with_word topic g p word =
+    if g.wants_base then with_base g (address_number word)
+    else if is_option word then with_option topic g p word
+    else Some (record g { has_file = true })
+
+abbrev pub no_options : Options
+no_options = record { base = None; wanted = None; addresses = false; all = false }
+
+-- with the load address of an image as the base, where no other is given
+abbrev pub with_base_of : Options → ℕ → Options
+with_base_of o own = record o { base = Some (unwrap_or o.base own) }
+
+-- what is given before the first word
+abbrev pub nothing_given : Given
+nothing_given = record { options = no_options; wants_base = false; has_file = false }
+
+abbrev pub or_bad : {A : Type 0} → Option Given → (Given → Result A ℕ) → ℕ → Result A ℕ
+or_bad None more p = Err p
+or_bad (Some g) more p = more g
+
+-- the options of words of which the first stands at p, and of which one names a file; or the place of the word that can't
+-- stand there, or is missing at their end
+abbrev pub options_of : Topic → Given → List (List ℕ) → ℕ → Result Options ℕ
+options_of topic g [] p = if g.has_file && not g.wants_base then Ok g.options else Err p
+options_of topic g (word ∷ words) p = or_bad (with_word topic g p word) (λ more. options_of topic more words (p + 1)) p

@@ -1,0 +1,147 @@
+//! The lines of `key`: of a PDB, and of an image with the PDB that it names.
+
+ghost use Rattle.std.specs.Prelude.{◌≡◌, ◌≢◌, ◌<◌, ◌++◌, codes, true, false, Some, None, Ok, Err, IfOk, IsErrOf, OnOk, Option, get_or, length};
+ghost use Rattle.std.specs.Option.{ForSome, option_map};
+ghost use Rattle.pdb.specs.Error.{Error};
+ghost use Rattle.pdb_image.specs.Headers.{is_image};
+ghost use Rattle.pdb_image.specs.Images.{image_of, reference, said};
+ghost use Rattle.pdb_tool.specs.KeyLines.{IsLine, image_line as image_line_of, image_text as text_of_image, key_line as key_line_of, own_key, pdb_named, pdb_text as text_of_pdb};
+ghost use Rattle.pdb_tool.specs.Keys.{key_of_file};
+ghost use Rattle.pdb_tool.specs.declared.stop.Stop.{Stop};
+
+use crate::key::{key_in_parts, key_of, put_bytes, text};
+use crate::stop::{Stop, stop_of_opening};
+use pdb::MemorySource;
+use pdb_file::ReadAt;
+use pdb_image::{Image, PdbReference, is_image};
+use pdb_text::put_one_line;
+use std::alloc::{AllocError, Global};
+
+/// An image's own key: its time stamp in eight upper hex digits, and its size in lower ones.
+#[tactic(auto, unfolding(crate::specs::KeyLines::own_key))]
+fn put_own_key(alloc: Global, out: &mut Vec<u8>, stamp: u32, size: u32) -> Result<(), AllocError>
+    ensures { OnOk result (out.new.items ≡ out.old.items ++ own_key stamp size) }
+{
+    let bytes = [
+        (stamp / 0x100_0000) as u8,
+        (stamp / 0x1_0000 % 256) as u8,
+        (stamp / 256 % 256) as u8,
+        (stamp % 256) as u8,
+    ];
+    put_bytes(out, &bytes)?;
+    let text = format!(in alloc; "{size:x}")?;
+    out.extend_from_slice(text.as_bytes())
+}
+
+/// The key and the path of the PDB that an image names.
+fn put_pdb(
+    alloc: Global,
+    out: &mut Vec<u8>,
+    pdb: Option<PdbReference<'_>>,
+) -> Result<(), AllocError>
+    ensures { OnOk result (out.new.items ≡ out.old.items ++ pdb_named (option_map reference pdb.entry)) }
+{
+    let Some(pdb) = pdb else {
+        return out.extend_from_slice(b"- -");
+    };
+    out.extend_from_slice(&text(alloc, &pdb.guid, pdb.age)?)?;
+    out.push(b' ')?;
+    put_one_line(out, pdb.path)
+}
+
+/// The line of an image.
+#[tactic(auto, unfolding(crate::specs::KeyLines::image_text))]
+fn image_text(alloc: Global, image: Image<'_>, name: &[u8]) -> Result<Vec<u8>, AllocError>
+    ensures { IfOk result (λ v. v.items ≡ text_of_image name.now (said image.entry)) }
+{
+    let mut out = Vec::new(alloc);
+    put_own_key(alloc, &mut out, image.time_stamp, image.size)?;
+    out.push(b' ')?;
+    out.extend_from_slice(name)?;
+    out.push(b' ')?;
+    put_pdb(alloc, &mut out, image.pdb)?;
+    out.push(b'\n')?;
+    Ok(out)
+}
+
+/// The line of an image's bytes.
+fn image_line(alloc: Global, bytes: &[u8], name: &[u8]) -> Result<Vec<u8>, Stop>
+    ensures line { IfOk result (λ v. image_line_of name.now (image_of bytes.now) ≡ Ok v.items) }
+    ensures stopped { (s : Stop) → s ≢ Stop.Memory → IsErrOf result s → image_line_of name.now (image_of bytes.now) ≡ Err s }
+{
+    match Image::parse(bytes) {
+        Ok(image) => Ok(image_text(alloc, image, name)?),
+        Err(e) => Err(Stop::Image(e)),
+    }
+}
+
+/// The line of a PDB with this key.
+fn pdb_text(alloc: Global, key: &[u8], name: &[u8]) -> Result<Vec<u8>, AllocError>
+    ensures { IfOk result (λ v. v.items ≡ text_of_pdb name.now key.now) }
+{
+    let mut out = Vec::new(alloc);
+    out.extend_from_slice(key)?;
+    out.push(b' ')?;
+    out.extend_from_slice(name)?;
+    out.push(b'\n')?;
+    Ok(out)
+}
+
+/// The line of a file of these bytes and this name: of an image where it begins with `MZ`, else of a PDB.
+#[tactic(auto, unfolding(crate::specs::KeyLines::key_line), using(crate::proofs::RefusalIs::refusal_is))]
+pub fn key_line(alloc: Global, bytes: &[u8], name: &[u8]) -> Result<Vec<u8>, Stop>
+    ensures line { IfOk result (λ v. key_line_of name.now bytes.now ≡ Ok v.items) }
+    ensures stopped { (s : Stop) → s ≢ Stop.Memory → IsErrOf result s → key_line_of name.now bytes.now ≡ Err s }
+{
+    if is_image(bytes) {
+        return image_line(alloc, bytes, name);
+    }
+    match key_of(alloc, MemorySource::new(bytes)) {
+        Ok(key) => Ok(pdb_text(alloc, &key, name)?),
+        Err(e) => Err(stop_of_opening(e)),
+    }
+}
+
+/// The byte at a place of a file.
+fn byte_at<R: ReadAt>(input: &R, at: u64) -> Result<u8, Stop>
+    ensures byte { ForSome (R.known input.now) (λ G. at < length G → IfOk result (λ b. b ≡ get_or G at 0)) }
+    ensures stopped { (s : Stop) → IsErrOf result s → s ≡ Stop.Read }
+{
+    let mut byte = [0u8; 1];
+    match input.read_bytes_at(&mut byte, at) {
+        Ok(1) => Ok(byte[0]),
+        _ => Err(Stop::Read),
+    }
+}
+
+/// Whether a file of this size begins as an image does.
+fn begins_as_image<R: ReadAt>(input: &R, size: u64) -> Result<bool, Stop>
+    ensures image { ForSome (R.known input.now) (λ G. length G ≡ size → IfOk result (λ b. b ≡ is_image G)) }
+    ensures stopped { (s : Stop) → IsErrOf result s → s ≡ Stop.Read }
+{
+    if size < 2 {
+        return Ok(false);
+    }
+    let first = byte_at(input, 0)?;
+    let second = byte_at(input, 1)?;
+    Ok(first == b'M' && second == b'Z')
+}
+
+/// The line of a PDB of this size and name, of which no more is read than its key asks for; none where the file is an
+/// image.
+#[tactic(auto, unfolding(crate::specs::KeyLines::key_line))]
+pub fn line_in_parts<R: ReadAt>(
+    alloc: Global,
+    input: &R,
+    size: u64,
+    name: &[u8],
+) -> Result<Option<Vec<u8>>, Stop>
+    ensures line { ForSome (R.known input.now) (λ G. length G ≡ size → IfOk result (λ o. IsLine name.now G (option_map (λ v. v.items) o))) }
+    ensures open { ForSome (R.known input.now) (λ G. length G ≡ size → (e : Error) → IsErrOf result (Stop.Open e) → (is_image G ≡ false) × (key_of_file G ≡ Err e)) }
+{
+    if begins_as_image(input, size)? {
+        return Ok(None);
+    }
+    let key = key_in_parts(alloc, input, size)?;
+    Ok(Some(pdb_text(alloc, &key, name)?))
+}

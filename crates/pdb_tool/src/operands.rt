@@ -1,0 +1,83 @@
+//! The words of a command that are no options.
+
+ghost use Rattle.std.specs.Prelude.{◌≡◌, ◌+◌, ◌<◌, ◌^◌, false, map, string_bytes, length, IfOk};
+ghost use Rattle.pdb_text.specs.Numbers.{number_in};
+ghost use Rattle.pdb_tool.specs.Operands.{all_in, operand_view, operands_of};
+ghost use Rattle.pdb_tool.specs.Questions.{question_of, question_view};
+ghost use Rattle.pdb_tool.specs.Words.{Tells};
+
+use crate::options::{Options, is_base, is_option};
+use crate::question::{Question, question_of};
+use crate::words::WordsError;
+use pdb_text::number_in;
+use std::alloc::{AllocError, Global};
+
+/// A word that is no option.
+#[derive(Clone, Copy, Debug)]
+pub struct Operand<'w> {
+    /// Its place among the program's words.
+    pub place: usize,
+    /// The word.
+    pub word: &'w str,
+}
+
+/// The words that are neither an option nor its value, of words of which the first stands at `place`.
+#[tactic(auto, using(crate::proofs::OperandWords::begins, crate::proofs::OperandWords::ends, crate::proofs::OperandWords::option_there, crate::proofs::OperandWords::value_there, crate::proofs::OperandWords::operand_there))]
+pub fn operands_in<'w>(
+    alloc: Global,
+    words: &'w [String],
+    place: usize,
+) -> Result<Vec<Operand<'w>>, AllocError>
+    requires { place + length words.now < 2 ^ 64 }
+    ensures { IfOk result (λ v. map operand_view v.items ≡ operands_of false (map string_bytes words.now) place) }
+{
+    let mut all = Vec::new(alloc);
+    let mut is_value = false;
+    for (index, word) in words.iter().enumerate() {
+        if is_value {
+            is_value = false;
+        } else if is_option(word.as_bytes()) {
+            is_value = is_base(word.as_bytes());
+        } else {
+            all.push(Operand {
+                place: place + index,
+                word: word.as_str(),
+            })?;
+        }
+    }
+    Ok(all)
+}
+
+/// What the words ask for.
+#[tactic(auto, using(crate::proofs::AllWords::all_there, crate::proofs::AllWords::begins, crate::proofs::AllWords::none_there, crate::proofs::AllWords::one_more))]
+pub fn all_questions<'w>(
+    alloc: Global,
+    options: Options,
+    words: &[Operand<'w>],
+) -> Result<Vec<Question<'w>>, WordsError>
+    ensures { Tells (λ v. map question_view v.items) result (all_in (question_of options) (map operand_view words.now)) }
+{
+    let mut all = Vec::new(alloc);
+    for operand in words {
+        match question_of(options, operand.word.as_bytes()) {
+            Some(question) => all.push(question)?,
+            None => return Err(WordsError::BadWord(operand.place)),
+        }
+    }
+    Ok(all)
+}
+
+/// What numbers the words are.
+#[tactic(auto, using(crate::proofs::AllWords::all_there, crate::proofs::AllWords::begins, crate::proofs::AllWords::none_there, crate::proofs::AllWords::one_more))]
+pub fn all_numbers(alloc: Global, words: &[Operand<'_>]) -> Result<Vec<u32>, WordsError>
+    ensures { Tells (λ v. v.items) result (all_in number_in (map operand_view words.now)) }
+{
+    let mut all = Vec::new(alloc);
+    for operand in words {
+        match number_in(operand.word) {
+            Some(number) => all.push(number)?,
+            None => return Err(WordsError::BadWord(operand.place)),
+        }
+    }
+    Ok(all)
+}

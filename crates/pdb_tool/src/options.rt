@@ -1,0 +1,218 @@
+//! What the options of a command say.
+
+ghost use Rattle.std.specs.Prelude.{◌≡◌, ◌+◌, ◌<◌, ◌^◌, map, string_bytes, length};
+ghost use Rattle.pdb_tool.specs.Options.{is_base, is_option, is_key, nothing_given, options_of, wanting_base, with_base, with_base_of, with_option, with_resolve_option, with_symbols_option, with_wanted, with_wanted_option, with_word};
+ghost use Rattle.std.specs.Char.{is_ascii_hexdigit};
+ghost use Rattle.pdb_tool.specs.Words.{Tells};
+
+use crate::asked::{address_number, is_all_hex};
+use crate::words::{Topic, WordsError};
+
+/// What names the PDB that is wanted: an option, by its place among the program's words, counted from 0.
+#[derive(Clone, Copy, Debug, PartialEq, Eq)]
+pub enum Wanted {
+    /// `--key=KEY`: the one of this key.
+    Key(usize),
+    /// `--image=IMAGE`: the one that an image names.
+    Image(usize),
+}
+
+/// What the options of a command say.
+#[derive(Clone, Copy, Debug, Default, PartialEq, Eq)]
+pub struct Options {
+    /// The address at which the image was loaded.
+    pub base: Option<u64>,
+    /// What names the PDB that is wanted.
+    pub wanted: Option<Wanted>,
+    /// Whether each text stands behind its address.
+    pub addresses: bool,
+    /// Whether the symbols of all modules are meant.
+    pub all: bool,
+}
+
+impl Options {
+    /// With the load address of an image as the base, where no other is given.
+    pub fn with_base_of(self, own: u64) -> Options
+        ensures { result ≡ with_base_of self own }
+    {
+        Options {
+            base: Some(self.base.unwrap_or(own)),
+            ..self
+        }
+    }
+}
+
+/// What the words so far give.
+#[derive(Clone, Copy, Debug, Default, PartialEq, Eq)]
+pub struct Given {
+    options: Options,
+    /// Whether the next word is the base.
+    wants_base: bool,
+    /// Whether one of them names a file.
+    has_file: bool,
+}
+
+/// Whether a word is an option's.
+pub fn is_option(word: &[u8]) -> bool
+    ensures { result ≡ is_option word.now }
+{
+    word.starts_with(b"--")
+}
+
+/// Whether a word is the option whose value is the word behind it.
+pub fn is_base(word: &[u8]) -> bool
+    ensures { result ≡ is_base word.now }
+{
+    word == b"--base".as_slice()
+}
+
+/// With the next word as the base; none where there is a base.
+fn wanting_base(given: Given) -> Option<Given>
+    ensures { result ≡ wanting_base given }
+{
+    if given.options.base.is_some() {
+        return None;
+    }
+    Some(Given {
+        wants_base: true,
+        ..given
+    })
+}
+
+/// With this base; none where there is one, or where a word is no number.
+fn with_base(given: Given, base: Option<u64>) -> Option<Given>
+    ensures { result ≡ with_base given base }
+{
+    if given.options.base.is_some() {
+        return None;
+    }
+    let options = Options {
+        base: Some(base?),
+        ..given.options
+    };
+    Some(Given {
+        options,
+        wants_base: false,
+        ..given
+    })
+}
+
+/// Whether a word is a key: 33 to 40 hex digits.
+fn is_key(word: &[u8]) -> bool
+    ensures { result ≡ is_key word.now }
+{
+    32 < word.len() && word.len() <= 40 && is_all_hex(word)
+}
+
+/// With what names the PDB that is wanted; none where something named it before.
+fn with_wanted(given: Given, wanted: Wanted) -> Option<Given>
+    ensures { result ≡ with_wanted given wanted }
+{
+    if given.options.wanted.is_some() {
+        return None;
+    }
+    let options = Options {
+        wanted: Some(wanted),
+        ..given.options
+    };
+    Some(Given { options, ..given })
+}
+
+/// With an option that names the PDB that is wanted.
+#[tactic(auto, unfolding(crate::specs::Options::with_wanted_option))]
+fn with_wanted_option(given: Given, place: usize, word: &[u8]) -> Option<Given>
+    ensures { result ≡ with_wanted_option given place word.now }
+{
+    if word.starts_with(b"--image=") {
+        return with_wanted(given, Wanted::Image(place));
+    }
+    let key = word.strip_prefix(b"--key=")?;
+    if !is_key(key) {
+        return None;
+    }
+    with_wanted(given, Wanted::Key(place))
+}
+
+/// With an option of `resolve`.
+#[tactic(auto, unfolding(crate::specs::Options::with_resolve_option))]
+fn with_resolve_option(given: Given, place: usize, word: &[u8]) -> Option<Given>
+    ensures { result ≡ with_resolve_option given place word.now }
+{
+    if is_base(word) {
+        return wanting_base(given);
+    }
+    if let Some(base) = word.strip_prefix(b"--base=") {
+        return with_base(given, address_number(base));
+    }
+    if word != b"--addresses".as_slice() {
+        return with_wanted_option(given, place, word);
+    }
+    let options = Options {
+        addresses: true,
+        ..given.options
+    };
+    Some(Given { options, ..given })
+}
+
+/// With an option of `symbols`.
+fn with_symbols_option(given: Given, word: &[u8]) -> Option<Given>
+    ensures { result ≡ with_symbols_option given word.now }
+{
+    if word != b"--all".as_slice() {
+        return None;
+    }
+    let options = Options {
+        all: true,
+        ..given.options
+    };
+    Some(Given { options, ..given })
+}
+
+/// With an option of a command.
+fn with_option(topic: Topic, given: Given, place: usize, word: &[u8]) -> Option<Given>
+    ensures { result ≡ with_option topic given place word.now }
+{
+    match topic {
+        Topic::Resolve => with_resolve_option(given, place, word),
+        Topic::Symbols => with_symbols_option(given, word),
+        _ => None,
+    }
+}
+
+/// With one more word; none where it can't stand there.
+#[tactic(auto, unfolding(crate::specs::Options::with_word))]
+fn with_word(topic: Topic, given: Given, place: usize, word: &[u8]) -> Option<Given>
+    ensures { result ≡ with_word topic given place word.now }
+{
+    if given.wants_base {
+        return with_base(given, address_number(word));
+    }
+    if is_option(word) {
+        return with_option(topic, given, place, word);
+    }
+    Some(Given {
+        has_file: true,
+        ..given
+    })
+}
+
+/// The options of a command, of whose words the first stands at `place` among the program's words. One of the words has
+/// to name a file.
+#[tactic(auto, using(crate::proofs::OptionWords::bad_there, crate::proofs::OptionWords::begins, crate::proofs::OptionWords::ends, crate::proofs::OptionWords::one_more))]
+pub fn options_in(topic: Topic, words: &[String], place: usize) -> Result<Options, WordsError>
+    requires { place + length words.now < 2 ^ 64 }
+    ensures { Tells (λ o. o) result (options_of topic nothing_given (map string_bytes words.now) place) }
+{
+    let mut given = Given::default();
+    for (index, word) in words.iter().enumerate() {
+        match with_word(topic, given, place + index, word.as_bytes()) {
+            Some(more) => given = more,
+            None => return Err(WordsError::BadWord(place + index)),
+        }
+    }
+    if given.has_file && !given.wants_base {
+        Ok(given.options)
+    } else {
+        Err(WordsError::BadWord(place + words.len()))
+    }
+}

@@ -1,0 +1,264 @@
+"""The calls of the C library, each a function of the bytes that it is passed.
+
+A number that C's type of the argument doesn't hold is a ValueError.
+"""
+from __future__ import annotations
+
+import ctypes as c
+import struct
+import uuid
+from typing import Any, Iterable, Iterator, List, Optional, Sequence, Tuple, Union
+
+from . import _library as raw
+from .errors import PdbError, error_of
+from .records import (
+    Address,
+    ChecksumKind,
+    DebugInformation,
+    Export,
+    Form,
+    Frame,
+    Import,
+    Information,
+    Inlinee,
+    Line,
+    Module,
+    SourceFile,
+    Symbol,
+)
+
+Sizes = Tuple[int, int, int]
+_DONE, _END, _ROOM, _NO_STREAM = 0, 30, 31, 0xFFFF
+_AT_ONCE = 256
+_FORMS = [None, *Form]
+
+
+def _fits(bits: int, number: int) -> int:
+    """The number, where it has so many bits; ctypes would cut it off."""
+    if not 0 <= number < 1 << bits:
+        raise ValueError(f"{number} is no unsigned number of {bits} bits")
+    return number
+
+
+def _check(code: int) -> None:
+    if code != _DONE:
+        raise error_of(code)
+
+
+def _error(code: int) -> Optional[PdbError]:
+    return error_of(code) if code else None
+
+
+def version() -> Tuple[int, int, int]:
+    """The version of the library: major, minor, patch."""
+    number = raw.LIBRARY.pdb_version()
+    return number // 1000000, number // 1000 % 1000, number % 1000
+
+
+def information(file: bytes) -> Information:
+    """Which file it is, by the information stream."""
+    out = raw.Information()
+    _check(raw.LIBRARY.pdb_information(file, len(file), out))
+    return Information(uuid.UUID(bytes=bytes(out.guid)), out.version, out.signature, out.age)
+
+
+def debug_information(file: bytes) -> DebugInformation:
+    """The header of the DBI stream."""
+    out = raw.DebugInformation()
+    _check(raw.LIBRARY.pdb_debug_information(file, len(file), out))
+    symbols_stream = None if out.symbols_stream == _NO_STREAM else out.symbols_stream
+    return DebugInformation(out.age, symbols_stream, out.machine, out.flags)
+
+
+def key(file: bytes) -> str:
+    """The key under which a symbol server stores the file."""
+    room, size = c.create_string_buffer(40), raw.size_t()
+    _check(raw.LIBRARY.pdb_key(file, len(file), room, len(room), size))
+    return room.raw[: size.value].decode("ascii")
+
+
+def streams(file: bytes, numbers: Iterable[int]) -> List[Union[bytes, PdbError]]:
+    """The bytes of each stream, or its error. The file is opened once."""
+    wanted = [_fits(16, it) for it in numbers]
+    count, size = len(wanted), raw.size_t()
+    asked, rows = (raw.u16 * count)(*wanted), (raw.Stream * count)()
+    room = c.create_string_buffer(1)
+    code = raw.LIBRARY.pdb_streams(file, len(file), asked, count, rows, count, room, 0, size)
+    if code == _ROOM:
+        room = c.create_string_buffer(size.value)
+        code = raw.LIBRARY.pdb_streams(file, len(file), asked, count, rows, count, room, size.value, size)
+    _check(code)
+    data = memoryview(room)
+    return [error_of(it.code) if it.code else bytes(data[it.at : it.at + it.size]) for it in rows]
+
+
+def stream(file: bytes, number: int) -> bytes:
+    """The bytes of a stream."""
+    (found,) = streams(file, [number])
+    if isinstance(found, PdbError):
+        raise found
+    return found
+
+
+def named_stream(file: bytes, name: bytes) -> bytes:
+    """The bytes of the stream with a name, as b"/names", the string table."""
+    room, size = c.create_string_buffer(1), raw.size_t()
+    code = raw.LIBRARY.pdb_named_stream(file, len(file), name, len(name), room, 0, size)
+    if code == _ROOM:
+        room = c.create_string_buffer(size.value)
+        code = raw.LIBRARY.pdb_named_stream(file, len(file), name, len(name), room, size.value, size)
+    _check(code)
+    return room.raw[: size.value]
+
+
+def modules(dbi: bytes) -> Iterator[Module]:
+    """The modules of the DBI stream, which is stream 3."""
+    most = len(dbi) // 68 + 1
+    rows, count = (raw.Module * most)(), raw.size_t()
+    code = raw.LIBRARY.pdb_modules(dbi, len(dbi), rows, most, count)
+    for it in rows[: count.value]:
+        number = None if it.stream == _NO_STREAM else it.stream
+        yield Module(it.name.copy(), it.object.copy(), number, it.symbols_size, it.lines_size, it.c13_lines_size)
+    _check(code)
+
+
+def _symbol(it: Any) -> Symbol:
+    return Symbol(
+        index=it.index,
+        kind=it.kind,
+        form=_FORMS[it.form],
+        error=_error(it.refused),
+        record=it.record.copy(),
+        name=it.name.copy() if it.has_name else None,
+        section=it.section if it.has_place else None,
+        offset=it.offset if it.has_place else None,
+        code_size=it.code_size,
+        type_index=it.type_index,
+        parent=it.parent,
+        end=it.end,
+        inlinee=it.inlinee,
+        annotations=it.annotations.copy(),
+        starts_scope=bool(it.starts_scope),
+        ends_scope=bool(it.ends_scope),
+    )
+
+
+def _symbols(call: Any, start: int, *given: Any) -> Iterator[Symbol]:
+    rows, count, at = (raw.Symbol * _AT_ONCE)(), raw.size_t(), raw.u32(start)
+    code = _DONE
+    while code == _DONE:
+        code = call(*given, at, rows, _AT_ONCE, count)
+        yield from map(_symbol, rows[: count.value])
+    if code != _END:
+        raise error_of(code)
+
+
+def symbols(stream: bytes, symbols_size: int) -> Iterator[Symbol]:
+    """The symbols of a module, by the bytes of its stream."""
+    return _symbols(raw.LIBRARY.pdb_symbols, 4, stream, len(stream), _fits(32, symbols_size))
+
+
+def global_symbols(stream: bytes) -> Iterator[Symbol]:
+    """The symbols of the stream of global symbols."""
+    return _symbols(raw.LIBRARY.pdb_global_symbols, 0, stream, len(stream))
+
+
+def _listed(call: Any, row: Any, width: int, stream: bytes, sizes: Sizes) -> Tuple[Sequence[Any], int]:
+    """The rows of a list of the lines data, each of at least so many bytes, and the error behind them."""
+    most = min(sizes[2], len(stream)) // width
+    rows, count = (row * most)(), raw.size_t()
+    code = call(stream, len(stream), *(_fits(32, it) for it in sizes), rows, most, count)
+    return rows[: count.value], code
+
+
+def _line(it: Any) -> Line:
+    return Line(
+        section=it.section,
+        offset=it.offset,
+        length=it.length if it.has_length else None,
+        file=it.file,
+        file_name=None if it.file_refused else it.file_name,
+        file_error=_error(it.file_refused),
+        line_start=it.line_start,
+        line_end=it.line_end,
+        column_start=it.column_start if it.has_column_start else None,
+        column_end=it.column_end if it.has_column_end else None,
+        is_statement=bool(it.is_statement),
+    )
+
+
+def lines(stream: bytes, sizes: Sizes) -> Iterator[Line]:
+    """The line records of a module, by its stream and the sizes of that stream's three parts."""
+    rows, code = _listed(raw.LIBRARY.pdb_lines, raw.Line, 8, stream, sizes)
+    yield from map(_line, rows)
+    _check(code)
+
+
+def files(stream: bytes, sizes: Sizes) -> Iterator[SourceFile]:
+    """The source files of a module."""
+    rows, code = _listed(raw.LIBRARY.pdb_files, raw.File, 6, stream, sizes)
+    for it in rows:
+        yield SourceFile(it.index, it.name, ChecksumKind(it.kind), it.checksum.copy())
+    _check(code)
+
+
+def inlinees(stream: bytes, sizes: Sizes) -> Iterator[Inlinee]:
+    """The inlined functions of a module."""
+    rows, code = _listed(raw.LIBRARY.pdb_inlinees, raw.Inlinee, 12, stream, sizes)
+    for it in rows:
+        yield Inlinee(it.id, it.line, it.file, None if it.file_refused else it.file_name, _error(it.file_refused))
+    _check(code)
+
+
+def inlined_lines(annotations: bytes, section: int, offset: int, file: int, line: int) -> Iterator[Line]:
+    """The line records of an inlined call: by its annotations, the section and offset of the procedure around it, and the
+    file and line of its function. Their `file_name` is 0: `files` has the names."""
+    most, place = len(annotations), (_fits(16, section), _fits(32, offset), _fits(32, file), _fits(32, line))
+    rows, count = (raw.Line * most)(), raw.size_t()
+    code = raw.LIBRARY.pdb_inlined_lines(annotations, most, *place, rows, most, count)
+    yield from map(_line, rows[: count.value])
+    _check(code)
+
+
+def imports(stream: bytes, sizes: Sizes) -> List[Import]:
+    """The modules from which a module imports."""
+    rows, code = _listed(raw.LIBRARY.pdb_imports, raw.Import, 8, stream, sizes)
+    _check(code)
+    return [Import(it.name, struct.unpack(f"<{it.numbers.size // 4}I", it.numbers.copy())) for it in rows]
+
+
+def exports(stream: bytes, sizes: Sizes) -> Iterator[Export]:
+    """What a module exports."""
+    rows, code = _listed(raw.LIBRARY.pdb_exports, raw.Export, 8, stream, sizes)
+    for it in rows:
+        yield Export(it.local, it.global_index)
+    _check(code)
+
+
+def name(names: bytes, offset: int) -> bytes:
+    """The name at an offset of the string table."""
+    out = raw.Bytes()
+    _check(raw.LIBRARY.pdb_name(names, len(names), _fits(32, offset), out))
+    return out.copy()
+
+
+def frames(file: bytes, addresses: Iterable[Address]) -> List[List[Frame]]:
+    """The frames of each address, from the innermost inlined function to the function itself. The file is opened once."""
+    wanted = [raw.Address(_fits(32, it.offset), _fits(16, it.section or 0), int(it.section is not None)) for it in addresses]
+    asked = (raw.Address * len(wanted))(*wanted)
+    count, size, names = raw.size_t(), raw.size_t(), c.create_string_buffer(1)
+    code = raw.LIBRARY.pdb_frames(file, len(file), asked, len(wanted), (raw.Frame * 0)(), 0, count, names, 0, size)
+    rows = (raw.Frame * count.value)()
+    if code == _ROOM:
+        names = c.create_string_buffer(max(1, size.value))
+        code = raw.LIBRARY.pdb_frames(
+            file, len(file), asked, len(wanted), rows, len(rows), count, names, size.value, size
+        )
+    _check(code)
+    found: List[List[Frame]] = [[] for _ in wanted]
+    data = names.raw
+    for it in rows:
+        function = data[it.name_at : it.name_at + it.name_size] if it.has_name else None
+        path = data[it.file_at : it.file_at + it.file_size] if it.has_file else None
+        found[it.address].append(Frame(function, path, it.line, it.column))
+    return found

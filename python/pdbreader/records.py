@@ -1,0 +1,176 @@
+"""What the calls return, as values that borrow nothing."""
+from __future__ import annotations
+
+import enum
+import uuid
+from dataclasses import dataclass
+from typing import Optional, Tuple
+
+from .errors import PdbError
+
+
+@dataclass(frozen=True)
+class Information:
+    """Which file it is, by the information stream."""
+
+    guid: uuid.UUID
+    version: int  # of the stream's format: a date
+    signature: int  # seconds since 1970, or another number
+    age: int  # how often the file was written; the image has that of DebugInformation
+
+
+@dataclass(frozen=True)
+class DebugInformation:
+    """The header of the DBI stream."""
+
+    age: int
+    symbols_stream: Optional[int]  # the stream of global symbols
+    machine: int  # IMAGE_FILE_MACHINE_..
+    flags: int
+
+
+@dataclass(frozen=True)
+class Module:
+    """A module, which is an object file."""
+
+    name: bytes  # mostly the path of the object file
+    object: bytes  # the file from which the linker took it
+    stream: Optional[int]
+    symbols_size: int  # the sizes of that stream's parts
+    lines_size: int
+    c13_lines_size: int
+
+
+class Form(enum.IntEnum):
+    """The record layouts of symbols."""
+
+    SCOPE_END = 1
+    OBJ_NAME = 2
+    REGISTER_VARIABLE = 3
+    CONSTANT = 4
+    USER_DEFINED_TYPE = 5
+    MULTI_REGISTER_VARIABLE = 6
+    DATA = 7
+    PUBLIC = 8
+    PROCEDURE = 9
+    THREAD_STORAGE = 10
+    COMPILE_FLAGS = 11
+    USING_NAMESPACE = 12
+    PROCEDURE_REFERENCE = 13
+    DATA_REFERENCE = 14
+    ANNOTATION_REFERENCE = 15
+    TRAMPOLINE = 16
+    EXPORT = 17
+    LOCAL = 18
+    BUILD_INFO = 19
+    INLINE_SITE = 20
+    INLINE_SITE_END = 21
+    PROCEDURE_END = 22
+    LABEL = 23
+    BLOCK = 24
+    REGISTER_RELATIVE = 25
+    THUNK = 26
+    SEPARATED_CODE = 27
+
+
+@dataclass(frozen=True)
+class Symbol:
+    """A symbol. A number that its record doesn't have is 0."""
+
+    index: int  # the offset of the record in its stream
+    kind: int  # S_.. of cvinfo.h
+    form: Optional[Form]  # None where the record can't be read
+    error: Optional[PdbError]  # why it can't be read
+    record: bytes  # with its kind, without its length
+    name: Optional[bytes]
+    section: Optional[int]  # the section and the offset in it, where the record has them
+    offset: Optional[int]
+    code_size: int
+    type_index: int
+    parent: int  # the index of the symbol whose scope it is in
+    end: int  # the index of the symbol that ends its scope
+    inlinee: int  # the id of the function that was inlined
+    annotations: bytes  # of an inlined call, for inlined_lines
+    starts_scope: bool
+    ends_scope: bool
+
+
+@dataclass(frozen=True)
+class Line:
+    """A line record."""
+
+    section: int
+    offset: int  # the offset of the code in the section
+    length: Optional[int]  # bytes of code
+    file: int  # by the offset of its checksum
+    file_name: Optional[int]  # the offset of the file's name in the string table
+    file_error: Optional[PdbError]  # why the file has no name
+    line_start: int
+    line_end: int
+    column_start: Optional[int]
+    column_end: Optional[int]
+    is_statement: bool  # otherwise an expression
+
+
+class ChecksumKind(enum.IntEnum):
+    """What a checksum is."""
+
+    NONE = 0
+    MD5 = 1
+    SHA1 = 2
+    SHA256 = 3
+
+
+@dataclass(frozen=True)
+class SourceFile:
+    """A source file of a module."""
+
+    index: int  # the offset of its record: `file` of Line and of Inlinee
+    name: int  # the offset of its name in the string table
+    kind: ChecksumKind
+    checksum: bytes
+
+
+@dataclass(frozen=True)
+class Inlinee:
+    """An inlined function."""
+
+    id: int  # `inlinee` of Symbol; the first function of an id counts
+    line: int  # where the function begins
+    file: int  # by the offset of its checksum
+    file_name: Optional[int]  # the offset of the file's name in the string table
+    file_error: Optional[PdbError]  # why the file has no name
+
+
+@dataclass(frozen=True)
+class Import:
+    """A module from which a module imports."""
+
+    name: int  # the offset of that module's name in the string table
+    numbers: Tuple[int, ...]  # types and ids, local to that module
+
+
+@dataclass(frozen=True)
+class Export:
+    """What a module exports."""
+
+    local: int  # local to the module; an id where its top bit is set, otherwise a type
+    global_index: int  # the number in the whole file
+
+
+@dataclass(frozen=True)
+class Address:
+    """An address to look up: relative to the load address of the image, or an offset in a section."""
+
+    offset: int
+    section: Optional[int] = None
+
+
+@dataclass(frozen=True)
+class Frame:
+    """A function at an address, and the line there."""
+
+    name: Optional[bytes]
+    file: Optional[bytes]
+    line: int  # 0 where unknown
+    column: int

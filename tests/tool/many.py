@@ -1,0 +1,53 @@
+"""pdb_tool over many arguments, many lines and names of every kind."""
+import os
+import shutil
+import subprocess
+
+from program import TOOL, compare, ran, tell
+
+MANY = 2000
+LINES = 1_000_001
+
+
+def many_arguments(sample):
+    """More arguments than any table in the program has room for at once."""
+    lines = b"0001:00000100 8 a.c:1:0\n0001:00000108 8 a.c:2:0\n"
+    scopes = b"procedure 0001:00000100 48 main\n  inlined ??\n"
+    head = b"module 0 a.obj\n"
+    compare("lines of 2,000 modules", (0, MANY * (head + lines), b""), "lines", sample, *MANY * ["0"])
+    compare("scopes of 2,000 modules", (0, MANY * (head + scopes), b""), "scopes", sample, *MANY * ["0"])
+    status, out, err = ran("symbols", sample, *MANY * ["0"])
+    tell((status, out.count(head), err) == (0, MANY, b""), "symbols of 2,000 modules", (status, err))
+    compare("2,000 addresses", (0, MANY * b"main\na.c:1:0\n\n", b""), "resolve", sample, *MANY * ["1100"])
+    compare("2,000 files with errors", (0, MANY * f"{sample}: ok\n".encode(), b""), "check", *MANY * [sample])
+    status, out, err = ran("key", *MANY * [sample])
+    tell((status, out.count(b"\n"), err) == (0, MANY, b""), "2,000 keys", (status, err))
+
+
+def many_lines(sample):
+    """A line of standard input more than a million."""
+    compare("1,000,001 lines", (0, LINES * b"??\n??:0:0\n\n", b""), "resolve", sample, given=LINES * b"7\n")
+
+
+def order_of_faults(sample):
+    """Arguments are judged before a file is opened; one file's error is told, and the next follows."""
+    usage = b"usage: pdb_tool resolve [--base=HEX] [--key=KEY | --image=IMAGE] [--addresses] FILE [ADDRESS..]\n"
+    compare("a bad word and no file", (2, b"", b"pdb_tool: bad word: zz\n" + usage), "resolve", "nowhere.pdb", "zz")
+    usage = b"usage: pdb_tool lines FILE [K..]\n"
+    compare("a bad number and no file", (2, b"", b"pdb_tool: bad word: zz\n" + usage), "lines", "nowhere.pdb", "0", "zz")
+    ok = f"{sample}: ok\n".encode()
+    unread = b"pdb_tool: nowhere.pdb: cannot read file\n"
+    for words, out in ((["nowhere.pdb", sample], ok), ([sample, "nowhere.pdb"], ok), (["nowhere.pdb", sample, sample], ok + ok)):
+        compare(f"check of {len(words)} files, of which one isn't there", (1, out, unread), "check", *words)
+
+
+def names_of_every_kind(sample, room):
+    """A file's name is passed on as it stands: empty, with blanks at its ends, long, in another script."""
+    key = ran("key", sample)[1].split()[0]
+    compare("an empty name", (1, b"", b"pdb_tool: : cannot read file\n"), "key", "")
+    for name in " app.pdb", "app.pdb ", "Приложение.pdb", 200 * "a" + ".pdb", "-base.pdb":
+        file = os.path.join(room, name)
+        shutil.copyfile(sample, file)
+        compare(f"the key of {name!r}", (0, key + b" " + file.encode() + b"\n", b""), "key", file)
+        done = subprocess.run([TOOL, "check", name], cwd=room, capture_output=True, check=False)
+        tell((done.returncode, done.stdout) == (0, f"{name}: ok\n".encode()), f"check of {name!r}", done)

@@ -1,0 +1,33 @@
+"""The proved program pdb_tool, run over words and standard input, and the count of what was as it should be."""
+import os
+import subprocess
+
+HERE = os.path.dirname(os.path.realpath(__file__))
+TOP = os.path.realpath(f"{HERE}/../..")
+TOOL = f"{TOP}/crates/pdb_tool/out/pdb_tool"
+LIST = f"{TOP}/crates/pdb_list/out/pdb_list"
+FILES = f"{TOP}/tests/real/files"
+REAL = ["tour-lld", "tour-gnu", "cpp-lld", "dll-x86"]
+
+counts = {True: 0, False: 0}
+
+
+def tell(well, what, said=""):
+    counts[bool(well)] += 1
+    if not well:
+        print(f"not as it should be: {what}: {said!r:.400}")
+
+
+def ran(*words, given=b"", program=TOOL, env=None, limit=None, pass_fds=()):
+    done = subprocess.run([program, *words], input=given, capture_output=True, check=False, env=env, timeout=limit, pass_fds=pass_fds)
+    return done.returncode, done.stdout, done.stderr
+
+
+def compare(what, wanted, *words, given=b""):
+    said = ran(*words, given=given)
+    tell(said == wanted, what, said)
+
+
+def stored(name):
+    with open(f"{HERE}/{name}", "rb") as it:
+        return it.read()

@@ -1,0 +1,129 @@
+"""What decides whether a contract rejects a mutant, beside the mutant itself: the file that it changes, the definitions
+that this file cites and those that they cite, the contracts of the functions that it calls, the types and constants that
+it names, and the traits."""
+import os
+import re
+
+# The head of a function with its contract, up to its body; what stands before it on the line doesn't matter.
+FUNCTION = re.compile(r"(?m)^[ \t]*(pub(?:\([a-z]+\))? )?(?:final )?(?:const )?(?:extern \"C\" )?fn (\w+)[^{;]*(?:\{[^{}]*(?:\{[^{}]*\}[^{}]*)*\}\n[^{;]*?)*?(?=^[ \t]*\{$|\{\n|;)")
+CONSTANT = re.compile(r"(?m)^[ \t]*(pub(?:\([a-z]+\))? )?(?:const|static) ([A-Z_0-9]+):[^;]*;")
+TYPE = re.compile(r"(?m)^(pub(?:\([a-z]+\))? )?(?:struct|enum) (\w+)")
+MODEL = re.compile(r"(?m)^(impl)\b[^\n{]*\bModel for (\w+)")
+# What a file brings from specs/: names in braces, or a module under another name.
+NAMES = re.compile(r"\buse Rattle\.\w+\.specs\.(\w+)[\w.]*\.\{([^}]*)\}")
+MODULE = re.compile(r"\buse Rattle\.\w+\.specs\.(\w+)[\w.]* as (\w+)")
+# A signature, or the head of a type: with it a definition begins. An equation goes on with one.
+SIGNATURE = re.compile(r"(?:(?:pub|abbrev|unfoldable|opaque) )*(?:(data|record) )?([^\s:(){},]+)\s*(?:\{[^}]*\}\s*)*:(?=\s)")
+ANY = "*"
+
+
+def text_of(path):
+    with open(path, encoding="utf-8") as it:
+        return it.read()
+
+
+def words_of(text):
+    return set(re.split(r"[\s(){};,.:\[\]]+", text))
+
+
+class Definition:
+    """A definition of a file of specs/: its text without comments, and where the words come from that its file has."""
+
+    def __init__(self, origins):
+        self.text, self.origins = "", origins
+
+    def cited(self):
+        return {self.origins[it] for it in words_of(self.text) if it in self.origins}
+
+
+def brought_in(text):
+    """Each word that lines `use` bring from specs/, with the module and the name of what it stands for."""
+    for module, names in NAMES.findall(text):
+        for name in names.split(","):
+            name, _, other = (it.strip() for it in name.partition(" as "))
+            for word in {other or name, *(other or name).split("◌")} - {""}:
+                yield word, (module, name)
+    for module, other in MODULE.findall(text):
+        yield other, (module, ANY)
+
+
+def cited_in(text, origins):
+    """The modules and names of the definitions that a text names, or unfolds."""
+    named = {origins[it] for it in words_of(text) if it in origins}
+    return named | set(re.findall(r"\bspecs::(\w+)::(\w+)", text))
+
+
+def definitions_in(folder):
+    """The definitions of a folder, each by its module and its name; what a `data` lists has a name too. A crate of tests
+    alone has no such folder."""
+    for file in sorted(os.listdir(folder)) if os.path.isdir(folder) else ():
+        module, text = file.removesuffix(".antt"), text_of(f"{folder}/{file}")
+        origins, found, name, is_data = dict(brought_in(text)), {}, None, False
+        for line in (re.sub(r"(^|\s)--.*", "", it).rstrip() for it in text.splitlines()):
+            if line and not line[0].isspace() and not re.match(r"(?:pub )?(?:use|mod)\b", line):
+                first = line.split()[0]
+                if head := SIGNATURE.match(line):
+                    name, is_data = head[2], head[1] == "data"
+                    found.setdefault(name, Definition(origins))
+                elif first in found:
+                    name, is_data = first, False
+            if line and name:
+                found[name].text += f"{line}\n"
+                if is_data and (listed := re.match(r"\s+(\w+) :", line)):
+                    found.setdefault(listed[1], found[name])
+        for name in found:
+            origins.update((word, (module, name)) for word in {name, *name.split("◌")} - {""})
+        yield from (((module, name), it) for name, it in found.items())
+
+
+def block_at(text, start):
+    """A text from here to the end of its block, which is a brace at the line's begin, or to its semicolon."""
+    end = re.compile(r"(?m);$|^\}").search(text, start)
+    return text[start : end.end() if end else len(text)]
+
+
+class Source:
+    """What a file of src/ says to others: contracts, constants, types with their ghost fields, and how contracts see them;
+    to other crates only what is public."""
+
+    def __init__(self, text, is_own):
+        self.origins = dict(brought_in(text))
+        found = [(it, it[0]) for kind in (FUNCTION, CONSTANT) for it in kind.finditer(text)]
+        found += [(it, block_at(text, it.start())) for kind in (TYPE, MODEL) for it in kind.finditer(text)]
+        seen = ("pub ", "impl", "pub(crate) ", "pub(super) ") if is_own else ("pub ", "impl")
+        self.items = [(it[2], item) for it, item in found if it[1] in seen]
+
+
+def sources_in(folder):
+    """The sources of a crate, by their paths."""
+    return {path: text_of(path) for at, _, names in os.walk(folder) for name in names for path in [f"{at}/{name}"] if name.endswith(".rt")}
+
+
+class Judges:
+    """The definitions and sources of a crate and of those below it, by which its mutants are judged."""
+
+    def __init__(self, folders):
+        self.definitions = {key: it for folder in folders for key, it in definitions_in(f"{folder}/specs")}
+        texts = [(text, folder == folders[-1]) for folder in folders for _, text in sorted(sources_in(f"{folder}/src").items())]
+        self.traits = [it for it, _ in texts if re.search(r"(?m)^(?:pub )?trait ", it)]
+        self.items = {}
+        for text, is_own in texts:
+            source = Source(text, is_own)
+            for name, item in source.items:
+                self.items.setdefault(name, []).append((item, source.origins))
+
+    def of(self, texts):
+        """The texts that decide over mutants of these files, these among them."""
+        words = set().union(*(set(re.findall(r"\w+", it)) for it in texts))
+        items = [it for name in sorted(words & self.items.keys()) for it in self.items[name]]
+        left = set().union(*(cited_in(it, dict(brought_in(it))) for it in texts), *(cited_in(*it) for it in items))
+        found = set()
+        while left := self.known(left) - found:
+            found |= left
+            left = set().union(*(self.definitions[it].cited() for it in left))
+        return [*texts, *(it for it, _ in items), *(self.definitions[it].text for it in sorted(found)), *self.traits]
+
+    def known(self, keys):
+        """Those of these names that are definitions; of a module under another name, all of it."""
+        modules = {module for module, name in keys if name == ANY}
+        return keys & self.definitions.keys() | {it for it in self.definitions if it[0] in modules}
