@@ -9,6 +9,7 @@ pub mod Kept
 pub mod Listed
 pub mod KeptFrames
 pub mod AddressPlaces
+pub mod PlaceAddresses
 pub mod Behind
 pub mod AskedStream
 pub mod ModulePlaces

@@ -44,20 +44,21 @@ fn map_rises(map: &Option<AddressMap<'_>>) -> bool
 }
 
 /// Where an address goes by a table, where there is one.
-fn through(
+pub(crate) fn through(
     table: Option<&OMAPTable<'_>>,
     rises: bool,
-    address: u32,
+    address: u64,
     steps: &mut Steps,
 ) -> Option<u64>
-    requires { IsTrue rises ↔ Rises (pairs_of_table (option_map (λ t. t.now) table)) }
+    requires pairs { IsTrue rises ↔ Rises (pairs_of_table (option_map (λ t. t.now) table)) }
+    requires small { address < 2 ^ 33 }
     ensures moved { result ≡ translated address (option_map (λ t. t.now) table.entry) }
     ensures halved { Rises (pairs_of_table (option_map (λ t. t.now) table.entry)) → (digits : ℕ) → length (pairs_of_table (option_map (λ t. t.now) table.entry)) < 2 ^ digits → steps.new.count ≤ steps.old.count + digits }
     ensures few { steps.new.count ≤ steps.old.count + length (pairs_of_table (option_map (λ t. t.now) table.entry)) }
 {
     match table {
         Some(table) => translate(table.stream().as_slice(), rises, address, steps),
-        None => Some(u64::from(address)),
+        None => Some(address),
     }
 }
 
@@ -83,7 +84,7 @@ impl<'s> AddressPlaces<'s> {
         let Some(map) = &self.map else {
             return None;
         };
-        match through(map.omap_to_src(), self.rises, address, steps) {
+        match through(map.omap_to_src(), self.rises, u64::from(address), steps) {
             Some(at) => place_among(map.original_sections(), at, steps),
             None => None,
         }

@@ -178,7 +178,7 @@ pub(crate) fn push_outer<'a>(
 }
 
 /// A name that isn't qualified.
-pub(crate) fn plain_name<'a>(name: Option<RawString<'a>>) -> Option<QualifiedName<'a>>
+pub fn plain_name<'a>(name: Option<RawString<'a>>) -> Option<QualifiedName<'a>>
     ensures { option_map shown_qualified result ≡ option_map plain (option_map name_bytes name.entry) }
 {
     Some(QualifiedName {

@@ -141,7 +141,7 @@ fn first_said<'t>(alloc: Global, mut symbols: SymbolIter<'t>) -> Result<Option<S
 
 /// A module's inlined functions by their ids; none where they are refused.
 #[tactic(auto, unfolding(crate::specs::ModuleCode::inlinees_in))]
-fn read_known<'a>(alloc: Global, info: &'a ModuleInfo<'a>) -> Result<InlineeFinder<'a>>
+pub fn read_known<'a>(alloc: Global, info: &'a ModuleInfo<'a>) -> Result<InlineeFinder<'a>>
     ensures known { IfOk result (λ known. inlinee_with known ≡ inlinee_with (inlinees_in info.entry.now)) }
     ensures refused { IfErr result (λ e. e ≡ Error.OutOfMemory) }
 {

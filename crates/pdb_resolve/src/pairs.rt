@@ -1,4 +1,4 @@
-//! The pairs of a table from addresses of the image to those before it was rearranged.
+//! The pairs of a table from addresses of the image to those before it was rearranged, or back.
 
 ghost use Rattle.std.specs.Prelude.{◌≡◌, ◌+◌, ◌/◌, ◌≤◌, ◌<◌, ◌^◌, ℕ, length, IsTrue, ◌↔◌};
 ghost use Rattle.pdb_resolve.specs.AddressPlaces.{pair_in, pairs_in, Rises, moved, moved_by};
@@ -39,7 +39,7 @@ pub(crate) fn rises(table: &[u8]) -> bool
 
 /// How many pairs begin at or before an address, where none begins before an earlier one. They are searched by
 /// halving, and each look at a pair takes a step.
-fn halve(table: &[u8], address: u32, steps: &mut Steps) -> usize
+fn halve(table: &[u8], address: u64, steps: &mut Steps) -> usize
     requires { Rises (pairs_in table.now) }
     ensures behind { IsBehindLast address table.now result }
     ensures probes { (digits : ℕ) → length (pairs_in table.now) < 2 ^ digits → steps.new.count ≤ steps.old.count + digits }
@@ -51,7 +51,7 @@ fn halve(table: &[u8], address: u32, steps: &mut Steps) -> usize
         let middle = low + (high - low) / 2;
         steps.tick();
         let from = from_of(table, middle);
-        if from <= address {
+        if u64::from(from) <= address {
             low = middle + 1;
         } else {
             high = middle;
@@ -62,7 +62,7 @@ fn halve(table: &[u8], address: u32, steps: &mut Steps) -> usize
 
 /// The number behind the last pair at or before an address; 0 where there is none. They are looked at one by one from
 /// the last one on, and each look takes a step.
-fn look_back(table: &[u8], address: u32, steps: &mut Steps) -> usize
+fn look_back(table: &[u8], address: u64, steps: &mut Steps) -> usize
     ensures behind { IsBehindLast address table.now result }
     ensures few { steps.new.count ≤ steps.old.count + length (pairs_in table.now) }
 {
@@ -70,7 +70,7 @@ fn look_back(table: &[u8], address: u32, steps: &mut Steps) -> usize
     while left > 0 {
         steps.tick();
         let from = from_of(table, left - 1);
-        if from <= address {
+        if u64::from(from) <= address {
             return left;
         }
         left -= 1;
@@ -79,7 +79,7 @@ fn look_back(table: &[u8], address: u32, steps: &mut Steps) -> usize
 }
 
 /// The number behind the last pair at or before an address; 0 where there is none. Each look at a pair takes a step.
-fn behind_last(table: &[u8], rises: bool, address: u32, steps: &mut Steps) -> usize
+fn behind_last(table: &[u8], rises: bool, address: u64, steps: &mut Steps) -> usize
     requires { IsTrue rises ↔ Rises (pairs_in table.now) }
     ensures behind { IsBehindLast address table.now result }
     ensures halved { Rises (pairs_in table.now) → (digits : ℕ) → length (pairs_in table.now) < 2 ^ digits → steps.new.count ≤ steps.old.count + digits }
@@ -93,20 +93,22 @@ fn behind_last(table: &[u8], rises: bool, address: u32, steps: &mut Steps) -> us
 }
 
 /// Where an address goes by a pair at or before it.
-fn moved(address: u32, from: u32, to: u32) -> Option<u64>
-    requires { from ≤ address }
+fn moved(address: u64, from: u32, to: u32) -> Option<u64>
+    requires behind { from ≤ address }
+    requires small { address < 2 ^ 33 }
     ensures { result ≡ moved address (record { from = from; to = to }) }
 {
     if to == 0 {
         None
     } else {
-        Some(u64::from(to) + u64::from(address) - u64::from(from))
+        Some(u64::from(to) + address - u64::from(from))
     }
 }
 
 /// Where an address goes by the last listed pair at or before it, with a step for each look at a pair.
-pub(crate) fn translate(table: &[u8], rises: bool, address: u32, steps: &mut Steps) -> Option<u64>
-    requires { IsTrue rises ↔ Rises (pairs_in table.now) }
+pub(crate) fn translate(table: &[u8], rises: bool, address: u64, steps: &mut Steps) -> Option<u64>
+    requires pairs { IsTrue rises ↔ Rises (pairs_in table.now) }
+    requires small { address < 2 ^ 33 }
     ensures moved { result ≡ moved_by address (pairs_in table.now) }
     ensures halved { Rises (pairs_in table.now) → (digits : ℕ) → length (pairs_in table.now) < 2 ^ digits → steps.new.count ≤ steps.old.count + digits }
     ensures few { steps.new.count ≤ steps.old.count + length (pairs_in table.now) }

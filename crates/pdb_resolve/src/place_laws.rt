@@ -5,6 +5,9 @@ ghost use Rattle.pdb.specs.ImageSectionHeader.{ImageSectionHeader};
 ghost use Rattle.pdb.specs.DBISectionContribution.{DBISectionContribution};
 ghost use Rattle.pdb.specs.PdbInternalSectionOffset.{PdbInternalSectionOffset};
 ghost use Rattle.pdb_resolve.specs.AddressPlaces.{Pair, IsLastUpto, last_upto, Holds, IsFirstHolding, numbered, place_from};
+ghost use Rattle.pdb.specs.Tables.{Addresses};
+ghost use Rattle.pdb_resolve.specs.AddressPlaces.{place_in};
+ghost use Rattle.pdb_resolve.specs.PlaceAddresses.{AreSectionsApart, IsUnmoved, address_in};
 ghost use Rattle.pdb_resolve.specs.ModulePlaces.{HasPlace, IsFirstContribution, module_among};
 ghost use Rattle.pdb_resolve.specs.PublicNames.{PublicAt, StandsUpto, IsNearest, public_before};
 
@@ -20,6 +23,12 @@ pub fn the_last_pair_is_chosen()
 pub fn the_first_section_counts()
     ensures first { (r : ℕ) (hs : List ImageSectionHeader) (k : ℕ) (h : ImageSectionHeader) → IsFirstHolding r hs k h → place_from r 1 hs ≡ numbered (k + 1) (r - h.virtual_address) }
     ensures none { (r : ℕ) (hs : List ImageSectionHeader) → ((k : ℕ) (d : ImageSectionHeader) → k < length hs → Holds r (get_or hs k d) → ⊥) → place_from r 1 hs ≡ None }
+{}
+
+/// The address of a place leads back to that place, where no two sections have a common address and the image was not
+/// rearranged.
+pub fn the_address_of_a_place_leads_back()
+    ensures { (a : Addresses) (q : PdbInternalSectionOffset) (r : ℕ) → IsUnmoved a → AreSectionsApart a.original_sections → q.section < 65536 → address_in a q ≡ Some r → place_in a r ≡ Some q }
 {}
 
 /// The module at a place is that of the first listed contribution which has it, and there is none where none has it.

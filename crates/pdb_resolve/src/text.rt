@@ -42,7 +42,7 @@ fn put_scoped(
 }
 
 /// A function's name, `??` where there is none.
-fn put_name(out: &mut Vec<u8>, name: Option<QualifiedName<'_>>) -> Result<(), AllocError>
+pub fn put_name(out: &mut Vec<u8>, name: Option<QualifiedName<'_>>) -> Result<(), AllocError>
     ensures { OnOk result (out.new.items ≡ out.old.items ++ name_text (option_map shown_qualified name.entry)) }
 {
     match name {

@@ -1,13 +1,13 @@
 -- Digits by tables of pairs.
 use Rattle.std.proofs.Common.{◌≡◌, ℕ, zero, suc, ◌+◌, ◌-◌, ◌/◌, ◌%◌, ◌^◌, ◌<◌, ◌≤◌, Bool, true, ◌&&◌, T, eqb, List, [], ◌∷◌, ◌++◌, get_or, refl, ap, ◌∙◌, inl, inr, arith, eq-zero-or-pos, eqb→eq, append_assoc}
-use Rattle.std.proofs.Common.{false, nat_lt, w16}
+use Rattle.std.proofs.Common.{false, nat_lt, w16, drop}
 use Rattle.std.specs.Int.{to_le_bytes}
 use Rattle.std.proofs.lemmas.Bool.{cases_lt}
 use Rattle.std.proofs.lemmas.Bool.Decides.{nat_tests}
 use lib.Ieee.Fits.{and_l, and_r}
 use Rattle.std.proofs.lemmas.Fmt.{decimal_digit, decimal_step}
 use Rattle.std.specs.Fmt.{decimal}
-use Rattle.pdb_text.specs.Digits.{hex_digit, hex, four_digits}
+use Rattle.pdb_text.specs.Digits.{hex_digit, hex, hex_length, short_hex, four_digits}
 use Rattle.pdb_text.specs.declared.digits.TheConstants.{HEX_PAIRS, DECIMAL_PAIRS}
 
 digit_small : (d : ℕ) → d < 16 → hex_digit d < 256
@@ -105,3 +105,14 @@ decimal_more n lo hi =
     let b : n / 100 % 100 ≡ n % 10000 / 100 = omega arith in
     let c : n % 100 ≡ n % 10000 % 100 = omega arith in
     rw (decimal_behind n (omega arith) hi, decimal_behind (n / 100) (omega arith) (omega arith), append_assoc, a, b, ← c)
+
+-- ---- the last digits of a number in base 16
+
+dropped_digits : (j k m n : ℕ) → m ≡ j + k → drop j (hex m n) ≡ hex k n
+unfolding hex
+dropped_digits zero k m n e = let s : m ≡ k = omega arith in rw s refl
+dropped_digits (suc j) k m n e = let s : m ≡ suc (j + k) = omega arith in rw s (dropped_digits j k (j + k) n refl)
+
+pub last_digits : (k n : ℕ) (digits : List ℕ) → digits ≡ hex 8 n → k ≡ hex_length n → k ≤ 8 → drop (8 - k) digits ≡ short_hex n
+unfolding short_hex
+last_digits k n digits all long most = rw (all, ← long) (dropped_digits (8 - k) k 8 n (omega arith))

@@ -11,3 +11,7 @@ is_short_numeral word = nat_lt 0 (length word) && nat_le (length word) 10 && lis
 -- the number that a word is: one to ten digits, of at most 4294967295
 unfoldable pub number_in : List ℕ → Option ℕ
 number_in word = if is_short_numeral word && nat_lt (digits_value 10 word) 4294967296 then Some (digits_value 10 word) else None
+
+-- the number that a word is: one to ten digits, of at most 9999999999
+unfoldable pub long_number_in : List ℕ → Option ℕ
+long_number_in word = if is_short_numeral word then Some (digits_value 10 word) else None

@@ -2,7 +2,7 @@
 
 ghost use Rattle.std.specs.Prelude.{◌≡◌, ◌+◌, ◌*◌, ◌/◌, ◌%◌, ◌^◌, ◌<◌, ◌≤◌, [], ◌∷◌, ◌++◌, codes, flat_map, OnOk};
 ghost use Rattle.std.specs.Fmt.{decimal};
-ghost use Rattle.pdb_text.specs.Digits.{hex, four_digits};
+ghost use Rattle.pdb_text.specs.Digits.{hex, hex_length, short_hex, four_digits};
 
 use std::alloc::AllocError;
 
@@ -97,6 +97,32 @@ pub fn put_hex8(out: &mut Vec<u8>, n: u32) -> Result<(), AllocError>
     ensures { OnOk result (out.new.items ≡ out.old.items ++ hex 8 n) }
 {
     out.extend_from_slice(&hex8(n))
+}
+
+/// How many hex digits a number has.
+fn hex_length(n: u32) -> usize
+    ensures length { result ≡ hex_length n }
+    ensures most { result ≤ 8 }
+{
+    match n {
+        0..=0xf => 1,
+        0x10..=0xff => 2,
+        0x100..=0xfff => 3,
+        0x1000..=0xffff => 4,
+        0x1_0000..=0xf_ffff => 5,
+        0x10_0000..=0xff_ffff => 6,
+        0x100_0000..=0xfff_ffff => 7,
+        _ => 8,
+    }
+}
+
+/// The number in lower hex digits, without zeros in front.
+#[tactic(auto, using(crate::proofs::Pairs::last_digits))]
+pub fn put_short_hex(out: &mut Vec<u8>, n: u32) -> Result<(), AllocError>
+    ensures { OnOk result (out.new.items ≡ out.old.items ++ short_hex n) }
+{
+    let digits = hex8(n);
+    out.extend_from_slice(&digits[8 - hex_length(n)..])
 }
 
 /// The two decimal digits of a number below 100.

@@ -9,9 +9,9 @@ mod words;
 
 pub use digits::{
     decimal2, hex4, hex8, hex8_field, put_decimal, put_field, put_hex_bytes, put_hex2, put_hex4,
-    put_hex8, put_line_end,
+    put_hex8, put_line_end, put_short_hex,
 };
-pub use numbers::number_in;
+pub use numbers::{long_number_in, number_in};
 pub use one_line::put_one_line;
 pub use output::{WriteFailed, write_out};
 pub use words::words_of;

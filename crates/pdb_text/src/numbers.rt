@@ -3,7 +3,7 @@
 ghost use Rattle.std.specs.Prelude.{◌≡◌};
 ghost use Rattle.std.specs.Char.{is_ascii_digit};
 ghost use Rattle.std.specs.List.{list_all};
-ghost use Rattle.pdb_text.specs.Numbers.{is_short_numeral, number_in};
+ghost use Rattle.pdb_text.specs.Numbers.{is_short_numeral, long_number_in, number_in};
 
 /// Whether all bytes of a word are digits.
 fn is_all_digits(word: &str) -> bool
@@ -26,6 +26,18 @@ pub fn number_in(word: &str) -> Option<u32>
 {
     if is_short_numeral(word) {
         word.parse::<u32>().ok()
+    } else {
+        None
+    }
+}
+
+/// The number that a word is: one to ten digits, of at most 9999999999.
+#[tactic(auto, unfolding(crate::specs::Numbers::long_number_in))]
+pub fn long_number_in(word: &str) -> Option<u64>
+    ensures { result ≡ long_number_in word.now }
+{
+    if is_short_numeral(word) {
+        word.parse::<u64>().ok()
     } else {
         None
     }

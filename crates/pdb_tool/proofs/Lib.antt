@@ -11,3 +11,7 @@ pub mod Refused
 pub mod Registers
 pub mod WrittenSoFar
 pub mod FirstTexts
+pub mod Patterns
+pub mod SomeWord
+pub mod Colons
+pub mod SameSizes

@@ -1,14 +1,23 @@
 -- What a command writes of a file.
-use Rattle.std.specs.Prelude.{ℕ, List, flat_map}
+use Rattle.std.specs.Prelude.{ℕ, List, flat_map, map}
 use Rattle.pdb_tool.specs.Questions.{asks_text}
-use Rattle.pdb_tool.specs.ModuleTexts.{all_symbols_command, lines_command, scopes_command, symbols_command}
+use Rattle.pdb_tool.specs.ModuleTexts.{all_symbols_command, find_command, lines_command, scopes_command, sources_command, symbols_command, where_command}
+use Rattle.pdb_tool.specs.SourceViews.{source_view}
+use Rattle.pdb_tool.specs.ModuleLists.{modules_command}
+use Rattle.pdb_tool.specs.Operands.{word_of}
+use Rattle.pdb_tool.specs.SectionTexts.{sections_command}
 use Rattle.pdb_tool.specs.declared.file_texts.FileText.{FileText}
-use Rattle.pdb_tool.specs.declared.file_texts.FileText.TheVariants.{AllSymbols, Code, Lines, Scopes, Symbols}
+use Rattle.pdb_tool.specs.declared.file_texts.FileText.TheVariants.{AllSymbols, Code, Find, Lines, Modules, Scopes, Sections, Sources, Symbols, Where}
 
--- the code at addresses, one after another; lines, scopes or symbols of modules
+-- the code at addresses, one after another; lines, scopes, symbols or files of modules; what has a name; lists
 abbrev pub file_text : List ℕ → FileText → List ℕ
 file_text file (Code questions) = flat_map (asks_text file) questions.now
 file_text file (Lines ks) = lines_command file ks.now
 file_text file (Scopes ks) = scopes_command file ks.now
 file_text file (Symbols ks) = symbols_command file ks.now
 file_text file AllSymbols = all_symbols_command file
+file_text file (Sources ks) = sources_command file ks.now
+file_text file (Find words) = find_command file (map word_of words.now)
+file_text file (Where asked) = where_command file (map source_view asked.now)
+file_text file Modules = modules_command file
+file_text file Sections = sections_command file

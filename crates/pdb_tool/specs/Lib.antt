@@ -16,6 +16,16 @@ pub mod Flags
 pub mod ValueTexts
 pub mod FieldTexts
 pub mod SymbolTexts
+pub mod SectionTexts
+pub mod SourceTexts
+pub mod ModuleSizes
+pub mod ModuleLists
+pub mod Wildcards
+pub mod FindTexts
+pub mod Finders
+pub mod SourcesAsked
+pub mod SourceViews
+pub mod WhereTexts
 pub mod ModuleTexts
 pub mod Checks
 pub mod CheckTexts

@@ -14,6 +14,10 @@ use Rattle.pdb_tool.specs.Values.{behind_blank}
 use Rattle.pdb_tool.specs.LineTexts.{lines_text}
 use Rattle.pdb_tool.specs.ScopeTexts.{scopes_text}
 use Rattle.pdb_tool.specs.SymbolTexts.{global_symbols_text, symbols_text}
+use Rattle.pdb_tool.specs.SourceTexts.{sources_text}
+use Rattle.pdb_tool.specs.FindTexts.{Finding, find_text, finding_in, globals_found}
+use Rattle.pdb_tool.specs.SourcesAsked.{SourceOf}
+use Rattle.pdb_tool.specs.WhereTexts.{asking_in, where_text}
 
 -- the text of a module; another where none is there
 abbrev pub there_text : (ModuleBytes → List ℕ) → List ℕ → Option ModuleBytes → List ℕ
@@ -74,6 +78,10 @@ whole_text text file left = list_text (tell_several left.items) text file 0 left
 unfoldable pub all_text : (ModuleBytes → List ℕ) → List ℕ → List ℕ
 all_text text file = told (debug_information_in file >>= modules_in) (whole_text text file)
 
+-- the same without lines that name modules
+unfoldable pub plain_text : (ModuleBytes → List ℕ) → List ℕ → List ℕ
+plain_text text file = told (debug_information_in file >>= modules_in) (list_text false text file 0)
+
 -- more than one number
 abbrev pub are_several : List ℕ → Bool
 are_several ks = nat_lt 1 (length ks)
@@ -105,3 +113,18 @@ symbols_command file (k ∷ ks) = places_text symbols_text file (k ∷ ks)
 -- `symbols --all`: those of all modules
 abbrev pub all_symbols_command : List ℕ → List ℕ
 all_symbols_command file = all_text symbols_text file
+
+-- `sources`: files have their names from the string table
+abbrev pub sources_command : List ℕ → List ℕ → List ℕ
+sources_command file ks = modules_text (sources_text (if_read (string_table_in file))) file ks
+
+-- `find`: those of the global symbols, and then those of all modules
+abbrev pub found_by : List ℕ → Finding → List ℕ
+found_by file f = globals_found file f ++ plain_text (find_text f) file
+
+abbrev pub find_command : List ℕ → List (List ℕ) → List ℕ
+find_command file words = found_by file (finding_in file words)
+
+-- `where`: those of all modules
+abbrev pub where_command : List ℕ → List SourceOf → List ℕ
+where_command file asked = plain_text (where_text (asking_in file asked)) file

@@ -4,11 +4,21 @@ use Rattle.std.specs.Str.{bytes_eq}
 use Rattle.pdb_tool.specs.Options.{options_of, nothing_given}
 use Rattle.pdb_tool.specs.declared.options.Options.{Options}
 use Rattle.pdb_tool.specs.declared.words.Topic.{Topic}
-use Rattle.pdb_tool.specs.declared.words.Topic.TheVariants.{Resolve, Lines, Scopes, Symbols, Key, Check}
+use Rattle.pdb_tool.specs.declared.words.Topic.TheVariants.{Resolve, Lines, Scopes, Symbols, Key, Check, Find, Where, Sources, Modules, Sections}
 use Rattle.pdb_tool.specs.declared.words.Request.{Request}
 use Rattle.pdb_tool.specs.declared.words.Request.TheVariants.{Help, ListHelp, Version, Run}
 use Rattle.pdb_tool.specs.declared.words.WordsError.{WordsError}
 use Rattle.pdb_tool.specs.declared.words.WordsError.TheVariants.{BadWord, OutOfMemory}
+
+-- the command of a word, among those that look things up or list them
+abbrev pub lookup_in : List ℕ → Option Topic
+lookup_in word =
+    if bytes_eq word (codes "find") then Some Find
+    else if bytes_eq word (codes "where") then Some Where
+    else if bytes_eq word (codes "sources") then Some Sources
+    else if bytes_eq word (codes "modules") then Some Modules
+    else if bytes_eq word (codes "sections") then Some Sections
+    else None
 
 -- the command of a word
 abbrev pub topic_in : List ℕ → Option Topic
@@ -19,7 +29,7 @@ topic_in word =
     else if bytes_eq word (codes "symbols") then Some Symbols
     else if bytes_eq word (codes "key") then Some Key
     else if bytes_eq word (codes "check") then Some Check
-    else None
+    else lookup_in word
 
 abbrev pub is_help : List ℕ → Bool
 is_help word = bytes_eq word (codes "-h") || bytes_eq word (codes "--help")

@@ -94,7 +94,7 @@ impl ModuleText for Symbols {
 }
 
 /// Writes the texts of the modules of these numbers; of all where there is no number.
-fn write_modules<'s, S: Source<'s>, T: ModuleText, W: Write>(
+pub fn write_modules<'s, S: Source<'s>, T: ModuleText, W: Write>(
     alloc: Global,
     pdb: &mut PDB<'s, S>,
     texts: &T,
@@ -114,7 +114,9 @@ fn write_modules<'s, S: Source<'s>, T: ModuleText, W: Write>(
 
 // piece: strings_of
 /// The string table; none where it is refused.
-fn strings_of<'s, S: Source<'s>>(pdb: &mut PDB<'s, S>) -> Result<Option<StringTable<'s>>, Stop>
+pub fn strings_of<'s, S: Source<'s>>(
+    pdb: &mut PDB<'s, S>,
+) -> Result<Option<StringTable<'s>>, Stop>
     ensures continues { Continues pdb.old pdb.new }
     ensures is { IfOk result (λ o. o ≡ if_read (string_table_in pdb.old.file)) }
     ensures unwritten { IfErr result (λ e. (e ≡ Stop.Memory) ⊎ (e ≡ Stop.Read)) }
@@ -129,7 +131,9 @@ fn strings_of<'s, S: Source<'s>>(pdb: &mut PDB<'s, S>) -> Result<Option<StringTa
 // end
 
 /// The stream of ids; none where it is refused.
-fn ids_stream<'s, S: Source<'s>>(pdb: &mut PDB<'s, S>) -> Result<Option<IdInformation<'s>>, Stop>
+pub fn ids_stream<'s, S: Source<'s>>(
+    pdb: &mut PDB<'s, S>,
+) -> Result<Option<IdInformation<'s>>, Stop>
     ensures continues { Continues pdb.old pdb.new }
     ensures is { IfOk result (λ o. o ≡ if_read (stream_of pdb.old.file 4 None)) }
     ensures unwritten { IfErr result (λ e. (e ≡ Stop.Memory) ⊎ (e ≡ Stop.Read)) }
@@ -143,7 +147,7 @@ fn ids_stream<'s, S: Source<'s>>(pdb: &mut PDB<'s, S>) -> Result<Option<IdInform
 }
 
 /// The stream of types; none where it is refused.
-fn types_stream<'s, S: Source<'s>>(
+pub fn types_stream<'s, S: Source<'s>>(
     pdb: &mut PDB<'s, S>,
 ) -> Result<Option<TypeInformation<'s>>, Stop>
     ensures continues { Continues pdb.old pdb.new }

@@ -9,8 +9,13 @@ ghost use Rattle.pdb_tool.specs.FileTexts.{file_text};
 ghost use Rattle.pdb_tool.specs.declared.stop.Stop.{Stop};
 
 use crate::commands::{write_all_symbols, write_lines, write_scopes, write_symbols};
+use crate::lookups::{write_find, write_sources, write_where};
+use crate::module_lists::write_modules;
+use crate::operands::Operand;
 use crate::question::Question;
 use crate::resolve::resolve_words;
+use crate::section_texts::write_sections;
+use crate::sources_asked::SourceAsked;
 use crate::stop::Stop;
 use pdb::Source;
 use std::alloc::Global;
@@ -30,6 +35,16 @@ pub enum FileText<'a> {
     Symbols(&'a [u32]),
     /// The symbols of all modules.
     AllSymbols,
+    /// The source files of the modules of these numbers.
+    Sources(&'a [u32]),
+    /// The functions and data whose names match one of these words.
+    Find(&'a [Operand<'a>]),
+    /// Which addresses these lines of source files have.
+    Where(&'a [SourceAsked<'a>]),
+    /// The list of modules.
+    Modules,
+    /// The section headers.
+    Sections,
 }
 
 /// Writes what a command writes of a source's file.
@@ -51,5 +66,10 @@ pub fn write_text<'s, S: Source<'s>, W: Write>(
         FileText::Scopes(places) => write_scopes(alloc, source, places, out),
         FileText::Symbols(places) => write_symbols(alloc, source, places, out),
         FileText::AllSymbols => write_all_symbols(alloc, source, out),
+        FileText::Sources(places) => write_sources(alloc, source, places, out),
+        FileText::Find(words) => write_find(alloc, source, words, out),
+        FileText::Where(asked) => write_where(alloc, source, asked, out),
+        FileText::Modules => write_modules(alloc, source, out),
+        FileText::Sections => write_sections(alloc, source, out),
     }
 }

@@ -1,4 +1,4 @@
-//! What the program tells of itself.
+//! What the program says of itself.
 
 use crate::words::Topic;
 
@@ -6,50 +6,57 @@ use crate::words::Topic;
 pub const VERSION: &str = "pdb_tool 0.1.0\n";
 
 const OVERVIEW: &str = "\
-pdb_tool tells what symbol files (PDB) say of a program.
+pdb_tool prints what Microsoft symbol files (PDB) say about a program.
 
-  pdb_tool resolve [--base=HEX] FILE [ADDRESS..]  the functions, files and lines at addresses
-  pdb_tool lines FILE [K..]                       the line records of modules
-  pdb_tool scopes FILE [K..]                      functions, blocks, variables and inlined calls
-  pdb_tool symbols [--all] FILE [K..]             all symbols, field by field
-  pdb_tool key FILE..                             the keys under which symbol servers have files
-  pdb_tool check FILE..                           what is wrong with files
+  pdb_tool resolve [--base=HEX] FILE [ADDRESS..]  functions, files and lines at addresses
+  pdb_tool find FILE NAME..                       addresses of functions and data
+  pdb_tool where FILE SOURCE[:LINE[-LINE]]..      addresses of source lines
+  pdb_tool lines FILE [K..]                       line records of modules
+  pdb_tool scopes FILE [K..]                      functions, blocks, variables, inlined calls
+  pdb_tool symbols [--all] FILE [K..]             symbol records with all their fields
+  pdb_tool sources FILE [K..]                     source files of modules
+  pdb_tool modules FILE                           modules (object files), with their sizes
+  pdb_tool sections FILE                          section headers of the image
+  pdb_tool key FILE..                             symbol-server keys of PDB files and images
+  pdb_tool check FILE..                           damage
 
-  pdb_tool help COMMAND                           a command's words, its lines and an example
-  pdb_tool help list                              the commands of pdb_list, and all errors
-  pdb_tool --version                              the program's version
+  pdb_tool help COMMAND                           arguments, output and an example of a command
+  pdb_tool help list                              commands of pdb_list, and all errors
+  pdb_tool --version                              the version
 
-Exit status: 0, all was told; 1, a file of several was not, or something is wrong with it;
-2, a bad word; 3, a file can't be read; 4, it is no symbol file; 5, out of memory; 6, standard
-output failed; 7, the file isn't the wanted one.
+K is the index of a module, counted from 0: modules lists them.
+
+Exit status: 0, success; 1, a file of several could not be read, a file is damaged, or nothing
+was found; 2, a wrong argument; 3, a file can't be read; 4, it is no symbol file; 5, out of memory;
+6, standard output failed; 7, the file has another key than the wanted one.
 ";
 
 const RESOLVE: &str = "\
 pdb_tool resolve [--base=HEX] [--key=KEY | --image=IMAGE] [--addresses] FILE [ADDRESS..]
 
-Tells what code stands at each ADDRESS, from the innermost function outwards: those that were
-inlined there, and then the function itself. Of each it tells the name on a line, and
-FILE:LINE:COLUMN on the next; an empty line ends an address. What the file doesn't tell is ??,
-or 0. Where no function is, the public symbol before the address is named, if it is of the same
-object file and no function that begins there has ended.
+Prints the code at each ADDRESS, innermost function first: the inlined functions, and then the
+function that contains them. Each function is its name on one line, and FILE:LINE:COLUMN on the
+next. An empty line ends each address. An unknown name is ??, an unknown line or column 0. Where
+no function is known, the name is that of the public symbol before the address, if that belongs to
+the same object file and no function that begins at it has ended.
 
-  ADDRESS     HEX, 0xHEX, HEXh, or HEX with a ` before its last eight digits, of 1 to 16
-              digits: an address relative to the image's base
-              S:HEX: the section S, in hex, and an offset in it
-  --base=HEX  is taken off from each address that is no section and offset: where the image
-              was loaded. An address below it, or 2^32 or more above it, is of no function
-  --key=KEY   the key that FILE has to have, as key tells it, of 33 to 40 hex digits
+  ADDRESS     an address relative to the image's load address, of 1 to 16 hex digits: HEX, 0xHEX,
+              HEXh, or HEX with a ` before its last eight digits;
+              or S:HEX, the number of a section in hex, and an offset in it
+  --base=HEX  the load address, which is subtracted from each ADDRESS but S:HEX. An address below
+              it, or 2^32 or more above it, has no function
+  --key=KEY   the key that FILE has to have, of 33 to 40 hex digits, as key prints it
   --image=IMAGE
-              an EXE or DLL: FILE has to have the key of the PDB that it names, and its
-              load address is the base where --base isn't given
-  --addresses writes each ADDRESS on a line before its text
+              an EXE or DLL. FILE has to have the key of the PDB that it names. Its load address
+              is the base where --base isn't given
+  --addresses prints each ADDRESS on a line before its text
 
-Options may stand before FILE or behind it, each of the first three once; --key and --image don't
-stand together. --base HEX is --base=HEX. If FILE has another key than the wanted one, nothing is
-told of it, and the status is 7.
+Options stand before FILE or behind it. --base, --key and --image are given at most once, and not
+both --key and --image. --base HEX is --base=HEX. If FILE has another key than the wanted one,
+nothing is printed, and the status is 7.
 
-Without an ADDRESS each line of standard input is one, and is answered before the next is
-read. A line that is no address is answered by itself.
+Without an ADDRESS each line of standard input is one. Its text is written before the next line is
+read. A line that is no address is printed as it is.
 
   $ pdb_tool resolve --base=0x140000000 app.pdb 0x140001108
   inner
@@ -61,14 +68,48 @@ read. A line that is no address is answered by itself.
   $ pdb_tool resolve --key=00112233445566778899AABBCCDDEEFF2 app.pdb 1108
 ";
 
+const FIND: &str = "\
+pdb_tool find FILE NAME..
+
+Prints where the functions, inlined functions, data and labels are whose name is one of the NAMEs.
+In a NAME a * stands for any bytes, also none; case counts. Each line has a kind, SECTION:OFFSET in
+hex, the address relative to the load address, the size in bytes, and the name. - is a size or an
+address that is not known. A public symbol has its readable name, and behind it in parentheses the
+decorated one; a NAME may match either. An inlined function stands where it was inlined.
+
+Global symbols come first, and then those of each module. A damaged module is a line
+`error N TEXT`, and the next module follows. The status is 1 if nothing was found.
+
+  $ pdb_tool find app.pdb 'ma*'
+  public 0001:00000100 0x1100 - main
+  procedure 0001:00000100 0x1100 48 main
+";
+
+const WHERE: &str = "\
+pdb_tool where FILE SOURCE[:LINE[-LINE]]..
+
+Prints the addresses of source lines. SOURCE is the name of a source file, or the end of its path:
+tour.h, src/main.cpp. / is the same as \\, and case doesn't count. Behind it :LINE is one line, and
+:LINE-LINE a range; without them all lines are printed. There is no search for the nearest line:
+give a range.
+
+Each output line is `line` or, for a line of an inlined call, `inlined`; then SECTION:OFFSET in hex,
+the address relative to the load address, the size in bytes, FILE:LINE:COLUMN, and the name of the
+function. Damage is printed as by find. The status is 1 if nothing was found.
+
+  $ pdb_tool where app.pdb a.c:1-2
+  line 0001:00000100 0x1100 8 a.c:1:0 main
+  line 0001:00000108 0x1108 8 a.c:2:0 main
+";
+
 const LINES: &str = "\
 pdb_tool lines FILE [K..]
 
-Tells the line records of the modules of these numbers, counted from 0, or else of all modules:
-SECTION:OFFSET in hex, how many bytes the record has, and FILE:LINE:COLUMN. What isn't there is
--, ?? or 0. Where several modules are told, a line `module K NAME` stands before each. Where a
-module's records are damaged a line `error N TEXT` says so, and the next module follows; none
-stands for a module that isn't there or has no stream.
+Prints the line records of the modules with these indices, counted from 0, or else of all modules:
+SECTION:OFFSET in hex, the size in bytes, and FILE:LINE:COLUMN. An unknown size is -, an unknown
+file ??, an unknown column 0. Before each of several modules stands a line `module K NAME`. A
+damaged module has a line `error N TEXT`, and the next module follows. `none` is printed for a
+module that is not present or has no stream.
 
   $ pdb_tool lines app.pdb
   0001:00000100 8 a.c:1:0
@@ -78,11 +119,10 @@ stands for a module that isn't there or has no stream.
 const SCOPES: &str = "\
 pdb_tool scopes FILE [K..]
 
-Tells what the modules of these numbers, counted from 0, or else all modules have in their
-scopes: procedures, thunks, blocks and separated code with SECTION:OFFSET in hex and how many
-bytes they have, data and labels with their places, variables, and inlined functions, each
-behind two blanks for each scope around it, and no more than 64. Damage is told as in lines, and
-so are several modules.
+Prints the scopes of the modules with these indices, counted from 0, or else of all modules:
+procedures, thunks, blocks and separated code with SECTION:OFFSET in hex and their size in bytes,
+data and labels with SECTION:OFFSET, variables, and inlined functions. Each scope is indented by
+two blanks, up to 64. Several modules and damage are printed as by lines.
 
   $ pdb_tool scopes app.pdb
   procedure 0001:00000100 48 main
@@ -92,24 +132,58 @@ so are several modules.
 const SYMBOLS: &str = "\
 pdb_tool symbols [--all] FILE [K..]
 
-Tells all symbols of the modules of these numbers, counted from 0, of all modules with --all,
-or else the global symbols: each behind two blanks for each scope around it, its index in hex, its kind as cvinfo.h names
-it, its fields and its name. A record of a kind that isn't read is told by its bytes, a damaged
-one as `error N` with its bytes. Several modules are told as in lines.
+Prints the symbol records of the modules with these indices, counted from 0, with --all those of
+all modules, or else the global symbols. Each record is indented by its scopes, as by scopes: its
+index in hex, its kind as cvinfo.h names it, its fields, and its name. A record of a kind that
+isn't read is printed as its bytes, a damaged one as `error N` and its bytes. Several modules are
+printed as by lines.
 
   $ pdb_tool symbols app.pdb
   00000000 S_PUB32 code=false function=true managed=false msil=false offset=0001:00000100 main
   00000014 S_UDT type_index=00000670 va_list
 ";
 
+const SOURCES: &str = "\
+pdb_tool sources FILE [K..]
+
+Prints the source files of the modules with these indices, counted from 0, or else of all modules:
+the kind of the checksum of the file's contents (none, md5, sha1, sha256), the checksum in hex or
+-, and the name. Several modules and damage are printed as by lines.
+
+  $ pdb_tool sources app.pdb
+  md5 000102030405060708090a0b0c0d0e0f a.c
+";
+
+const MODULES: &str = "\
+pdb_tool modules FILE
+
+Prints the modules (object files) of which the image was linked: the index K, the number of bytes
+that came from the module, its name, and in brackets the library or the path that the linker read
+it from, if that is another one.
+
+  $ pdb_tool modules app.pdb
+  0 48 a.obj
+";
+
+const SECTIONS: &str = "\
+pdb_tool sections FILE
+
+Prints the section headers of the image: the number in hex, counted from 1, the address relative to
+the load address, the size in memory, the characteristics in hex, and the name. `none` is printed if
+the file has none.
+
+  $ pdb_tool sections app.pdb
+  0001 0x1000 4096 60000020 .text
+";
+
 const KEY: &str = "\
 pdb_tool key FILE..
 
-Tells under which key a symbol server has each FILE: its GUID in 32 hex digits and its age in
-hex digits, a space, and FILE. An image (EXE or DLL) has another key: its time stamp in eight hex
-digits and its size in hex digits; behind FILE the key and the path of the PDB that it names
-follow, or - - where it names none. A FILE that can't be read or opened is told on standard
-error; the status is then 1.
+Prints the key under which a symbol server stores each FILE: of a PDB its GUID in 32 hex digits and
+its age in hex digits, a blank, and FILE. An image (EXE or DLL) has another key: its time stamp in
+eight hex digits and its size in hex digits. Behind FILE follow the key and the path of the PDB that
+it names, or - - if it names none. An error of a FILE is printed on standard error, and the status
+is then 1.
 
   $ pdb_tool key app.pdb app.exe
   00112233445566778899AABBCCDDEEFF2 app.pdb
@@ -119,13 +193,12 @@ error; the status is then 1.
 const CHECK: &str = "\
 pdb_tool check FILE..
 
-Reads all of each FILE, and tells what is wrong with it: FILE, where, and what, one line for each
-list that is damaged or can't be read, for each symbol that can't be read, and for each inlined
-call whose annotations are damaged. A file in which nothing is wrong is ok. What a file doesn't
-have is not wrong, nor is a kind of symbol that isn't known. Not read are the names of files and
-the streams that only other programs know. K counts modules from 0, and the
-numbers of symbols are those that symbols tells. A FILE that can't be read or opened is told on
-standard error. The status is 1 where anything was wrong.
+Reads each FILE to its end and prints what is damaged: FILE, the part, and the error, one line for
+each list, symbol or inlined call that can't be read. A file without damage is `ok`. What a file
+doesn't have is no damage, nor is a kind of symbol that isn't known. The names of files and the
+streams that only other programs know are not read. K counts modules from 0, and symbols have the
+indices that symbols prints. An error of a FILE is printed on standard error. The status is 1 if
+anything is damaged.
 
   $ pdb_tool check app.pdb damaged.pdb
   app.pdb: ok
@@ -135,6 +208,16 @@ standard error. The status is 1 where anything was wrong.
 
 const RESOLVE_USAGE: &str =
     "usage: pdb_tool resolve [--base=HEX] [--key=KEY | --image=IMAGE] [--addresses] FILE [ADDRESS..]\n";
+
+const FIND_USAGE: &str = "usage: pdb_tool find FILE NAME..\n";
+
+const WHERE_USAGE: &str = "usage: pdb_tool where FILE SOURCE[:LINE[-LINE]]..\n";
+
+const SOURCES_USAGE: &str = "usage: pdb_tool sources FILE [K..]\n";
+
+const MODULES_USAGE: &str = "usage: pdb_tool modules FILE\n";
+
+const SECTIONS_USAGE: &str = "usage: pdb_tool sections FILE\n";
 
 const LINES_USAGE: &str = "usage: pdb_tool lines FILE [K..]\n";
 
@@ -147,7 +230,7 @@ const KEY_USAGE: &str = "usage: pdb_tool key FILE..\n";
 const CHECK_USAGE: &str = "usage: pdb_tool check FILE..\n";
 
 const USAGE: &str =
-    "usage: pdb_tool COMMAND [OPTION..] FILE [WORD..], and pdb_tool help tells more\n";
+    "usage: pdb_tool COMMAND [OPTION..] FILE [ARGUMENT..]; pdb_tool help prints more\n";
 
 /// The text of help: of all, or of a command.
 pub fn help_of(topic: Option<Topic>) -> &'static str {
@@ -159,6 +242,11 @@ pub fn help_of(topic: Option<Topic>) -> &'static str {
         Some(Topic::Symbols) => SYMBOLS,
         Some(Topic::Key) => KEY,
         Some(Topic::Check) => CHECK,
+        Some(Topic::Find) => FIND,
+        Some(Topic::Where) => WHERE,
+        Some(Topic::Sources) => SOURCES,
+        Some(Topic::Modules) => MODULES,
+        Some(Topic::Sections) => SECTIONS,
     }
 }
 
@@ -172,5 +260,10 @@ pub fn usage_of(topic: Option<Topic>) -> &'static str {
         Some(Topic::Symbols) => SYMBOLS_USAGE,
         Some(Topic::Key) => KEY_USAGE,
         Some(Topic::Check) => CHECK_USAGE,
+        Some(Topic::Find) => FIND_USAGE,
+        Some(Topic::Where) => WHERE_USAGE,
+        Some(Topic::Sources) => SOURCES_USAGE,
+        Some(Topic::Modules) => MODULES_USAGE,
+        Some(Topic::Sections) => SECTIONS_USAGE,
     }
 }

@@ -4,6 +4,7 @@
 ghost use Rattle.std.specs.Prelude.{◌+◌, ◌<◌, ◌^◌, length};
 
 mod asked;
+mod asking;
 mod check_file;
 mod check_front;
 mod check_module;
@@ -16,6 +17,8 @@ mod fields_code;
 mod fields_data;
 mod fields_references;
 mod file_texts;
+mod find_texts;
+mod finder;
 mod findings;
 mod flags;
 mod help;
@@ -25,6 +28,9 @@ mod key_line;
 mod kind_names;
 mod line_texts;
 mod list_help;
+mod lookups;
+mod module_lists;
+mod module_sizes;
 mod module_texts;
 mod opening;
 mod operands;
@@ -34,12 +40,17 @@ mod question;
 mod report;
 mod resolve;
 mod scope_texts;
+mod section_texts;
+mod source_texts;
+mod sources_asked;
 mod stop;
 mod symbol_texts;
 mod text_asked;
 mod values;
 mod values_forms;
 mod wanted;
+mod where_texts;
+mod wildcards;
 mod words;
 
 use checks::write_check;
@@ -47,9 +58,9 @@ use file_texts::FileText;
 use help::{VERSION, help_of};
 use key_line::{key_line, line_in_parts};
 use list_help::LIST;
-use operands::{Operand, all_numbers, all_questions, operands_in};
+use operands::{Operand, all_numbers, all_questions, all_sources, first_empty, operands_in};
 use options::{Options, Wanted};
-use output::Output;
+use output::{Noticed, Output};
 use pdb_file::{read_all, size_of};
 use pdb_text::{words_of, write_out};
 use report::{Fault, file_in_word, report, status_of, write_notice, write_other_key, write_stop};
@@ -250,11 +261,72 @@ fn tell_modules<W: Write, E: Write>(
     let text = match (topic, rest.first()) {
         (Topic::Lines, _) => FileText::Lines(&places),
         (Topic::Scopes, _) => FileText::Scopes(&places),
+        (Topic::Sources, _) => FileText::Sources(&places),
         (_, Some(number)) if options.all => return Err(Fault::BadWord(number.place)),
         (_, None) if options.all => FileText::AllSymbols,
         _ => FileText::Symbols(&places),
     };
     tell_text(rt, name, None, text, streams)
+}
+
+/// Tells a list of a file. Nothing stands behind the file's name.
+fn tell_list<W: Write, E: Write>(
+    rt: &(impl Files<File = File> + AllocGlobal),
+    text: FileText<'_>,
+    name: &Operand<'_>,
+    rest: &[Operand<'_>],
+    streams: &mut Streams<'_, W, E>,
+) -> Told {
+    match rest.first() {
+        Some(word) => Err(Fault::BadWord(word.place)),
+        None => tell_text(rt, name, None, text, streams),
+    }
+}
+
+/// Tells a text that may be empty. The result is whether it isn't.
+fn tell_some<W: Write, E: Write>(
+    rt: &(impl Files<File = File> + AllocGlobal),
+    name: &Operand<'_>,
+    text: FileText<'_>,
+    streams: &mut Streams<'_, W, E>,
+) -> Told {
+    let file = file_named(rt, name)?;
+    let mut out = Noticed::new(streams.out);
+    let written = write_text_of(rt.alloc(), file, None, text, &mut out);
+    let has_written = out.has_written();
+    Ok(told_or_other(written, name, None, streams.err)? && has_written)
+}
+
+/// Tells where the functions and data stand whose names match one of the words. The result is whether there are any.
+fn tell_found<W: Write, E: Write>(
+    rt: &(impl Files<File = File> + AllocGlobal),
+    count: usize,
+    name: &Operand<'_>,
+    rest: &[Operand<'_>],
+    streams: &mut Streams<'_, W, E>,
+) -> Told {
+    if rest.is_empty() {
+        return Err(Fault::BadWord(count));
+    }
+    match first_empty(rest) {
+        Some(place) => Err(Fault::BadWord(place)),
+        None => tell_some(rt, name, FileText::Find(rest), streams),
+    }
+}
+
+/// Tells which addresses the lines of source files have that the words ask for. The result is whether there are any.
+fn tell_where<W: Write, E: Write>(
+    rt: &(impl Files<File = File> + AllocGlobal),
+    count: usize,
+    name: &Operand<'_>,
+    rest: &[Operand<'_>],
+    streams: &mut Streams<'_, W, E>,
+) -> Told {
+    let asked = all_sources(rt.alloc(), rest).map_err(words_fault)?;
+    if asked.is_empty() {
+        return Err(Fault::BadWord(count));
+    }
+    tell_some(rt, name, FileText::Where(&asked), streams)
 }
 
 /// The line of the file of a name: its key, and of an image that of its PDB.
@@ -335,6 +407,10 @@ fn run_command<W: Write, E: Write>(
         Topic::Resolve => tell_code(rt, options, words, &operands, streams),
         Topic::Key => tell_keys(rt, &operands, streams),
         Topic::Check => tell_checks(rt, &operands, streams),
+        Topic::Find => tell_found(rt, words.len(), name, rest, streams),
+        Topic::Where => tell_where(rt, words.len(), name, rest, streams),
+        Topic::Modules => tell_list(rt, FileText::Modules, name, rest, streams),
+        Topic::Sections => tell_list(rt, FileText::Sections, name, rest, streams),
         _ => tell_modules(rt, topic, options, name, rest, streams),
     }
 }

@@ -10,7 +10,7 @@ ghost use Rattle.pdb.specs.Answers.{item_at, module_info_in};
 ghost use Rattle.pdb.specs.Source.{Continues};
 ghost use Rattle.pdb_text.specs.Written.{WroteFirst, WroteFront};
 ghost use Rattle.pdb_tool.specs.ErrorLine.{error_line, told};
-ghost use Rattle.pdb_tool.specs.ModuleTexts.{all_text, are_several, entry_text, has_stream, line_if, list_text, listed_text, module_line, place_text, places_text, several_in, there_text};
+ghost use Rattle.pdb_tool.specs.ModuleTexts.{all_text, are_several, entry_text, has_stream, line_if, list_text, listed_text, module_line, place_text, places_text, plain_text, several_in, there_text};
 ghost use Rattle.pdb_tool.specs.declared.stop.Stop.{Stop};
 
 use crate::error_line::put_error_line;
@@ -37,7 +37,7 @@ pub trait ModuleText {
 }
 
 /// The line of a refusal; want of memory, and a source that failed, are passed on.
-fn put_refused(out: &mut Vec<u8>, e: Error) -> Result<(), Stop>
+pub fn put_refused(out: &mut Vec<u8>, e: Error) -> Result<(), Stop>
     ensures text { OnOk result ((e ≢ Error.OutOfMemory) × (e ≢ Error.IoError) × (out.new.items ≡ out.old.items ++ error_line e)) }
     ensures unwritten { IfErr result (λ e. (e ≡ Stop.Memory) ⊎ (e ≡ Stop.Read)) }
 {
@@ -331,6 +331,28 @@ pub fn write_all<'s, S: Source<'s>, T: ModuleText, W: Write>(
     let several = tells_several(&information);
     match information.modules() {
         Ok(modules) => write_left(alloc, pdb, texts, several, modules, out),
+        Err(e) => write_refused(alloc, e, out),
+    }
+}
+
+/// Writes the texts of all modules of the list without lines that name them, and then the line of its fault.
+#[tactic(auto, unfolding(crate::specs::ModuleTexts::plain_text))]
+pub fn write_plain<'s, S: Source<'s>, T: ModuleText, W: Write>(
+    alloc: Global,
+    pdb: &mut PDB<'s, S>,
+    texts: &T,
+    out: &mut W,
+) -> Result<(), Stop>
+    ensures opened { (e : Error) → IsErrOf result (Stop.Open e) → ⊥ }
+    ensures ok { OnOk result (Appends (W.contents out.old) (W.contents out.new) (plain_text (T.text texts.now) pdb.old.file)) }
+    ensures front { OnErr result (WroteFront (W.contents out.old) (W.contents out.new) (plain_text (T.text texts.now) pdb.old.file)) }
+{
+    let information = match pdb.debug_information() {
+        Ok(information) => information,
+        Err(e) => return write_refused(alloc, e, out),
+    };
+    match information.modules() {
+        Ok(modules) => write_left(alloc, pdb, texts, false, modules, out),
         Err(e) => write_refused(alloc, e, out),
     }
 }

@@ -2,12 +2,15 @@
 
 ghost use Rattle.std.specs.Prelude.{◌≡◌, ◌+◌, ◌<◌, ◌^◌, false, map, string_bytes, length, IfOk};
 ghost use Rattle.pdb_text.specs.Numbers.{number_in};
-ghost use Rattle.pdb_tool.specs.Operands.{all_in, operand_view, operands_of};
+ghost use Rattle.pdb_tool.specs.Operands.{all_in, first_empty, operand_view, operands_of};
+ghost use Rattle.pdb_tool.specs.SourcesAsked.{source_of};
+ghost use Rattle.pdb_tool.specs.SourceViews.{source_view};
 ghost use Rattle.pdb_tool.specs.Questions.{question_of, question_view};
 ghost use Rattle.pdb_tool.specs.Words.{Tells};
 
 use crate::options::{Options, is_base, is_option};
 use crate::question::{Question, question_of};
+use crate::sources_asked::{SourceAsked, source_of};
 use crate::words::WordsError;
 use pdb_text::number_in;
 use std::alloc::{AllocError, Global};
@@ -80,4 +83,34 @@ pub fn all_numbers(alloc: Global, words: &[Operand<'_>]) -> Result<Vec<u32>, Wor
         }
     }
     Ok(all)
+}
+
+/// What lines of source files the words ask for.
+#[tactic(auto, using(crate::proofs::AllWords::all_there, crate::proofs::AllWords::begins, crate::proofs::AllWords::none_there, crate::proofs::AllWords::one_more))]
+pub fn all_sources<'w>(
+    alloc: Global,
+    words: &[Operand<'w>],
+) -> Result<Vec<SourceAsked<'w>>, WordsError>
+    ensures { Tells (λ v. map source_view v.items) result (all_in source_of (map operand_view words.now)) }
+{
+    let mut all = Vec::new(alloc);
+    for operand in words {
+        match source_of(operand.word.as_bytes()) {
+            Some(source) => all.push(source)?,
+            None => return Err(WordsError::BadWord(operand.place)),
+        }
+    }
+    Ok(all)
+}
+
+/// The place of the first word that is empty.
+pub fn first_empty(words: &[Operand<'_>]) -> Option<usize>
+    ensures { result ≡ first_empty (map operand_view words.now) }
+{
+    for operand in words {
+        if operand.word.is_empty() {
+            return Some(operand.place);
+        }
+    }
+    None
 }

@@ -41,3 +41,39 @@ impl<W: Write + Drop> Write for Output<W> {
         self.inner.flush()
     }
 }
+
+/// A writer that remembers whether anything was written.
+#[derive(Drop)]
+pub struct Noticed<'a, W: Write> {
+    inner: &'a mut W,
+    has_written: bool,
+}
+
+impl<'a, W: Write> Noticed<'a, W> {
+    /// Output to a writer, of which nothing was written yet.
+    pub fn new(inner: &'a mut W) -> Self {
+        Noticed {
+            inner,
+            has_written: false,
+        }
+    }
+
+    /// Whether anything was written.
+    pub fn has_written(&self) -> bool {
+        self.has_written
+    }
+}
+
+impl<'a, W: Write> Write for Noticed<'a, W> {
+    ghost contents = { λ n. W.contents n.inner.now };
+
+    fn write(&mut self, bytes: &[u8]) -> io::Result<usize> {
+        let count = self.inner.write(bytes)?;
+        self.has_written = true;
+        Ok(count)
+    }
+
+    fn flush(&mut self) -> io::Result<()> {
+        self.inner.flush()
+    }
+}

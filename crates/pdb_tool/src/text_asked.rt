@@ -90,7 +90,9 @@ impl TextAsked<'_> {
         let text = self.text;
         match text {
             FileText::Code(_) => {}
-            FileText::Lines(_) => self.shared = is_missed(&pdb.string_table()),
+            FileText::Lines(_) | FileText::Sources(_) => {
+                self.shared = is_missed(&pdb.string_table());
+            }
             FileText::Scopes(_) => {
                 let ids = is_missed(&pdb.id_information());
                 self.shared = is_missed(&pdb.type_information()) || ids;
@@ -98,6 +100,18 @@ impl TextAsked<'_> {
             FileText::Symbols(places) => {
                 self.shared = places.is_empty() && is_missed(&pdb.global_symbols());
             }
+            FileText::Find(_) => {
+                let names = is_missed(&pdb.id_information()) | is_missed(&pdb.type_information());
+                let places = is_missed(&pdb.global_symbols()) | is_missed(&pdb.address_map());
+                self.shared = names | places;
+            }
+            FileText::Where(_) => {
+                let names = is_missed(&pdb.id_information()) | is_missed(&pdb.type_information());
+                let places = is_missed(&pdb.string_table()) | is_missed(&pdb.address_map());
+                self.shared = names | places;
+            }
+            FileText::Modules => self.shared = is_missed(&pdb.debug_information()),
+            FileText::Sections => self.shared = is_missed(&pdb.sections()),
             FileText::AllSymbols => self.shared = false,
         }
     }
@@ -121,9 +135,12 @@ impl TextAsked<'_> {
         let text = self.text;
         self.modules = match text {
             FileText::Code(_) => false,
-            FileText::Lines(places) | FileText::Scopes(places) => !ask_modules(pdb, places),
+            FileText::Lines(places) | FileText::Scopes(places) | FileText::Sources(places) => {
+                !ask_modules(pdb, places)
+            }
             FileText::Symbols(places) => !places.is_empty() && !ask_modules(pdb, places),
-            FileText::AllSymbols => !ask_all(pdb),
+            FileText::AllSymbols | FileText::Find(_) | FileText::Where(_) => !ask_all(pdb),
+            FileText::Modules | FileText::Sections => false,
         };
     }
 }

@@ -1,11 +1,11 @@
 //! Values, each put behind what is there already.
 
 ghost use Rattle.std.specs.Prelude.{◌≡◌, ◌++◌, codes, OnOk};
-ghost use Rattle.pdb_text.specs.Digits.{hex};
-ghost use Rattle.pdb_tool.specs.Values.{behind_blank, optional_text, place_text};
+ghost use Rattle.pdb_text.specs.Digits.{hex, short_hex};
+ghost use Rattle.pdb_tool.specs.Values.{address_text, behind_blank, optional_text, place_text};
 
 use pdb::PdbInternalSectionOffset;
-use pdb_text::{put_decimal, put_hex4, put_hex8, put_one_line};
+use pdb_text::{put_decimal, put_hex4, put_hex8, put_one_line, put_short_hex};
 use std::alloc::AllocError;
 
 /// A section, `:` and an offset in it, in hex digits.
@@ -24,6 +24,19 @@ pub fn put_optional(out: &mut Vec<u8>, number: Option<u32>) -> Result<(), AllocE
     match number {
         Some(number) => put_decimal(out, u64::from(number)),
         None => out.extend_from_slice(b"-"),
+    }
+}
+
+/// An address of the image: `0x` and hex digits, or `-` where there is none.
+pub fn put_address(out: &mut Vec<u8>, address: Option<u32>) -> Result<(), AllocError>
+    ensures { OnOk result (out.new.items ≡ out.old.items ++ address_text address) }
+{
+    match address {
+        Some(address) => {
+            out.extend_from_slice(b"0x")?;
+            put_short_hex(out, address)
+        }
+        None => Ok(out.push(b'-')?),
     }
 }
 

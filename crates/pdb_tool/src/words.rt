@@ -1,7 +1,7 @@
 //! What the program's words ask for.
 
 ghost use Rattle.std.specs.Prelude.{◌≡◌, ◌+◌, ◌<◌, ◌^◌, map, string_bytes, length};
-ghost use Rattle.pdb_tool.specs.Words.{Tells, alone, front_of, help_in, is_help, request_in, topic_in};
+ghost use Rattle.pdb_tool.specs.Words.{Tells, alone, front_of, help_in, is_help, lookup_in, request_in, topic_in};
 
 use crate::options::{Options, options_in};
 use std::alloc::{AllocError, AllocFailed};
@@ -21,6 +21,16 @@ pub enum Topic {
     Key,
     /// What is wrong with files.
     Check,
+    /// Where the functions and data stand that have a name.
+    Find,
+    /// Which addresses lines of source files have.
+    Where,
+    /// The source files of modules.
+    Sources,
+    /// The list of modules.
+    Modules,
+    /// The section headers of the image.
+    Sections,
 }
 
 /// What the words ask for.
@@ -66,6 +76,20 @@ impl<T: Drop> From<AllocFailed<T>> for WordsError {
     }
 }
 
+/// The command of a word, among those that look things up or list them.
+fn lookup_in(word: &str) -> Option<Topic>
+    ensures { result ≡ lookup_in word.now }
+{
+    match word {
+        "find" => Some(Topic::Find),
+        "where" => Some(Topic::Where),
+        "sources" => Some(Topic::Sources),
+        "modules" => Some(Topic::Modules),
+        "sections" => Some(Topic::Sections),
+        _ => None,
+    }
+}
+
 /// The command of a word.
 pub fn topic_in(word: &str) -> Option<Topic>
     ensures { result ≡ topic_in word.now }
@@ -77,7 +101,7 @@ pub fn topic_in(word: &str) -> Option<Topic>
         "symbols" => Some(Topic::Symbols),
         "key" => Some(Topic::Key),
         "check" => Some(Topic::Check),
-        _ => None,
+        name => lookup_in(name),
     }
 }
 

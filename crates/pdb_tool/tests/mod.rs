@@ -8,6 +8,7 @@ mod files;
 mod findings;
 mod forms;
 mod kinds;
+mod lookups;
 mod modules;
 mod options;
 mod parts;

@@ -1,0 +1,6 @@
+use Rattle.std.proofs.Common.{length, ◌≡◌, ℕ, ◌+◌, ◌-◌, ◌*◌, ◌<◌, ◌≤◌}
+use Rattle.pdb_tool.specs.Wildcards.{from_somewhere, matches}
+use Rattle.pdb_tool.proofs.wildcards.+matches_somewhere.Given as goal
+
+abbrev pub decreases-matches_somewhere : goal.decreases-matches_somewhere
+decreases-matches_somewhere l = length l.pattern.now

@@ -1,0 +1,94 @@
+-- The text of `where`: which addresses lines of source files have.
+use Rattle.std.specs.Prelude.{ℕ, List, [], ◌∷◌, ◌++◌, Bool, false, ◌&&◌, if◌then◌else◌, codes, flat_map, Option, Some, None, Result, Ok, Err}
+use Rattle.std.specs.Option.{option_map, option_or, unwrap_or}
+use Rattle.std.specs.Fmt.{decimal}
+use Rattle.pdb.specs.Error.{Error}
+use Rattle.pdb.specs.Left.{Left}
+use Rattle.pdb.specs.Data.{Data}
+use Rattle.pdb.specs.Data.Data.{InlineSite}
+use Rattle.pdb.specs.Forms.{record_at}
+use Rattle.pdb.specs.SymbolList.{Entry}
+use Rattle.pdb.specs.Items.{ItemEntry}
+use Rattle.pdb.specs.Inlinees.{InlineeEntry, inlinee_with}
+use Rattle.pdb.specs.LineInfo.{LineInfo}
+use Rattle.pdb.specs.LineProgram.{ProgramOf}
+use Rattle.pdb.specs.Lines.{lines_of}
+use Rattle.pdb.specs.ModuleStream.{ModuleBytes, line_program_of, symbols_of}
+use Rattle.pdb.specs.Qualified.{Qualified, qualified_of}
+use Rattle.pdb.specs.Tables.{Addresses}
+use Rattle.pdb.specs.Answers.{address_map_in, string_table_in}
+use Rattle.pdb_resolve.specs.AsIfEmpty.{if_read}
+use Rattle.pdb_resolve.specs.FileParts.{items_listed}
+use Rattle.pdb_resolve.specs.Frames.{file_in, file_name, file_text, name_text, plain}
+use Rattle.pdb_resolve.specs.ModuleCode.{inlinees_in, name_at, program_in}
+use Rattle.pdb_tool.specs.ErrorLine.{fault_line, told}
+use Rattle.pdb_tool.specs.FindTexts.{Parent, has_bytes, parent_said, site_records, stretch_text}
+use Rattle.pdb_tool.specs.SourcesAsked.{SourceOf, asks_for}
+
+-- what is asked for, and what names and addresses are read from
+pub record Asking : Type 0 where
+  pub asked : List SourceOf
+  pub strings : Option (List ℕ)
+  pub ids : List ItemEntry
+  pub types : List ItemEntry
+  pub addresses : Option Addresses
+
+-- FILE:LINE:COLUMN of a record
+abbrev pub position_text : Option (List ℕ) → LineInfo → List ℕ
+position_text file r = file_text file ++ codes ":" ++ decimal r.line_start ++ codes ":" ++ decimal (unwrap_or r.column_start 0)
+
+unfoldable pub where_line : List ℕ → Option Addresses → LineInfo → Option (List ℕ) → Option Qualified → List ℕ
+where_line kind addresses r file name = kind ++ codes " " ++ stretch_text addresses r.offset r.length ++ codes " " ++ position_text file r ++ codes " " ++ name_text name ++ codes "\n"
+
+-- a record's file and line are asked for
+abbrev pub asks_for_file : List SourceOf → Option (List ℕ) → ℕ → Bool
+asks_for_file asked None line = false
+asks_for_file asked (Some name) line = asks_for asked name line
+
+-- the file of a record
+abbrev pub file_of_record : Asking → Option ProgramOf → LineInfo → Option (List ℕ)
+file_of_record a program r = file_name a.strings (file_in program r.file_index.0)
+
+-- a record has bytes, and is asked for
+abbrev pub is_wanted : Asking → Option ProgramOf → LineInfo → Bool
+is_wanted a program r = has_bytes r && asks_for_file a.asked (file_of_record a program r) r.line_start
+
+-- ---- line records
+
+abbrev pub record_text : Asking → ModuleBytes → ProgramOf → LineInfo → List ℕ
+record_text a m program r =
+    if is_wanted a (Some program) r then where_line (codes "line") a.addresses r (file_of_record a (Some program) r) (option_map plain (name_at r.offset m)) else []
+
+abbrev pub records_text : Asking → ModuleBytes → ProgramOf → Left LineInfo → List ℕ
+records_text a m program left = flat_map (record_text a m program) left.items ++ fault_line left.fault
+
+unfoldable pub lines_text : Asking → ModuleBytes → List ℕ
+lines_text a m = told (line_program_of m) (λ program. records_text a m program (lines_of program.subsections))
+
+-- ---- records of inlined calls
+
+abbrev pub call_text : Asking → Option ProgramOf → Option Qualified → LineInfo → List ℕ
+call_text a program name r = if is_wanted a program r then where_line (codes "inlined") a.addresses r (file_of_record a program r) name else []
+
+abbrev pub site_text : Asking → Option ProgramOf → (ℕ → Option InlineeEntry) → Option Parent → ℕ → Result Data Error → List ℕ
+site_text a program known c index (Ok (InlineSite s)) = flat_map (call_text a program (qualified_of a.ids a.types s.inlinee.0)) (site_records known c index s.inlinee.0 s.annotations)
+site_text a program known c index r = []
+
+-- those of symbols, of which the last procedure before is given
+abbrev pub sites_text : Asking → Option ProgramOf → (ℕ → Option InlineeEntry) → Option Parent → List Entry → List ℕ
+sites_text a program known c [] = []
+sites_text a program known c (s ∷ ss) = site_text a program known c s.index (record_at s.bytes) ++ sites_text a program known (option_or (parent_said (record_at s.bytes)) c) ss
+
+abbrev pub sites_left_text : Asking → Option ProgramOf → (ℕ → Option InlineeEntry) → Option Parent → Left Entry → List ℕ
+sites_left_text a program known c left = sites_text a program known c left.items ++ fault_line left.fault
+
+unfoldable pub calls_text : Asking → ModuleBytes → List ℕ
+calls_text a m = told (symbols_of m) (sites_left_text a (program_in m) (inlinee_with (inlinees_in m)) None)
+
+-- ---- the command
+
+unfoldable pub where_text : Asking → ModuleBytes → List ℕ
+where_text a m = lines_text a m ++ calls_text a m
+
+abbrev pub asking_in : List ℕ → List SourceOf → Asking
+asking_in file asked = record { asked = asked; strings = if_read (string_table_in file); ids = items_listed file 4; types = items_listed file 2; addresses = if_read (address_map_in file) }

@@ -1,0 +1,347 @@
+//! The text of `find`.
+
+ghost use Rattle.std.specs.Prelude.{◌≡◌, ◌++◌, ◌<◌, OnOk, Ok, Some, None, [], codes, find};
+ghost use Rattle.std.specs.Option.{option_map, option_or, unwrap_or};
+ghost use Rattle.pdb.specs.Data.{shown};
+ghost use Rattle.pdb.specs.Forms.{record_at};
+ghost use Rattle.pdb.specs.AnnotationViews.{annotation_bytes};
+ghost use Rattle.pdb.specs.InlinedViews.{inlined_left};
+ghost use Rattle.pdb.specs.Inlinees.{inlinee_with};
+ghost use Rattle.pdb.specs.Qualified.{qualified_of};
+ghost use Rattle.pdb.specs.SymbolList.{symbols_from};
+ghost use Rattle.pdb.specs.Text.{name_bytes};
+ghost use Rattle.pdb.specs.Views.{symbol_of, symbols_left};
+ghost use Rattle.pdb_names.specs.Spelling.{spelled, text_of};
+ghost use Rattle.pdb_tool.specs.FindTexts.{find_text, found_line, global_line, global_lines, has_bytes, inlined_at, more_than_none, parent_said, public_line, public_name, site_records, symbol_line, symbols_left_text};
+ghost use Rattle.pdb_tool.specs.Finders.{parent_view};
+
+use crate::error_line::{put_error_line, put_refusal_line};
+use crate::finder::{Finder, put_qualified};
+use pdb::{
+    Error, FallibleIterator, InlineSiteSymbol, InlineeFinder, InlineeLineIterator, LineInfo,
+    ModuleInfo, PdbInternalSectionOffset, Symbol, SymbolData, SymbolIter, SymbolTable,
+    qualified_name,
+};
+use pdb_names::put_name;
+use pdb_resolve::read_known;
+use std::alloc::{AllocError, Global};
+
+/// The line of a public symbol that was found. `spells` has the name that its name spells.
+#[tactic(auto, unfolding(crate::specs::FindTexts::found_line))]
+fn put_public_found(
+    out: &mut Vec<u8>,
+    finder: &Finder<'_, '_>,
+    place: PdbInternalSectionOffset,
+    name: &[u8],
+    spells: &mut Vec<u8>,
+) -> Result<(), AllocError>
+    ensures { OnOk result (out.new.items ≡ out.old.items ++ found_line (codes "public") finder.now.addresses place None (public_name name.now spells.old.items)) }
+{
+    if spells.as_slice() == name {
+        return finder.put_found(out, b"public", place, None, name);
+    }
+    spells.extend_from_slice(b" (")?;
+    spells.extend_from_slice(name)?;
+    spells.extend_from_slice(b")")?;
+    finder.put_found(out, b"public", place, None, spells)
+}
+
+/// The line of a public symbol, where one of its names is asked for.
+#[tactic(auto, unfolding(crate::specs::FindTexts::public_line))]
+fn put_public(
+    out: &mut Vec<u8>,
+    finder: &Finder<'_, '_>,
+    x86: bool,
+    place: PdbInternalSectionOffset,
+    name: &[u8],
+    spells: &mut Vec<u8>,
+) -> Result<(), AllocError>
+    ensures { OnOk result (out.new.items ≡ out.old.items ++ public_line finder.now place name.now (text_of name.now (spelled name.now x86))) }
+{
+    spells.clear();
+    put_name(spells, name, x86)?;
+    if finder.is_asked(spells) || finder.is_asked(name) {
+        put_public_found(out, finder, place, name, spells)
+    } else {
+        Ok(())
+    }
+}
+
+/// The line of what a global symbol says, where it has one.
+fn put_global_says(
+    out: &mut Vec<u8>,
+    finder: &Finder<'_, '_>,
+    x86: bool,
+    parsed: &SymbolData<'_>,
+    spells: &mut Vec<u8>,
+) -> Result<(), AllocError>
+    ensures { OnOk result (out.new.items ≡ out.old.items ++ global_line x86 finder.now (Ok (shown parsed.now))) }
+{
+    match parsed {
+        SymbolData::Public(s) => {
+            put_public(out, finder, x86, s.offset, s.name.as_bytes(), spells)
+        }
+        SymbolData::Data(s) if s.global => {
+            finder.put_if_asked(out, b"data", s.offset, None, s.name.as_bytes())
+        }
+        SymbolData::ThreadStorage(s) if s.global => {
+            finder.put_if_asked(out, b"thread", s.offset, None, s.name.as_bytes())
+        }
+        _ => Ok(()),
+    }
+}
+
+/// The line of a global symbol, where it has one; out of memory is passed on.
+fn put_global(
+    alloc: Global,
+    out: &mut Vec<u8>,
+    finder: &Finder<'_, '_>,
+    x86: bool,
+    symbol: &Symbol<'_>,
+    spells: &mut Vec<u8>,
+) -> Result<(), AllocError>
+    ensures { OnOk result (out.new.items ≡ out.old.items ++ global_line x86 finder.now (record_at (symbol_of symbol.now).bytes)) }
+{
+    match symbol.parse(alloc) {
+        Ok(parsed) => put_global_says(out, finder, x86, &parsed, spells),
+        Err(Error::OutOfMemory) => Err(AllocError),
+        Err(_) => Ok(()),
+    }
+}
+
+/// The lines of the global symbols that an iterator has left, and then that of its fault.
+fn put_globals_left(
+    alloc: Global,
+    out: &mut Vec<u8>,
+    finder: &Finder<'_, '_>,
+    x86: bool,
+    mut symbols: SymbolIter<'_>,
+) -> Result<(), AllocError>
+    ensures { OnOk result (out.new.items ≡ out.old.items ++ global_lines x86 finder.now (symbols_left symbols.entry)) }
+{
+    let mut spells = Vec::new(alloc);
+    loop {
+        match symbols.next() {
+            Ok(Some(symbol)) => put_global(alloc, out, finder, x86, &symbol, &mut spells)?,
+            Ok(None) => return Ok(()),
+            Err(e) => return put_error_line(out, e),
+        }
+    }
+}
+
+/// The lines of the global symbols that are asked for, and then that of their fault.
+pub fn put_found_globals(
+    alloc: Global,
+    out: &mut Vec<u8>,
+    finder: &Finder<'_, '_>,
+    x86: bool,
+    symbols: &SymbolTable<'_>,
+) -> Result<(), AllocError>
+    ensures { OnOk result (out.new.items ≡ out.old.items ++ global_lines x86 finder.now (symbols_from symbols.now 0)) }
+{
+    put_globals_left(alloc, out, finder, x86, symbols.iter())
+}
+
+/// The procedure around a site: where it begins, and the index of the symbol that ends its scope.
+#[derive(Clone, Copy)]
+pub struct Parent {
+    place: PdbInternalSectionOffset,
+    end: u32,
+}
+
+/// Whether a record has bytes.
+pub fn has_bytes(line: &LineInfo) -> bool
+    ensures { result ≡ has_bytes line.now }
+{
+    match line.length {
+        Some(length) => 0 < length,
+        None => false,
+    }
+}
+
+/// The first record that has bytes, of those that an iterator has left.
+fn first_with_bytes(mut lines: InlineeLineIterator<'_>) -> Option<LineInfo>
+    ensures { result ≡ find has_bytes (inlined_left lines.entry).items }
+{
+    loop {
+        match lines.next() {
+            Ok(Some(line)) => {
+                if has_bytes(&line) {
+                    return Some(line);
+                }
+            }
+            Ok(None) => return None,
+            Err(_) => return None,
+        }
+    }
+}
+
+/// The records of a site, in the last procedure before it; none where its scope doesn't reach the site.
+pub fn site_records<'a>(
+    known: &InlineeFinder<'a>,
+    parent: Option<Parent>,
+    index: u32,
+    site: &InlineSiteSymbol<'a>,
+) -> Option<InlineeLineIterator<'a>>
+    ensures { unwrap_or (option_map (λ it. (inlined_left it).items) result) [] ≡ site_records (inlinee_with known.now) (option_map parent_view parent) index site.now.inlinee.0 (annotation_bytes site.now.annotations) }
+{
+    match parent {
+        Some(parent) if index < parent.end => {
+            Some(known.find(site.inlinee)?.lines(parent.place, site))
+        }
+        _ => None,
+    }
+}
+
+/// The first record of a site that has bytes.
+fn site_line<'a>(
+    known: &InlineeFinder<'a>,
+    parent: Option<Parent>,
+    index: u32,
+    site: &InlineSiteSymbol<'a>,
+) -> Option<LineInfo>
+    ensures { result ≡ find has_bytes (site_records (inlinee_with known.now) (option_map parent_view parent) index site.now.inlinee.0 (annotation_bytes site.now.annotations)) }
+{
+    match site_records(known, parent, index, site) {
+        Some(lines) => first_with_bytes(lines),
+        None => None,
+    }
+}
+
+/// The line of an inlined call, where its function is asked for: where its first record stands that has bytes.
+fn put_inlined<'a>(
+    out: &mut Vec<u8>,
+    finder: &Finder<'_, '_>,
+    line: Option<LineInfo>,
+    site: &InlineSiteSymbol<'a>,
+    name: &mut Vec<u8>,
+) -> Result<(), AllocError>
+    ensures { OnOk result (out.new.items ≡ out.old.items ++ inlined_at finder.now line (qualified_of finder.now.ids finder.now.types site.now.inlinee.0)) }
+{
+    let Some(line) = line else {
+        return Ok(());
+    };
+    match qualified_name(&finder.ids, &finder.types, site.inlinee) {
+        Some(function) => {
+            name.clear();
+            put_qualified(name, function)?;
+            finder.put_if_asked(out, b"inlined", line.offset, line.length, name)
+        }
+        None => Ok(()),
+    }
+}
+
+/// The line of what a symbol of a module says, where it has one.
+fn put_says<'a>(
+    out: &mut Vec<u8>,
+    finder: &Finder<'_, '_>,
+    known: &InlineeFinder<'a>,
+    parent: Option<Parent>,
+    index: u32,
+    parsed: &SymbolData<'a>,
+    name: &mut Vec<u8>,
+) -> Result<(), AllocError>
+    ensures { OnOk result (out.new.items ≡ out.old.items ++ symbol_line finder.now (inlinee_with known.now) (option_map parent_view parent) index (Ok (shown parsed.now))) }
+{
+    match parsed {
+        SymbolData::Procedure(s) => {
+            finder.put_if_asked(out, b"procedure", s.offset, Some(s.len), s.name.as_bytes())
+        }
+        SymbolData::Thunk(s) => {
+            let length = Some(u32::from(s.len));
+            finder.put_if_asked(out, b"thunk", s.offset, length, s.name.as_bytes())
+        }
+        SymbolData::Data(s) => {
+            finder.put_if_asked(out, b"data", s.offset, None, s.name.as_bytes())
+        }
+        SymbolData::ThreadStorage(s) => {
+            finder.put_if_asked(out, b"thread", s.offset, None, s.name.as_bytes())
+        }
+        SymbolData::Label(s) => {
+            finder.put_if_asked(out, b"label", s.offset, None, s.name.as_bytes())
+        }
+        SymbolData::InlineSite(s) => {
+            put_inlined(out, finder, site_line(known, parent, index, s), s, name)
+        }
+        _ => Ok(()),
+    }
+}
+
+/// The procedure that a symbol is, or else the one before it.
+pub fn parent_behind(parent: Option<Parent>, parsed: &SymbolData<'_>) -> Option<Parent>
+    ensures { option_map parent_view result ≡ option_or (parent_said (Ok (shown parsed.now))) (option_map parent_view parent) }
+{
+    match parsed {
+        SymbolData::Procedure(s) => Some(Parent {
+            place: s.offset,
+            end: s.end.0,
+        }),
+        _ => parent,
+    }
+}
+
+/// The line of a symbol, where it has one, and the last procedure up to it; out of memory is passed on.
+fn put_symbol<'a>(
+    alloc: Global,
+    out: &mut Vec<u8>,
+    finder: &Finder<'_, '_>,
+    known: &InlineeFinder<'a>,
+    parent: &mut Option<Parent>,
+    symbol: &Symbol<'a>,
+    name: &mut Vec<u8>,
+) -> Result<(), AllocError>
+    ensures text { OnOk result (out.new.items ≡ out.old.items ++ symbol_line finder.now (inlinee_with known.now) (option_map parent_view parent.old) (symbol_of symbol.now).index (record_at (symbol_of symbol.now).bytes)) }
+    ensures parent { OnOk result (option_map parent_view parent.new ≡ option_or (parent_said (record_at (symbol_of symbol.now).bytes)) (option_map parent_view parent.old)) }
+{
+    match symbol.parse(alloc) {
+        Ok(parsed) => {
+            put_says(out, finder, known, *parent, symbol.index().0, &parsed, name)?;
+            *parent = parent_behind(*parent, &parsed);
+            Ok(())
+        }
+        Err(Error::OutOfMemory) => Err(AllocError),
+        Err(_) => Ok(()),
+    }
+}
+
+/// The lines of the symbols that an iterator has left, and then that of its fault.
+fn put_symbols<'a>(
+    alloc: Global,
+    out: &mut Vec<u8>,
+    finder: &Finder<'_, '_>,
+    known: &InlineeFinder<'a>,
+    mut symbols: SymbolIter<'a>,
+) -> Result<(), AllocError>
+    ensures { OnOk result (out.new.items ≡ out.old.items ++ symbols_left_text finder.now (inlinee_with known.now) None (symbols_left symbols.entry)) }
+{
+    let mut parent = None;
+    let mut name = Vec::new(alloc);
+    loop {
+        match symbols.next() {
+            Ok(Some(symbol)) => {
+                put_symbol(alloc, out, finder, known, &mut parent, &symbol, &mut name)?;
+            }
+            Ok(None) => return Ok(()),
+            Err(e) => return put_error_line(out, e),
+        }
+    }
+}
+
+/// The lines of the symbols of a module that are asked for, and then that of their fault; or the line of their error.
+#[tactic(auto, unfolding(crate::specs::FindTexts::find_text))]
+pub fn put_found_symbols(
+    alloc: Global,
+    out: &mut Vec<u8>,
+    finder: &Finder<'_, '_>,
+    info: &ModuleInfo<'_>,
+) -> Result<(), AllocError>
+    ensures { OnOk result (out.new.items ≡ out.old.items ++ find_text finder.now info.now) }
+{
+    match info.symbols() {
+        Ok(symbols) => match read_known(alloc, info) {
+            Ok(known) => put_symbols(alloc, out, finder, &known, symbols),
+            Err(_) => Err(AllocError),
+        },
+        Err(e) => put_refusal_line(out, e),
+    }
+}

@@ -1,0 +1,149 @@
+//! What `find` looks for, and what it reads names and addresses from.
+
+ghost use Rattle.std.specs.Prelude.{◌≡◌, ◌++◌, OnOk, codes, map};
+ghost use Rattle.std.specs.List.{list_any};
+ghost use Rattle.pdb.specs.Qualified.{qualified_of, shown_qualified};
+ghost use Rattle.pdb.specs.Text.{name_bytes};
+ghost use Rattle.pdb_resolve.specs.Frames.{qualified_text};
+ghost use Rattle.pdb_tool.specs.Operands.{word_of};
+ghost use Rattle.pdb_tool.specs.FindTexts.{found_line, is_asked, line_if_asked, stretch_text};
+ghost use Rattle.pdb_tool.specs.Wildcards.{matches as matches_of};
+ghost use Rattle.std.specs.Prelude.{Some};
+
+use crate::operands::Operand;
+use crate::values::{put_address, put_optional, put_place};
+use crate::wildcards::matches;
+use pdb::{ItemFinder, PdbInternalSectionOffset, QualifiedName};
+use pdb_resolve::PlaceAddresses;
+use pdb_text::{put_line_end, put_one_line};
+use std::alloc::AllocError;
+use std::marker::Model;
+
+/// The patterns of the names that are asked for, the tables that inlined functions have their names from, and the
+/// addresses of places.
+#[derive(Drop)]
+pub struct Finder<'w, 'a> {
+    words: &'w [Operand<'w>],
+    pub ids: ItemFinder<'a>,
+    pub types: ItemFinder<'a>,
+    addresses: PlaceAddresses<'a>,
+}
+
+impl<'w, 'a> Model for Finder<'w, 'a> {
+    ghost use Rattle.std.specs.Prelude.{map};
+    ghost use Rattle.pdb_tool.specs.FindTexts.{Finding};
+    ghost use Rattle.pdb_tool.specs.Operands.{word_of};
+
+    ghost Value = { Finding };
+
+    ghost view = { λ f. record { words = map word_of f.words.now; ids = f.ids; types = f.types; addresses = f.addresses } };
+}
+
+impl<'w, 'a> Finder<'w, 'a> {
+    ghost use Rattle.pdb_tool.specs.Operands.{word_of};
+
+    /// What is asked for by these words.
+    pub fn new(
+        words: &'w [Operand<'w>],
+        ids: ItemFinder<'a>,
+        types: ItemFinder<'a>,
+        addresses: PlaceAddresses<'a>,
+    ) -> Self
+        ensures { result ≡ record { words = map word_of words.entry.now; ids = ids.entry; types = types.entry; addresses = addresses.entry } }
+    {
+        Finder {
+            words,
+            ids,
+            types,
+            addresses,
+        }
+    }
+
+    /// Whether a name is asked for. An empty one is not.
+    pub fn is_asked(&self, name: &[u8]) -> bool
+        ensures { result ≡ is_asked self.now.words name.now }
+    {
+        if name.is_empty() {
+            return false;
+        }
+        is_any(self.words, name)
+    }
+
+    /// The line of what was found: its kind, where it stands, how many bytes it has, and its name.
+    #[tactic(auto, unfolding(crate::specs::FindTexts::found_line))]
+    pub fn put_found(
+        &self,
+        out: &mut Vec<u8>,
+        kind: &[u8],
+        place: PdbInternalSectionOffset,
+        length: Option<u32>,
+        name: &[u8],
+    ) -> Result<(), AllocError>
+        ensures { OnOk result (out.new.items ≡ out.old.items ++ found_line kind.now self.now.addresses place length name.now) }
+    {
+        out.extend_from_slice(kind)?;
+        out.push(b' ')?;
+        put_stretch(out, &self.addresses, place, length)?;
+        out.push(b' ')?;
+        put_one_line(out, name)?;
+        put_line_end(out)
+    }
+
+    /// The line, where the name is asked for.
+    pub fn put_if_asked(
+        &self,
+        out: &mut Vec<u8>,
+        kind: &[u8],
+        place: PdbInternalSectionOffset,
+        length: Option<u32>,
+        name: &[u8],
+    ) -> Result<(), AllocError>
+        ensures { OnOk result (out.new.items ≡ out.old.items ++ line_if_asked kind.now self.now place length name.now) }
+    {
+        if self.is_asked(name) {
+            self.put_found(out, kind, place, length, name)
+        } else {
+            Ok(())
+        }
+    }
+}
+
+/// A name with the one before it.
+pub fn put_qualified(out: &mut Vec<u8>, name: QualifiedName<'_>) -> Result<(), AllocError>
+    ensures { OnOk result (out.new.items ≡ out.old.items ++ qualified_text (Some (shown_qualified name.entry))) }
+{
+    if let Some(scope) = name.scope {
+        out.extend_from_slice(scope.as_bytes())?;
+        out.extend_from_slice(b"::")?;
+    }
+    out.extend_from_slice(name.name.as_bytes())
+}
+
+/// Whether one of the patterns matches a name.
+#[tactic(auto, using(crate::proofs::SomeWord::any_here, crate::proofs::SomeWord::any_next, crate::proofs::SomeWord::any_none))]
+fn is_any(words: &[Operand<'_>], name: &[u8]) -> bool
+    ensures { result ≡ list_any (λ word. matches_of word name.now) (map word_of words.now) }
+{
+    for word in words {
+        if matches(word.word.as_bytes(), name) {
+            return true;
+        }
+    }
+    false
+}
+
+/// A place, its address, and how many bytes are there.
+pub fn put_stretch(
+    out: &mut Vec<u8>,
+    addresses: &PlaceAddresses<'_>,
+    place: PdbInternalSectionOffset,
+    length: Option<u32>,
+) -> Result<(), AllocError>
+    ensures { OnOk result (out.new.items ≡ out.old.items ++ stretch_text addresses.now place length) }
+{
+    put_place(out, place)?;
+    out.push(b' ')?;
+    put_address(out, addresses.address(place))?;
+    out.push(b' ')?;
+    put_optional(out, length)
+}

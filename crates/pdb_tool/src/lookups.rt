@@ -1,0 +1,258 @@
+//! The commands that look names and files up.
+
+ghost use Rattle.std.specs.Prelude.{◌≡◌, ◌++◌, ◌⊎◌, true, map, option_copied, None, Ok, Err, IfOk, IfErr, OnOk, OnErr, IsErrOf};
+ghost use Rattle.std.specs.Io.KnownBytes.{Appends};
+ghost use Rattle.pdb.specs.Container.{opens, stream_of};
+ghost use Rattle.pdb.specs.Error.{Error};
+ghost use Rattle.pdb.specs.Answers.{address_map_in, debug_information_in, global_symbols_in, string_table_in};
+ghost use Rattle.pdb.specs.Header.{header_of};
+ghost use Rattle.pdb.specs.Source.{Continues};
+ghost use Rattle.pdb_resolve.specs.AsIfEmpty.{if_read};
+ghost use Rattle.pdb_resolve.specs.FileParts.{items_where};
+ghost use Rattle.pdb_text.specs.Written.{WroteFront};
+ghost use Rattle.pdb_tool.specs.FindTexts.{find_text, globals_found, is_x86, x86_in};
+ghost use Rattle.pdb_tool.specs.SourceTexts.{sources_text};
+ghost use Rattle.pdb_tool.specs.ModuleTexts.{find_command, found_by, plain_text, sources_command, where_command};
+ghost use Rattle.pdb_tool.specs.Operands.{word_of};
+ghost use Rattle.pdb_tool.specs.SourceViews.{source_view};
+ghost use Rattle.pdb_tool.specs.declared.stop.Stop.{Stop};
+
+use crate::asking::Asking;
+use crate::commands::{ids_stream, strings_of, types_stream, write_modules};
+use crate::find_texts::{put_found_globals, put_found_symbols};
+use crate::finder::Finder;
+use crate::module_texts::{ModuleText, put_refused, write_plain};
+use crate::opening::opened;
+use crate::operands::Operand;
+use crate::source_texts::put_sources;
+use crate::sources_asked::SourceAsked;
+use crate::stop::{Stop, stop_of};
+use crate::where_texts::put_where;
+use pdb::{
+    AddressMap, Error, IdInformation, ModuleInfo, PDB, Source, StringTable, TypeInformation,
+};
+use pdb_resolve::{PlaceAddresses, ids_of, types_of};
+use pdb_text::write_out;
+use std::alloc::{AllocError, Global};
+use std::io::Write;
+
+/// The source files of modules, with their names from a string table.
+#[derive(Drop)]
+struct Sources<'a> {
+    strings: Option<&'a StringTable<'a>>,
+}
+
+impl<'a> ModuleText for Sources<'a> {
+    ghost use Rattle.std.specs.Prelude.{option_copied};
+    ghost use Rattle.pdb_tool.specs.SourceTexts.{sources_text};
+
+    ghost text = { λ s. sources_text (option_copied s.strings) };
+
+    fn put(
+        &self,
+        alloc: Global,
+        out: &mut Vec<u8>,
+        info: &ModuleInfo<'_>,
+    ) -> Result<(), AllocError> {
+        put_sources(alloc, out, self.strings, info)
+    }
+}
+
+/// Writes the source files of modules of a source's file.
+#[tactic(auto, using(pdb_text::proofs::Written::any_err, crate::proofs::AnsweredLines::front_none))]
+pub fn write_sources<'s, S: Source<'s>, W: Write>(
+    alloc: Global,
+    source: S,
+    places: &[u32],
+    out: &mut W,
+) -> Result<(), Stop>
+    ensures opened { OnOk result (opens (S.state source).file ≡ Ok tt) }
+    ensures ok { OnOk result (Appends (W.contents out.old) (W.contents out.new) (sources_command (S.state source).file places.now)) }
+    ensures refused { (S.state source).steady ≡ true → (e : Error) → IsErrOf result (Stop.Open e) → opens (S.state source).file ≡ Err e }
+    ensures front { OnErr result (WroteFront (W.contents out.old) (W.contents out.new) (sources_command (S.state source).file places.now)) }
+{
+    let mut pdb = opened(alloc, source)?;
+    let strings = strings_of(&mut pdb)?;
+    let sources = Sources {
+        strings: strings.as_ref(),
+    };
+    write_modules(alloc, &mut pdb, &sources, places, out)
+}
+
+impl<'w, 'a> ModuleText for Finder<'w, 'a> {
+    ghost use Rattle.pdb_tool.specs.FindTexts.{find_text};
+
+    ghost text = { λ f. find_text f };
+
+    fn put(
+        &self,
+        alloc: Global,
+        out: &mut Vec<u8>,
+        info: &ModuleInfo<'_>,
+    ) -> Result<(), AllocError> {
+        put_found_symbols(alloc, out, self, info)
+    }
+}
+
+/// The address map; none where it has an error.
+fn address_map<'s, S: Source<'s>>(pdb: &mut PDB<'s, S>) -> Result<Option<AddressMap<'s>>, Stop>
+    ensures continues { Continues pdb.old pdb.new }
+    ensures is { IfOk result (λ o. o ≡ if_read (address_map_in pdb.old.file)) }
+    ensures unwritten { IfErr result (λ e. (e ≡ Stop.Memory) ⊎ (e ≡ Stop.Read)) }
+{
+    match pdb.address_map() {
+        Ok(map) => Ok(Some(map)),
+        Err(Error::OutOfMemory) => Err(Stop::Memory),
+        Err(Error::IoError) => Err(Stop::Read),
+        Err(_) => Ok(None),
+    }
+}
+
+/// The number of x86 in the header of a DBI stream.
+const X86: u16 = 0x14c;
+
+/// Whether the image is for x86, by the header of the DBI stream.
+fn is_x86<'s, S: Source<'s>>(pdb: &mut PDB<'s, S>) -> Result<bool, Stop>
+    ensures continues { Continues pdb.old pdb.new }
+    ensures is { IfOk result (λ b. b ≡ x86_in pdb.old.file) }
+    ensures unwritten { IfErr result (λ e. (e ≡ Stop.Memory) ⊎ (e ≡ Stop.Read)) }
+{
+    match pdb.debug_information() {
+        Ok(information) => Ok(information.header().machine_type == X86),
+        Err(Error::OutOfMemory) => Err(Stop::Memory),
+        Err(Error::IoError) => Err(Stop::Read),
+        Err(_) => Ok(false),
+    }
+}
+
+/// What is asked for by words, by the tables of a file.
+fn finder_by<'w, 'a>(
+    alloc: Global,
+    words: &'w [Operand<'w>],
+    ids: Option<&'a IdInformation<'a>>,
+    types: Option<&'a TypeInformation<'a>>,
+    addresses: Option<AddressMap<'a>>,
+) -> Result<Finder<'w, 'a>, Stop>
+    ensures is { IfOk result (λ f. f ≡ record { words = map word_of words.entry.now; ids = items_where (option_copied ids.entry); types = items_where (option_copied types.entry); addresses = addresses.entry }) }
+    ensures unwritten { IfErr result (λ e. (e ≡ Stop.Memory) ⊎ (e ≡ Stop.Read)) }
+{
+    let ids = ids_of(alloc, ids).map_err(stop_of)?;
+    let types = types_of(alloc, types).map_err(stop_of)?;
+    Ok(Finder::new(words, ids, types, PlaceAddresses::new(addresses)))
+}
+
+/// The global symbols that are asked for, or the line of their error.
+fn put_globals<'s, S: Source<'s>>(
+    alloc: Global,
+    pdb: &mut PDB<'s, S>,
+    finder: &Finder<'_, '_>,
+    out: &mut Vec<u8>,
+) -> Result<(), Stop>
+    ensures continues { Continues pdb.old pdb.new }
+    ensures text { OnOk result (out.new.items ≡ out.old.items ++ globals_found pdb.old.file finder.now) }
+    ensures unwritten { IfErr result (λ e. (e ≡ Stop.Memory) ⊎ (e ≡ Stop.Read)) }
+{
+    let x86 = is_x86(pdb)?;
+    match pdb.global_symbols() {
+        Ok(symbols) => Ok(put_found_globals(alloc, out, finder, x86, &symbols)?),
+        Err(e) => put_refused(out, e),
+    }
+}
+
+/// Writes what is asked for of an opened file: of the global symbols, and then of all modules.
+fn write_found<'s, S: Source<'s>, W: Write>(
+    alloc: Global,
+    pdb: &mut PDB<'s, S>,
+    finder: &Finder<'_, '_>,
+    out: &mut W,
+) -> Result<(), Stop>
+    ensures opened { (e : Error) → IsErrOf result (Stop.Open e) → ⊥ }
+    ensures ok { OnOk result (Appends (W.contents out.old) (W.contents out.new) (found_by pdb.old.file finder.now)) }
+    ensures front { OnErr result (WroteFront (W.contents out.old) (W.contents out.new) (found_by pdb.old.file finder.now)) }
+{
+    let mut text = Vec::new(alloc);
+    put_globals(alloc, pdb, finder, &mut text)?;
+    write_out(out, &text)?;
+    write_plain(alloc, pdb, finder, out)
+}
+
+/// Writes where the functions and the data of a source's file stand whose names are asked for.
+#[tactic(auto, unfolding(pdb_resolve::specs::FileParts::items_listed), using(pdb_text::proofs::Written::any_err, crate::proofs::AnsweredLines::front_none))]
+pub fn write_find<'w, 's, S: Source<'s>, W: Write>(
+    alloc: Global,
+    source: S,
+    words: &'w [Operand<'w>],
+    out: &mut W,
+) -> Result<(), Stop>
+    ensures opened { OnOk result (opens (S.state source).file ≡ Ok tt) }
+    ensures ok { OnOk result (Appends (W.contents out.old) (W.contents out.new) (find_command (S.state source).file (map word_of words.now))) }
+    ensures refused { (S.state source).steady ≡ true → (e : Error) → IsErrOf result (Stop.Open e) → opens (S.state source).file ≡ Err e }
+    ensures front { OnErr result (WroteFront (W.contents out.old) (W.contents out.new) (find_command (S.state source).file (map word_of words.now))) }
+{
+    let mut pdb = opened(alloc, source)?;
+    let ids = ids_stream(&mut pdb)?;
+    let types = types_stream(&mut pdb)?;
+    let map = address_map(&mut pdb)?;
+    let finder = finder_by(alloc, words, ids.as_ref(), types.as_ref(), map)?;
+    write_found(alloc, &mut pdb, &finder, out)
+}
+
+impl<'w, 'a> ModuleText for Asking<'w, 'a> {
+    ghost use Rattle.pdb_tool.specs.WhereTexts.{where_text};
+
+    ghost text = { λ a. where_text a };
+
+    fn put(
+        &self,
+        alloc: Global,
+        out: &mut Vec<u8>,
+        info: &ModuleInfo<'_>,
+    ) -> Result<(), AllocError> {
+        put_where(alloc, out, self, info)
+    }
+}
+
+/// What is asked for by words, by the tables of a file.
+fn asking_by<'w, 'a>(
+    alloc: Global,
+    asked: &'w [SourceAsked<'w>],
+    strings: Option<&'a StringTable<'a>>,
+    ids: Option<&'a IdInformation<'a>>,
+    types: Option<&'a TypeInformation<'a>>,
+    addresses: Option<AddressMap<'a>>,
+) -> Result<Asking<'w, 'a>, Stop>
+    ensures is { IfOk result (λ a. a ≡ record { asked = map source_view asked.entry.now; strings = option_copied strings.entry; ids = items_where (option_copied ids.entry); types = items_where (option_copied types.entry); addresses = addresses.entry }) }
+    ensures unwritten { IfErr result (λ e. (e ≡ Stop.Memory) ⊎ (e ≡ Stop.Read)) }
+{
+    let ids = ids_of(alloc, ids).map_err(stop_of)?;
+    let types = types_of(alloc, types).map_err(stop_of)?;
+    Ok(Asking::new(
+        asked,
+        strings,
+        ids,
+        types,
+        PlaceAddresses::new(addresses),
+    ))
+}
+
+/// Writes which addresses lines of a source's file have that are asked for.
+#[tactic(auto, unfolding(pdb_resolve::specs::FileParts::items_listed), using(pdb_text::proofs::Written::any_err, crate::proofs::AnsweredLines::front_none))]
+pub fn write_where<'w, 's, S: Source<'s>, W: Write>(
+    alloc: Global,
+    source: S,
+    asked: &'w [SourceAsked<'w>],
+    out: &mut W,
+) -> Result<(), Stop>
+    ensures opened { OnOk result (opens (S.state source).file ≡ Ok tt) }
+    ensures ok { OnOk result (Appends (W.contents out.old) (W.contents out.new) (where_command (S.state source).file (map source_view asked.now))) }
+    ensures refused { (S.state source).steady ≡ true → (e : Error) → IsErrOf result (Stop.Open e) → opens (S.state source).file ≡ Err e }
+    ensures front { OnErr result (WroteFront (W.contents out.old) (W.contents out.new) (where_command (S.state source).file (map source_view asked.now))) }
+{
+    let mut pdb = opened(alloc, source)?;
+    let strings = strings_of(&mut pdb)?;
+    let ids = ids_stream(&mut pdb)?;
+    let types = types_stream(&mut pdb)?;
+    let map = address_map(&mut pdb)?;
+    let asking = asking_by(alloc, asked, strings.as_ref(), ids.as_ref(), types.as_ref(), map)?;
+    write_plain(alloc, &mut pdb, &asking, out)
+}

@@ -1,0 +1,36 @@
+//! Names that match a pattern.
+
+ghost use Rattle.std.specs.Prelude.{◌≡◌};
+ghost use Rattle.pdb_tool.specs.Wildcards.{from_somewhere, matches};
+
+use bstr::ByteSlice;
+
+/// What stands for any bytes in a pattern.
+const STAR: u8 = b'*';
+
+/// Whether the bytes of a name from some place on match a pattern. The first place is taken at which what stands before
+/// the next star occurs: a later one leaves less for what is behind.
+fn matches_somewhere(pattern: &[u8], name: &[u8]) -> bool
+    ensures { result ≡ from_somewhere (matches pattern.now) name.now }
+{
+    match pattern.find_byte(STAR) {
+        None => name.ends_with_str(pattern),
+        Some(star) => match name.find(&pattern[..star]) {
+            Some(at) => matches_somewhere(&pattern[star + 1..], &name[at + star..]),
+            None => false,
+        },
+    }
+}
+
+/// Whether a name matches a pattern: `*` stands for any bytes, also none, and each other byte for itself.
+pub fn matches(pattern: &[u8], name: &[u8]) -> bool
+    ensures { result ≡ matches pattern.now name.now }
+{
+    match pattern.find_byte(STAR) {
+        None => name == pattern,
+        Some(star) => {
+            name.starts_with_str(&pattern[..star])
+                && matches_somewhere(&pattern[star + 1..], &name[star..])
+        }
+    }
+}

@@ -1,0 +1,308 @@
+//! What is found by names, and where lines of source files are.
+
+use super::files::{debug_stream, file_of, module_record};
+use super::streams::{Sizes, module_of, symbols_of};
+use crate::asking::Asking;
+use crate::find_texts::put_found_symbols;
+use crate::finder::Finder;
+use crate::lookups::{write_find, write_sources, write_where};
+use crate::module_lists::write_modules;
+use crate::operands::{Operand, all_sources, first_empty};
+use crate::section_texts::write_sections;
+use crate::source_texts::put_sources;
+use crate::sources_asked::{asks_for, source_of};
+use crate::stop::Stop;
+use crate::tests::fakes::is;
+use crate::where_texts::put_where;
+use crate::wildcards::matches;
+use crate::words::WordsError;
+use pdb::{ItemFinder, MemorySource, Stream, StringTable};
+use pdb_resolve::PlaceAddresses;
+use std::alloc::{AllocError, Global};
+use std::test::Fail;
+
+/// The names `a.c` at place 1 and `Src\bc.h` at place 5.
+static STRINGS: &[u8] =
+    b"\xfe\xef\xfe\xef\x01\x00\x00\x00\x0e\x00\x00\x00\x00a\x2ec\x00Src\x5cbc\x2eh\x00";
+
+/// Files without a checksum, with four bytes of MD5, with three of SHA-1, and with none of SHA-256.
+static FILES: &[u8] =
+    b"\xf4\x00\x00\x00\x28\x00\x00\x00\x01\x00\x00\x00\x00\x00\x00\x00\x05\x00\x00\x00\x04\x01\x01\x02\x03\x04\x00\x00\x01\x00\x00\x00\x03\x02\x0a\x0b\x0c\x00\x00\x00\x63\x00\x00\x00\x00\x03\x00\x00";
+
+/// The two files, and in section 2 three records from 0x40 on: line 7 of the first file with eight bytes, and lines 9
+/// and 11 of the second with four and none.
+static LINES: &[u8] =
+    b"\xf4\x00\x00\x00\x10\x00\x00\x00\x01\x00\x00\x00\x00\x00\x00\x00\x05\x00\x00\x00\x00\x00\x00\x00\xf2\x00\x00\x00\x3c\x00\x00\x00\x40\x00\x00\x00\x02\x00\x00\x00\x0c\x00\x00\x00\x00\x00\x00\x00\x01\x00\x00\x00\x14\x00\x00\x00\x00\x00\x00\x00\x07\x00\x00\x80\x08\x00\x00\x00\x02\x00\x00\x00\x1c\x00\x00\x00\x08\x00\x00\x00\x09\x00\x00\x80\x0c\x00\x00\x00\x0b\x00\x00\x80";
+
+/// A procedure `fab` of 33 bytes in section 2.
+static PROCEDURE: &[u8] =
+    b"\x10\x11\x00\x00\x00\x00\x90\x00\x00\x00\x00\x00\x00\x00\x21\x00\x00\x00\x04\x00\x00\x00\x1e\x00\x00\x00\x09\x10\x00\x00\x40\x00\x00\x00\x02\x00\x00fab\x00";
+
+/// Local data `gab`, a label `lab` and data of a thread `tab`.
+static DATA: &[u8] = b"\x0c\x11\x74\x00\x00\x00\x10\x00\x00\x00\x03\x00gab\x00";
+
+static LABEL: &[u8] = b"\x05\x11\x48\x00\x00\x00\x02\x00\x00lab\x00";
+
+static THREAD: &[u8] = b"\x12\x11\x74\x00\x00\x00\x20\x00\x00\x00\x04\x00tab\x00";
+
+/// A public symbol `_Z3fabv`, and global data `gab`.
+static PUBLIC: &[u8] = b"\x0e\x11\x02\x00\x00\x00\x40\x00\x00\x00\x02\x00_Z3fabv\x00";
+
+static GLOBAL: &[u8] = b"\x0d\x11\x74\x00\x00\x00\x10\x00\x00\x00\x03\x00gab\x00";
+
+#[test]
+fn names_and_patterns(rt: HostRuntime) -> Result<(), Fail> {
+    let cases: [(&[u8], &[u8], bool); 17] = [
+        (b"", b"", true),
+        (b"", b"a", false),
+        (b"ab", b"ab", true),
+        (b"ab", b"aB", false),
+        (b"ab", b"abc", false),
+        (b"*", b"", true),
+        (b"*", b"abc", true),
+        (b"**", b"a", true),
+        (b"a*", b"abc", true),
+        (b"*c", b"abc", true),
+        (b"*b*", b"abc", true),
+        (b"a*b*c", b"aXXbYYbZZc", true),
+        (b"*ab*ab", b"abab", true),
+        (b"*ab*ab", b"abba", false),
+        (b"*aab", b"aaab", true),
+        (b"a*a", b"a", false),
+        (b"?*", b"ab", false),
+    ];
+    for (pattern, name, wanted) in &cases {
+        is(&rt, "matches", &matches(pattern, name), wanted);
+    }
+    Ok(())
+}
+
+#[test]
+fn lines_that_an_argument_names(rt: HostRuntime) -> Result<(), Fail> {
+    // The argument, a name, and a line of it: whether it is requested.
+    let cases: [(&[u8], &[u8], u32, bool); 18] = [
+        (b"a.c", b"a.c", 7, true),
+        (b"A.C", b"dir/a.c", 7, true),
+        (b"a.c", b"dir\\A.c", 7, true),
+        (b"dir/a.c", b"x\\Dir\\a.c", 7, true),
+        (b"a.c", b"ba.c", 7, false),
+        (b"dir/a.c", b"a.c", 7, false),
+        (b"a.c:7", b"a.c", 7, true),
+        (b"a.c:7", b"a.c", 8, false),
+        (b"a.c:7-9", b"a.c", 9, true),
+        (b"a.c:7-9", b"a.c", 10, false),
+        (b"a.c:9-7", b"a.c", 8, false),
+        (b"a.c:9999999999", b"a.c", 1410065407, false),
+        (b"a.c:", b"a.c:", 1, true),
+        (b"a.c:7-", b"a.c:7-", 1, true),
+        (b"a.c:00000000007", b"a.c:00000000007", 1, true),
+        (b"a.c:1:7", b"a.c:1", 7, true),
+        (b"c:\\a.c:7", b"C:/a.c", 7, true),
+        (b"a.c:-7", b"a.c:-7", 9, true),
+    ];
+    for (word, name, line, wanted) in &cases {
+        let asked = source_of(word).expect(&rt, "a source file");
+        is(&rt, "asks_for", &asks_for(&[asked], name, *line), wanted);
+    }
+    for word in [b"".as_slice(), b":7", b":7-8"] {
+        is(&rt, "source_of", &source_of(word).is_none(), &true);
+    }
+    let two = [
+        source_of(b"a.c:1").expect(&rt, "a source file"),
+        source_of(b"b.c").expect(&rt, "a source file"),
+    ];
+    is(&rt, "the second", &asks_for(&two, b"b.c", 3), &true);
+    is(&rt, "neither", &asks_for(&two, b"a.c", 3), &false);
+    is(&rt, "none", &asks_for(&[], b"a.c", 3), &false);
+    Ok(())
+}
+
+#[test]
+fn arguments_that_are_refused(rt: HostRuntime) -> Result<(), Fail> {
+    let words = [
+        Operand {
+            place: 3,
+            word: "a.c:7",
+        },
+        Operand {
+            place: 5,
+            word: ":7",
+        },
+        Operand { place: 6, word: "" },
+    ];
+    is(
+        &rt,
+        "the sources",
+        &all_sources(rt.alloc(), &words).is_err(),
+        &true,
+    );
+    match all_sources(rt.alloc(), &words) {
+        Err(e) => is(&rt, "the place", &e, &WordsError::BadWord(5)),
+        Ok(_) => is(&rt, "the sources", &true, &false),
+    }
+    is(&rt, "all", &all_sources(rt.alloc(), &words[..1])?.len(), &1);
+    is(&rt, "the first", &first_empty(&words), &Some(6));
+    is(&rt, "none", &first_empty(&words[..2]), &None);
+    Ok(())
+}
+
+#[test]
+fn source_files_with_checksums(rt: HostRuntime) -> Result<(), Fail> {
+    let sizes = Sizes {
+        symbols: 0,
+        older_lines: 0,
+    };
+    let info = module_of(&rt, FILES, &sizes)?;
+    let strings = StringTable::parse(Stream::new(STRINGS).expect(&rt, "a short stream"))?;
+    let mut out = Vec::new(rt.alloc());
+    put_sources(rt.alloc(), &mut out, Some(&strings), &info)?;
+    let wanted: &[u8] = b"none - a.c\nmd5 01020304 Src\\bc.h\nsha1 0a0b0c a.c\nsha256 - ??\n";
+    is(&rt, "out", &out.as_slice(), &wanted);
+    let mut out = Vec::new(rt.alloc());
+    put_sources(rt.alloc(), &mut out, None, &info)?;
+    let wanted: &[u8] = b"none - ??\nmd5 01020304 ??\nsha1 0a0b0c ??\nsha256 - ??\n";
+    is(&rt, "without names", &out.as_slice(), &wanted);
+    Ok(())
+}
+
+#[test]
+fn symbols_of_a_module_by_name(rt: HostRuntime) -> Result<(), Fail> {
+    let symbols = symbols_of(
+        &rt,
+        rt.alloc(),
+        &[PROCEDURE, DATA, LABEL, THREAD, b"\x05\x11"],
+    )?;
+    let sizes = Sizes {
+        symbols: symbols.len(),
+        older_lines: 0,
+    };
+    let info = module_of(&rt, &symbols, &sizes)?;
+    let words = [
+        Operand {
+            place: 2,
+            word: "?ab",
+        },
+        Operand {
+            place: 3,
+            word: "*ab",
+        },
+    ];
+    let ids = ItemFinder::empty(rt.alloc());
+    let types = ItemFinder::empty(rt.alloc());
+    let finder = Finder::new(&words, ids, types, PlaceAddresses::new(None));
+    let mut out = Vec::new(rt.alloc());
+    put_found_symbols(rt.alloc(), &mut out, &finder, &info)?;
+    let wanted: &[u8] = b"procedure 0002:00000040 - 33 fab\n\
+        data 0003:00000010 - - gab\n\
+        label 0002:00000048 - - lab\n\
+        thread 0004:00000020 - - tab\n";
+    is(&rt, "out", &out.as_slice(), &wanted);
+    Ok(())
+}
+
+#[test]
+fn records_of_requested_lines(rt: HostRuntime) -> Result<(), Fail> {
+    let mut bytes = symbols_of(&rt, rt.alloc(), &[PROCEDURE])?;
+    let sizes = Sizes {
+        symbols: bytes.len(),
+        older_lines: 0,
+    };
+    bytes.extend_from_slice(LINES)?;
+    let info = module_of(&rt, &bytes, &sizes)?;
+    let strings = StringTable::parse(Stream::new(STRINGS).expect(&rt, "a short stream"))?;
+    let asked = [
+        source_of(b"a.c:7").expect(&rt, "a source file"),
+        source_of(b"BC.H").expect(&rt, "a source file"),
+    ];
+    let ids = ItemFinder::empty(rt.alloc());
+    let types = ItemFinder::empty(rt.alloc());
+    let asking = Asking::new(
+        &asked,
+        Some(&strings),
+        ids,
+        types,
+        PlaceAddresses::new(None),
+    );
+    let mut out = Vec::new(rt.alloc());
+    put_where(rt.alloc(), &mut out, &asking, &info)?;
+    let wanted: &[u8] = b"line 0002:00000040 - 8 a.c:7:0 fab\n\
+        line 0002:00000048 - 4 Src\\bc.h:9:0 fab\n";
+    is(&rt, "out", &out.as_slice(), &wanted);
+    Ok(())
+}
+
+/// A file of two modules, with three contributions of theirs; module 1 has no stream. Module 0 has a procedure.
+fn file(alloc: Global) -> Result<Vec<u8>, AllocError> {
+    let mut modules = Vec::new(alloc);
+    modules.extend_from_slice(&module_record(6, 48, 0))?;
+    modules.extend_from_slice(&module_record(0xffff, 0, 0))?;
+    let mut contributions = Vec::new(alloc);
+    contributions.extend_from_slice(b"\x2d\xba\x2e\xf1")?;
+    for (module, size) in [(1u8, 5u8), (0, 7), (1, 9)] {
+        contributions.extend_from_slice(&[1, 0, 0, 0, 0, 0, 0, 0, size, 1, 0, 0, 0, 0, 0, 0])?;
+        contributions.extend_from_slice(&[module, 0, 0, 0, 0, 0, 0, 0, 0, 0, 0, 0])?;
+    }
+    let debug = debug_stream(alloc, 5, &modules, &contributions, &[])?;
+    let mut module = Vec::new(alloc);
+    module.extend_from_slice(b"\x04\x00\x00\x00\x2a\x00")?;
+    module.extend_from_slice(PROCEDURE)?;
+    module.extend_from_slice(b"\x00")?;
+    let mut globals = Vec::new(alloc);
+    globals.extend_from_slice(b"\x16\x00")?;
+    globals.extend_from_slice(PUBLIC)?;
+    globals.extend_from_slice(b"\x00\x00\x10\x00")?;
+    globals.extend_from_slice(GLOBAL)?;
+    let streams: [Option<&[u8]>; 9] = [
+        Some(b""),
+        Some(&[0; 48]),
+        None,
+        Some(&debug),
+        None,
+        Some(&globals),
+        Some(&module),
+        None,
+        None,
+    ];
+    file_of(alloc, &streams)
+}
+
+#[test]
+fn commands_over_a_file(rt: HostRuntime) -> Result<(), Fail> {
+    let file = file(rt.alloc())?;
+    let bytes = file.as_slice();
+    let mut out = Vec::new(rt.alloc());
+    write_modules(rt.alloc(), MemorySource::new(bytes), &mut out)?;
+    let wanted: &[u8] = b"0 263 a [b]\n1 526 a [b]\n";
+    is(&rt, "modules", &out.as_slice(), &wanted);
+    let mut out = Vec::new(rt.alloc());
+    write_sections(rt.alloc(), MemorySource::new(bytes), &mut out)?;
+    let wanted: &[u8] = b"none\n";
+    is(&rt, "sections", &out.as_slice(), &wanted);
+    let mut out = Vec::new(rt.alloc());
+    write_sources(rt.alloc(), MemorySource::new(bytes), &[1, 0, 2], &mut out)?;
+    let wanted: &[u8] = b"module 1 a\nnone\nmodule 0 a\nnone\n";
+    is(&rt, "sources", &out.as_slice(), &wanted);
+    let words = [Operand {
+        place: 2,
+        word: "*ab*",
+    }];
+    let mut out = Vec::new(rt.alloc());
+    write_find(rt.alloc(), MemorySource::new(bytes), &words, &mut out)?;
+    let wanted: &[u8] = b"public 0002:00000040 - - fab (_Z3fabv)\n\
+        data 0003:00000010 - - gab\n\
+        procedure 0002:00000040 - 33 fab\n";
+    is(&rt, "find", &out.as_slice(), &wanted);
+    let asked = [source_of(b"a.c").expect(&rt, "a source file")];
+    let mut out = Vec::new(rt.alloc());
+    write_where(rt.alloc(), MemorySource::new(bytes), &asked, &mut out)?;
+    let wanted: &[u8] = b"";
+    is(&rt, "where", &out.as_slice(), &wanted);
+    let refused = write_modules(rt.alloc(), MemorySource::new(&bytes[..40]), &mut out);
+    is(
+        &rt,
+        "a file that is none",
+        &matches!(refused, Err(Stop::Open(_))),
+        &true,
+    );
+    Ok(())
+}
