@@ -1,9 +1,10 @@
 //! The role of a symbol record in the code of a module.
 
-ghost use Rattle.std.specs.Prelude.{◌≡◌, ◌≤◌, IfOk, IfErr};
+ghost use Rattle.std.specs.Prelude.{◌≡◌, ◌≤◌, false, IfOk, IfErr};
 ghost use Rattle.pdb.specs.Forms.{record_at};
 ghost use Rattle.pdb.specs.Views.{symbol_of};
 ghost use Rattle.pdb_resolve.specs.ModuleCode.{role};
+ghost use Rattle.pdb_resolve.specs.ModuleCode.Role.{passed};
 ghost use Rattle.pdb_resolve.specs.Kept.{shown_role, site_role};
 
 use pdb::{
@@ -82,13 +83,21 @@ fn parsed_role<'t>(alloc: Global, symbol: &Symbol<'t>) -> Result<Role<'t>>
     }
 }
 
+/// Whether a symbol may have a role: all that have one start a scope.
+#[inline(always)]
+pub(crate) fn has_role(symbol: &Symbol<'_>) -> bool
+    ensures { result ≡ false → role (record_at (symbol_of symbol.now).bytes) ≡ passed }
+{
+    symbol.starts_scope()
+}
+
 /// The role of a symbol that starts no site; want of memory is passed on. All that have one start a scope.
 #[inline(always)]
 fn other_role<'t>(alloc: Global, symbol: &Symbol<'t>) -> Result<Role<'t>>
     ensures is { IfOk result (λ h. shown_role h ≡ role (record_at (symbol_of symbol.now).bytes)) }
     ensures refused { IfErr result (λ e. e ≡ Error.OutOfMemory) }
 {
-    if !symbol.starts_scope() {
+    if !has_role(symbol) {
         return Ok(Role::Passed);
     }
     parsed_role(alloc, symbol)

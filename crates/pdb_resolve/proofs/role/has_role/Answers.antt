@@ -7,7 +7,7 @@ use Rattle.pdb.specs.Forms.{record_at}
 use Rattle.pdb.specs.Views.{symbol_of}
 use Rattle.pdb_resolve.specs.ModuleCode.{role}
 use Rattle.pdb_resolve.specs.ModuleCode.Role.{passed}
-use Rattle.pdb_resolve.proofs.role.other_role.Goals as goal
+use Rattle.pdb_resolve.proofs.role.has_role.Goals as goal
 
 -- what starts no scope is passed over
 passed_over : (r : Result Data Error) → ((d : Data) → r ≡ Ok d → StartsScope d → true ≡ false) → passed ≡ role r
@@ -18,5 +18,5 @@ passed_over (Ok (SeparatedCode s)) none = let e = none (SeparatedCode s) refl tt
 passed_over (Ok (InlineSite s)) none = let e = none (InlineSite s) refl tt in absurd cc
 passed_over (Ok d) none = refl
 
-pub returns-then-not-starts_scope-clause-is : goal.returns-then-not-starts_scope-clause-is
-returns-then-not-starts_scope-clause-is c = passed_over (record_at (symbol_of c.args.symbol.now).bytes) (λ d e h. sym (c.starts_scope.ensures.says d e h) ∙ c.if-not-starts_scope.true)
+pub returns : goal.returns
+returns c = λ no. sym (passed_over (record_at (symbol_of c.args.symbol.now).bytes) (λ d e h. sym (c.starts_scope.ensures.says d e h) ∙ no))
