@@ -70,6 +70,7 @@ fn push_site<'t>(sites: &mut Vec<KeptSite<'t>>, symbol: &Symbol<'t>) -> Result<(
 }
 
 /// One more symbol that starts a scope.
+#[inline(never)]
 fn add_scope<'t>(alloc: Global, rows: &mut Rows<'t>, symbol: Symbol<'t>) -> Result<()>
     ensures procedures { OnOk result (map shown_procedure rows.new.procedures.items ≡ map shown_procedure rows.old.procedures.items ++ option_to_list (procedure_of (symbol_of symbol.entry))) }
     ensures others { OnOk result (map range_parts rows.new.others.items ≡ map range_parts rows.old.others.items ++ map code_parts (option_to_list (other_of (symbol_of symbol.entry)))) }
@@ -102,7 +103,9 @@ fn add<'t>(alloc: Global, rows: &mut Rows<'t>, symbol: Symbol<'t>) -> Result<()>
     Ok(())
 }
 
-/// The procedures, the ranges and the sites of the symbols that an iterator has left, up to its fault.
+/// The procedures, the ranges and the sites of the symbols that an iterator has left, up to its fault. Most of a module is
+/// passed here: the loop keeps registers of its own.
+#[inline(never)]
 pub(crate) fn rows_of<'t>(alloc: Global, mut symbols: SymbolIter<'t>) -> Result<Rows<'t>>
     ensures procedures { IfOk result (λ rows. map shown_procedure rows.procedures.items ≡ filter_map procedure_of (symbols_left symbols.entry).items) }
     ensures others { IfOk result (λ rows. AreRangesOf (filter_map other_of (symbols_left symbols.entry).items) rows.others.items) }
