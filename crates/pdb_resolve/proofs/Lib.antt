@@ -22,3 +22,4 @@ pub mod PublicCount
 pub mod PublicSymbols
 pub mod FirstContributions
 pub mod Sites
+pub mod ScopeKinds
