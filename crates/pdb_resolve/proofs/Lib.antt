@@ -1,3 +1,4 @@
+pub mod ScopeKinds
 pub mod Coverings
 pub mod Orders
 pub mod Halves
@@ -22,4 +23,3 @@ pub mod PublicCount
 pub mod PublicSymbols
 pub mod FirstContributions
 pub mod Sites
-pub mod ScopeKinds
