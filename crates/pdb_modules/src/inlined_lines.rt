@@ -68,8 +68,6 @@ impl<'a> FallibleIterator for InlineeLineIterator<'a> {
 
     ghost left = { inlined_left };
 
-    // Where it is inlined, a caller pays for the fields alone that it reads.
-    #[inline(always)]
     #[tactic(auto, using(crate::proofs::InlinedSteps::lines_few))]
     fn next(&mut self) -> Result<Option<LineInfo>>
         ensures yields { Yields (λ l. l) (inlined_left self.old) result (inlined_left self.new) }
