@@ -22,8 +22,8 @@ fn push_place(places: &mut Vec<u32>, place: u32) -> Result<()>
     if count == places.capacity() {
         places.reserve_exact(count.max(1))?;
     }
-    // The contract of `insert` says that nothing grows; that of `push` doesn't.
-    places.insert(count, place)?;
+    // There is room: nothing grows.
+    places.push_reserved(place);
     Ok(())
 }
 

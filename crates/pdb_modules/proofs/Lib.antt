@@ -29,3 +29,4 @@ pub mod CoverLemmas
 pub mod LineSearches
 pub mod BlockSearches
 pub mod PassedEntries
+pub mod RisingLemmas

@@ -102,10 +102,7 @@ module _ (rows : List Row) (ls : List Listed) (count : ℕ) (stop : Option Error
 
 -- ---- the loop's step, over its plain values
 
-module _ (rows rows' : List Row) (ls ls' : List Listed) (count count' from to size : ℕ) (stop stop' fault : Option Error) (parts : List LineSubsection) (i : ℕ) (d : LineSubsection) where
-  abbrev part : LineSubsection
-  part = get_or parts i d
-
+module _ (rows rows' : List Row) (ls ls' : List Listed) (count count' from to size : ℕ) (stop stop' fault : Option Error) (parts : List LineSubsection) (i : ℕ) (part : LineSubsection) (part_is : part ≡ get_or parts i part) where
   abbrev done : List Subsection
   done = map subsection_of (take i parts)
 
@@ -131,7 +128,7 @@ module _ (rows rows' : List Row) (ls ls' : List Listed) (count count' from to si
       small_here = let below = count_below (size - from) fault in omega arith
 
       one_more : done ++ subsection_of part ∷ [] ≡ map subsection_of (take (i + 1) parts)
-      one_more = sym (map_more subsection_of parts i d l)
+      one_more = ap (λ (p : LineSubsection). done ++ subsection_of p ∷ []) part_is ∙ sym (map_more subsection_of parts i part l)
 
       abbrev Next : List Listed → ℕ → Option Error → List Subsection → Type 0
       Next ls n f ss = IsPartly rows' ls n f ss
@@ -154,5 +151,5 @@ module _ (rows rows' : List Row) (ls ls' : List Listed) (count count' from to si
       step_behind n is counts = rw (is, counts) (on_fault stop refl n)
 
 -- the rows so far are no more than the bytes of the parts so far
-pub few_more : (parts : List LineSubsection) (i : ℕ) (d : LineSubsection) (a b : ℕ) → i < length parts → a ≤ sum_by part_bytes (take i parts) → b ≤ a + part_bytes (get_or parts i d) → b ≤ sum_by part_bytes (take (i + 1) parts)
-few_more parts i d a b l h k = omega (arith, sum_by_more part_bytes parts i d l)
+pub few_more : (parts : List LineSubsection) (i : ℕ) (part : LineSubsection) (a b : ℕ) → part ≡ get_or parts i part → i < length parts → a ≤ sum_by part_bytes (take i parts) → b ≤ a + part_bytes part → b ≤ sum_by part_bytes (take (i + 1) parts)
+few_more parts i part a b is l h k = omega (arith, sum_by_more part_bytes parts i part l, ap part_bytes is)

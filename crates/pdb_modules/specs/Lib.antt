@@ -11,6 +11,7 @@ pub mod LineProgram
 pub mod LineViews
 pub mod LineCover
 pub mod LineSearch
+pub mod Rising
 pub mod Inlined
 pub mod InlinedViews
 pub mod InlinedSums

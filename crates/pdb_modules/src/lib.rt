@@ -21,6 +21,7 @@ mod lines;
 mod module_info;
 mod parts;
 mod pending;
+mod rising;
 mod room;
 mod rows;
 mod search;

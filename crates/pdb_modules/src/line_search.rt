@@ -7,12 +7,14 @@ ghost use Rattle.pdb_modules.specs.BlockViews.{block_of};
 ghost use Rattle.pdb_modules.specs.LineCover.{line_covers};
 ghost use Rattle.pdb_modules.specs.Lines.{distance, lesser, is_marker, mark_at, entry_mark, lines_of};
 ghost use Rattle.pdb_modules.specs.KeptRows.{nearer, stepped, after, subsection_of};
+ghost use Rattle.pdb_modules.specs.Rising.{AreRising};
 ghost use Rattle.pdb_modules.specs.LineSearch.{first_covering, begun_line, begun_of, if_covers, is_open, ArePassed, IsSearched, IsTurned};
 
 use crate::blocks::{Block, entry, read_block};
 use crate::line::Line;
 use crate::line_info::{LineInfo, bytes_cover};
 use crate::line_subsection::LineSubsection;
+use crate::rising::count_risen;
 use crate::rows::{is_marker, line_info};
 use pdb_base::{ParseBuffer, PdbInternalSectionOffset};
 
@@ -167,19 +169,21 @@ fn is_open(last: Option<Begun>) -> bool
     }
 }
 
-/// How many of a block's first entries are no markers and stand at or before a place.
+/// How many of a block's first entries are no markers and stand at or before a place, where so many are known to rise.
 #[inline(always)]
 fn count_passed(
     place: PdbInternalSectionOffset,
     from: PdbInternalSectionOffset,
     block: Block<'_>,
     has_columns: bool,
+    rising: usize,
 ) -> usize
-    requires { block.count * entry_width has_columns ≤ length block.body.now }
+    requires fits { block.count * entry_width has_columns ≤ length block.body.now }
+    requires rising { AreRising from has_columns (block_of block) rising }
     ensures inside { result ≤ block.entry.count }
     ensures passed { ArePassed place from has_columns (block_of block.entry) result }
 {
-    for i in 0..block.count {
+    for i in count_risen(place, from, block, has_columns, rising)..block.count {
         let entry = entry(block, has_columns, i);
         if from.wrapping_add(entry.offset).offset > place.offset || is_marker(entry.line.flags) {
             return i;
@@ -217,13 +221,15 @@ fn pass(
     from: PdbInternalSectionOffset,
     block: Block<'_>,
     has_columns: bool,
+    rising: usize,
 ) -> Came
-    requires { block.count * entry_width has_columns ≤ length block.body.now }
+    requires fits { block.count * entry_width has_columns ≤ length block.body.now }
+    requires rising { AreRising from has_columns (block_of block) rising }
     ensures inside { result.count ≤ block.entry.count }
     ensures searched { (rs : List LineInfo) → IsSearched place rs last → IsSearched place (after rs (map (entry_mark from) (take result.count (entries_of has_columns (block_of block.entry))))) result.last }
 {
     if is_open(last) {
-        let count = count_passed(place, from, block, has_columns);
+        let count = count_passed(place, from, block, has_columns, rising);
         if count > 0 {
             let last = Some(begun_at(from, block, has_columns, count - 1));
             return Came { count, last };
@@ -240,11 +246,13 @@ fn search_entries(
     from: PdbInternalSectionOffset,
     block: Block<'_>,
     has_columns: bool,
+    rising: usize,
 ) -> Search
-    requires { block.count * entry_width has_columns ≤ length block.body.now }
+    requires fits { block.count * entry_width has_columns ≤ length block.body.now }
+    requires rising { AreRising from has_columns (block_of block) rising }
     ensures { (rs : List LineInfo) → IsSearched place rs last → IsTurned place (after rs (map (entry_mark from) (entries_of has_columns (block_of block.entry)))) result }
 {
-    let came = pass(last, place, from, block, has_columns);
+    let came = pass(last, place, from, block, has_columns, rising);
     let mut last = came.last;
     for i in came.count..block.count {
         let entry = entry(block, has_columns, i);
@@ -264,14 +272,16 @@ fn search_block(
     from: PdbInternalSectionOffset,
     block: Block<'_>,
     has_columns: bool,
+    rising: usize,
 ) -> Search
-    requires { block.count * entry_width has_columns ≤ length block.body.now }
+    requires fits { block.count * entry_width has_columns ≤ length block.body.now }
+    requires rising { AreRising from has_columns (block_of block) rising }
     ensures { (rs : List LineInfo) → IsSearched place rs last → IsTurned place (after rs (map (entry_mark from) (entries_of has_columns (block_of block.entry)))) result }
 {
     if has_columns {
-        search_entries(last, place, from, block, true)
+        search_entries(last, place, from, block, true, rising)
     } else {
-        search_entries(last, place, from, block, false)
+        search_entries(last, place, from, block, false, rising)
     }
 }
 
@@ -283,13 +293,20 @@ pub(crate) fn find_in_part(
     ensures { result ≡ first_covering place (lines_of (subsection_of part.entry ∷ [])).items }
 {
     let mut last: Option<Begun> = None;
+    // It is known of the first block alone.
+    let mut rising = part.rising;
     let mut buffer = ParseBuffer::from(part.bytes);
     while !buffer.is_empty() {
         match read_block(&mut buffer, part.has_columns) {
-            Ok(block) => match search_block(last, place, part.place, block, part.has_columns) {
-                Search::Found(begun) => return Some(begun.info()),
-                Search::On(next) => last = next,
-            },
+            Ok(block) => {
+                match search_block(last, place, part.place, block, part.has_columns, rising) {
+                    Search::Found(begun) => return Some(begun.info()),
+                    Search::On(next) => {
+                        last = next;
+                        rising = 0;
+                    }
+                }
+            }
             Err(_) => return None,
         }
     }

@@ -12,6 +12,7 @@ ghost use Rattle.pdb_modules.specs.SubsectionViews.{bytes_of_piece};
 ghost use Rattle.pdb_modules.specs.PartViews.{program_of_parts};
 
 use crate::line_subsection::LineSubsection;
+use crate::rising::rising_in_front;
 use crate::sort::sort;
 use crate::subsections::{FILE_CHECKSUMS, LINES, Piece, read_piece};
 use pdb_base::little_endian::{u16_at, u32_at};
@@ -46,11 +47,14 @@ fn lines_part(body: &[u8]) -> LineSubsection<'_>
     ensures size { part_bytes result ≤ length body.entry.now }
 {
     let (_, bytes) = body.split_at(12);
+    let place = PdbInternalSectionOffset::new(u16_at(body, 4), u32_at(body, 0));
+    let has_columns = u16_at(body, 6) % 2 == 1;
     LineSubsection {
-        place: PdbInternalSectionOffset::new(u16_at(body, 4), u32_at(body, 0)),
+        place,
         code_size: u32_at(body, 8),
-        has_columns: u16_at(body, 6) % 2 == 1,
+        has_columns,
         bytes,
+        rising: rising_in_front(place, bytes, has_columns),
     }
 }
 

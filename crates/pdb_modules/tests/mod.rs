@@ -9,4 +9,5 @@ mod lines;
 mod lists;
 mod markers;
 mod modules;
+mod rising;
 mod streams;

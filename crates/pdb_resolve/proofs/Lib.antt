@@ -1,3 +1,4 @@
+pub mod ScopeKinds
 pub mod Coverings
 pub mod Orders
 pub mod Halves

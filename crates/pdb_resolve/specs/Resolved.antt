@@ -5,7 +5,7 @@ use Rattle.pdb.specs.ModuleStream.{ModuleBytes}
 use Rattle.pdb.specs.Answers.{address_map_in, debug_information_in, global_symbols_in}
 use Rattle.pdb_resolve.specs.AsIfEmpty.{if_read}
 use Rattle.pdb_resolve.specs.AddressPlaces.{place_at}
-use Rattle.pdb_resolve.specs.ModuleCode.{Code, begins, function_at, procedures_in}
+use Rattle.pdb_resolve.specs.ModuleCode.{Code, begins, function_at, procedure_at, procedures_in}
 use Rattle.pdb_resolve.specs.ModulePlaces.{contributions_known, reaches, module_number_at}
 use Rattle.pdb_resolve.specs.PublicNames.{NamedPlace, public_at}
 use Rattle.pdb_resolve.specs.FileParts.{module_numbered, names_in}
@@ -33,6 +33,10 @@ counts file m q p = reaches p.place q (contributions_known (if_read (debug_infor
 
 abbrev pub name_if : List ℕ → Option ModuleBytes → PdbInternalSectionOffset → NamedPlace → Option (List ℕ)
 name_if file m q p = if counts file m q p then Some p.name else None
+
+abbrev pub procedure_where : PdbInternalSectionOffset → Option ModuleBytes → Option Code
+procedure_where q None = None
+procedure_where q (Some m) = procedure_at q m
 
 abbrev pub function_where : PdbInternalSectionOffset → Option ModuleBytes → Option ℕ
 function_where q None = None

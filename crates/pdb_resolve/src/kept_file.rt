@@ -9,15 +9,17 @@ ghost use Rattle.pdb_resolve.specs.AsIfEmpty.{if_read, OnlyFails};
 ghost use Rattle.pdb_resolve.specs.ModulePlaces.{module_number_at};
 ghost use Rattle.pdb_resolve.specs.FileParts.{module_numbered};
 ghost use Rattle.pdb_resolve.specs.Frames.{frame_without};
-ghost use Rattle.pdb_resolve.specs.Resolved.{function_where, procedures_where, public_of_file, frames_of_file};
+ghost use Rattle.pdb_resolve.specs.Resolved.{function_where, procedure_where, procedures_where, public_of_file, frames_of_file};
 ghost use Rattle.pdb_resolve.specs.ModuleCode.{begins};
 ghost use Rattle.pdb_resolve.specs.KeptFrames.{shown_frame};
+ghost use Rattle.pdb_resolve.specs.Listed.{shown_procedure};
 ghost use Rattle.pdb_resolve.specs.KeptParts.{code_kept, code_where, codes_of};
 
 use crate::frames::{Frame, frame_without_line, plain_name, push_frame};
 use crate::module_code::ModuleCode;
 use crate::module_places::ModulePlaces;
 use crate::modules::Modules;
+use crate::procedures::ListedProcedure;
 use crate::tables::Tables;
 use pdb::{Error, PDB, PdbInternalSectionOffset, RawString, Result, Source};
 use std::alloc::Global;
@@ -64,12 +66,18 @@ impl<'a, 's> KeptFile<'a, 's> {
         Ok(Some(number))
     }
 
-    /// Whether a function of the module of a number is at a place.
-    fn has_function(&self, number: Option<usize>, place: PdbInternalSectionOffset) -> bool
+    /// Whether a function of the module of a number is at a place, where this is the procedure.
+    fn has_function(
+        &self,
+        number: Option<usize>,
+        procedure: Option<ListedProcedure>,
+        place: PdbInternalSectionOffset,
+    ) -> bool
+        requires { option_map shown_procedure procedure ≡ procedure_where place (code_where self.now.modules number) }
         ensures { result ≡ is_some (function_where place (code_where self.now.modules number)) }
     {
         match self.code(number) {
-            Some(code) => code.function(place).is_some(),
+            Some(code) => code.function_in(place, procedure).is_some(),
             None => false,
         }
     }
@@ -108,16 +116,18 @@ impl<'a, 's> KeptFile<'a, 's> {
         alloc: Global,
         pdb: &mut PDB<'s, S>,
         number: Option<usize>,
+        procedure: Option<ListedProcedure>,
         place: PdbInternalSectionOffset,
     ) -> Result<Option<RawString<'a>>>
-        requires { IsFileKept pdb.old.file self.old }
+        requires kept { IsFileKept pdb.old.file self.old }
+        requires procedure { option_map shown_procedure procedure ≡ procedure_where place (code_where self.old.modules number) }
         ensures continues { Continues pdb.old pdb.new }
         ensures kept { IsFileKept pdb.old.file self.new }
         ensures codes { codes_of self.new.modules ≡ codes_of self.old.modules }
         ensures name { IfOk result (λ n. option_map name_bytes n ≡ public_of_file pdb.old.file (code_where self.old.modules number) place) }
         ensures refused { IfErr result (λ e. OnlyFails (MayFail pdb.old pdb.new) e) }
     {
-        if self.has_function(number, place) {
+        if self.has_function(number, procedure, place) {
             return Ok(None);
         }
         let Some(public) = self.tables.globals.find(alloc, pdb, place)? else {
@@ -132,12 +142,21 @@ impl<'a, 's> KeptFile<'a, 's> {
         Ok(Some(public.name))
     }
 
-    /// Finds what the sites of the procedure at a place cover, unless it is known.
-    fn measure(&mut self, alloc: Global, number: usize, place: PdbInternalSectionOffset)
+    /// Finds what the sites of the procedure at a place cover, unless it is known, and gives the procedure.
+    fn measure(
+        &mut self,
+        alloc: Global,
+        number: Option<usize>,
+        place: PdbInternalSectionOffset,
+    ) -> Option<ListedProcedure>
+        ensures procedure { option_map shown_procedure result ≡ procedure_where place (code_where self.old.modules number) }
         ensures kept { (file : List ℕ) → IsFileKept file self.old → IsFileKept file self.new }
         ensures codes { codes_of self.new.modules ≡ codes_of self.old.modules }
     {
-        self.modules.measure(alloc, number, place);
+        match number {
+            Some(number) => self.modules.measure(alloc, number, place),
+            None => None,
+        }
     }
 
     /// The frames of a place.
@@ -155,13 +174,15 @@ impl<'a, 's> KeptFile<'a, 's> {
         ensures refused { IfErr result (λ e. OnlyFails (MayFail pdb.old pdb.new) e) }
     {
         let number = self.module_at(alloc, pdb, place)?;
-        let public = self.public(alloc, pdb, number, place)?;
+        let procedure = self.measure(alloc, number, place);
+        let public = self.public(alloc, pdb, number, procedure, place)?;
         let Some(number) = number else {
             return bare_frames(alloc, public);
         };
-        self.measure(alloc, number, place);
         match self.modules.code(number) {
-            Some(code) => self.tables.frames(alloc, pdb, code, public, place),
+            Some(code) => self
+                .tables
+                .frames(alloc, pdb, code, procedure, public, place),
             None => bare_frames(alloc, public),
         }
     }

@@ -210,6 +210,24 @@ impl<'a> ModuleCode<'a> {
         self.function_counted(place, &mut Steps::new())
     }
 
+    // The same, where this is the procedure at the place.
+    pub(crate) fn function_in(
+        &self,
+        place: PdbInternalSectionOffset,
+        procedure: Option<ListedProcedure>,
+    ) -> Option<SymbolIndex>
+        requires { option_map shown_procedure procedure ≡ procedure_at place self.now }
+        ensures { option_map (λ i. i.0) result ≡ function_at place self.now }
+    {
+        match procedure {
+            Some(procedure) => Some(SymbolIndex(procedure.index)),
+            None => match self.others.find(place) {
+                Some(index) => Some(SymbolIndex(index)),
+                None => None,
+            },
+        }
+    }
+
     /// The line at a place: the first record of the last subsection at or before it that covers it. It takes no memory.
     pub fn line(&self, place: PdbInternalSectionOffset) -> Option<LineInfo>
         ensures { result ≡ line_at place self.now }
@@ -244,7 +262,21 @@ impl<'a> ModuleCode<'a> {
         ensures calls { IfOk result (λ calls. map shown_call calls.items ≡ inlined_at place self.now) }
         ensures refused { IfErr result (λ e. e ≡ Error.OutOfMemory) }
     {
-        let Some(procedure) = self.procedure(place) else {
+        self.inlined_in(alloc, place, self.procedure(place))
+    }
+
+    // The same, where this is the procedure at the place.
+    pub(crate) fn inlined_in(
+        &self,
+        alloc: Global,
+        place: PdbInternalSectionOffset,
+        procedure: Option<ListedProcedure>,
+    ) -> Result<Vec<InlinedCall>>
+        requires { option_map shown_procedure procedure ≡ procedure_at place self.now }
+        ensures calls { IfOk result (λ calls. map shown_call calls.items ≡ inlined_at place self.now) }
+        ensures refused { IfErr result (λ e. e ≡ Error.OutOfMemory) }
+    {
+        let Some(procedure) = procedure else {
             return Ok(Vec::new(alloc));
         };
         let sites = self.sites.as_slice();
@@ -252,16 +284,20 @@ impl<'a> ModuleCode<'a> {
         calls_of(alloc, &self.known, behind, place, procedure)
     }
 
-    // Finds what the sites of the procedure at a place cover, unless it is known. `inlined` then passes those that have
-    // no call there.
-    pub(crate) fn measure(&mut self, alloc: Global, place: PdbInternalSectionOffset)
-        ensures { self.new ≡ self.old }
+    // Finds what the sites of the procedure at a place cover, unless it is known, and gives the procedure. `inlined`
+    // then passes those that have no call there.
+    pub(crate) fn measure(
+        &mut self,
+        alloc: Global,
+        place: PdbInternalSectionOffset,
+    ) -> Option<ListedProcedure>
+        ensures stays { self.new ≡ self.old }
+        ensures procedure { option_map shown_procedure result ≡ procedure_at place self.old }
     {
-        let Some(procedure) = self.procedure(place) else {
-            return;
-        };
+        let procedure = self.procedure(place)?;
         let from = count_upto(self.sites.as_slice(), procedure.index);
         measure(alloc, &self.known, &mut self.sites, from, procedure);
+        Some(procedure)
     }
 
     /// Whether a procedure begins at a place. At the first question a table is made, and kept. It is refused for want of
@@ -322,7 +358,21 @@ impl<'a> ModuleCode<'a> {
         ensures name { IfOk result (λ n. option_map name_bytes n ≡ name_at place self.now) }
         ensures refused { IfErr result (λ e. e ≡ Error.OutOfMemory) }
     {
-        match self.function(place) {
+        self.name_in(alloc, place, self.procedure(place))
+    }
+
+    // The same, where this is the procedure at the place.
+    pub(crate) fn name_in(
+        &self,
+        alloc: Global,
+        place: PdbInternalSectionOffset,
+        procedure: Option<ListedProcedure>,
+    ) -> Result<Option<RawString<'a>>>
+        requires { option_map shown_procedure procedure ≡ procedure_at place self.now }
+        ensures name { IfOk result (λ n. option_map name_bytes n ≡ name_at place self.now) }
+        ensures refused { IfErr result (λ e. e ≡ Error.OutOfMemory) }
+    {
+        match self.function_in(place, procedure) {
             Some(index) => match self.said(alloc, index.0) {
                 Ok(Some(SymbolData::Procedure(procedure))) => Ok(Some(procedure.name)),
                 Ok(Some(SymbolData::Thunk(thunk))) => Ok(Some(thunk.name)),

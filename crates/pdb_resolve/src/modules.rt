@@ -9,11 +9,14 @@ ghost use Rattle.pdb.specs.DbiViews.{modules_left};
 ghost use Rattle.pdb_resolve.specs.AsIfEmpty.{if_found, if_read, OnlyFails};
 ghost use Rattle.pdb_resolve.specs.FileParts.{module_numbered, modules_where};
 ghost use Rattle.pdb_resolve.specs.ModuleCode.{begins};
-ghost use Rattle.pdb_resolve.specs.Resolved.{procedures_where};
+ghost use Rattle.pdb_resolve.specs.Resolved.{procedure_where, procedures_where};
+ghost use Rattle.pdb_resolve.specs.Listed.{shown_procedure};
+ghost use Rattle.std.specs.Option.{option_map};
 ghost use Rattle.pdb_resolve.specs.KeptParts.{AreModulesOf, boxed, code_kept, codes_of, rooms_left, stream_kept, streams_of};
 
 use crate::module_code::ModuleCode;
 use crate::part::put_down;
+use crate::procedures::ListedProcedure;
 use pdb::{
     DebugInformation, Error, FallibleIterator, Module, ModuleInfo, ModuleIter, PDB,
     PdbInternalSectionOffset, Result, Source,
@@ -269,18 +272,26 @@ impl<'a, 's> Modules<'a, 's> {
         }
     }
 
-    /// Finds what the sites of the procedure at a place cover, in the module of a number, unless it is known.
-    pub(crate) fn measure(&mut self, alloc: Global, number: usize, place: PdbInternalSectionOffset)
+    /// Finds what the sites of the procedure at a place cover, in the module of a number, unless it is known, and gives
+    /// the procedure; none where the module's code wasn't read.
+    pub(crate) fn measure(
+        &mut self,
+        alloc: Global,
+        number: usize,
+        place: PdbInternalSectionOffset,
+    ) -> Option<ListedProcedure>
+        ensures procedure { option_map shown_procedure result ≡ procedure_where place (code_kept self.old number) }
         ensures listed { self.new.listed ≡ self.old.listed }
         ensures streams { streams_of self.new ≡ streams_of self.old }
         ensures rooms { rooms_left self.new ≡ rooms_left self.old }
         ensures codes { codes_of self.new ≡ codes_of self.old }
     {
         if number >= self.codes.len() {
-            return;
+            return None;
         }
-        if let Some(code) = &mut self.codes[number] {
-            code.measure(alloc, place);
+        match &mut self.codes[number] {
+            Some(code) => code.measure(alloc, place),
+            None => None,
         }
     }
 

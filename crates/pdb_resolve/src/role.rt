@@ -1,9 +1,11 @@
 //! The role of a symbol record in the code of a module.
 
-ghost use Rattle.std.specs.Prelude.{◌≡◌, ◌≤◌, IfOk, IfErr};
+ghost use Rattle.std.specs.Prelude.{◌≡◌, ◌≤◌, false, IfOk, IfErr, IsTrue};
+ghost use Rattle.pdb_symbols.specs.Scopes.{starts_of};
 ghost use Rattle.pdb.specs.Forms.{record_at};
 ghost use Rattle.pdb.specs.Views.{symbol_of};
 ghost use Rattle.pdb_resolve.specs.ModuleCode.{role};
+ghost use Rattle.pdb_resolve.specs.ModuleCode.Role.{passed};
 ghost use Rattle.pdb_resolve.specs.Kept.{shown_role, site_role};
 
 use pdb::{
@@ -82,13 +84,33 @@ fn parsed_role<'t>(alloc: Global, symbol: &Symbol<'t>) -> Result<Role<'t>>
     }
 }
 
+/// Whether a kind is one of variables and of their ranges, as most symbols of a module have it.
+#[inline(always)]
+#[tactic(auto, using(crate::proofs::ScopeKinds::variables_start_none))]
+fn is_of_variables(kind: u16) -> bool
+    ensures { IsTrue result → starts_of kind ≡ false }
+{
+    0x1133 <= kind && kind < 0x1146
+}
+
+/// Whether a symbol may have a role: all that have one start a scope.
+#[inline(always)]
+pub(crate) fn has_role(symbol: &Symbol<'_>) -> bool
+    ensures { result ≡ false → role (record_at (symbol_of symbol.now).bytes) ≡ passed }
+{
+    if is_of_variables(symbol.raw_kind()) {
+        return false;
+    }
+    symbol.starts_scope()
+}
+
 /// The role of a symbol that starts no site; want of memory is passed on. All that have one start a scope.
 #[inline(always)]
 fn other_role<'t>(alloc: Global, symbol: &Symbol<'t>) -> Result<Role<'t>>
     ensures is { IfOk result (λ h. shown_role h ≡ role (record_at (symbol_of symbol.now).bytes)) }
     ensures refused { IfErr result (λ e. e ≡ Error.OutOfMemory) }
 {
-    if !symbol.starts_scope() {
+    if !has_role(symbol) {
         return Ok(Role::Passed);
     }
     parsed_role(alloc, symbol)

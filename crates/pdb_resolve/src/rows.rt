@@ -10,7 +10,7 @@ ghost use Rattle.pdb_resolve.specs.Listed.{shown_procedure, entry_of, IsBounded}
 
 use crate::procedures::ListedProcedure;
 use crate::range::CodeRange;
-use crate::role::{Role, Span, role_of};
+use crate::role::{Role, Span, has_role, role_of};
 use crate::site::KeptSite;
 use pdb::{Error, FallibleIterator, Result, Symbol, SymbolIndex, SymbolIter};
 use std::alloc::Global;
@@ -69,25 +69,43 @@ fn push_site<'t>(sites: &mut Vec<KeptSite<'t>>, symbol: &Symbol<'t>) -> Result<(
     }
 }
 
-/// One more symbol.
-fn add<'t>(alloc: Global, rows: &mut Rows<'t>, symbol: &Symbol<'t>) -> Result<()>
-    ensures procedures { OnOk result (map shown_procedure rows.new.procedures.items ≡ map shown_procedure rows.old.procedures.items ++ option_to_list (procedure_of (symbol_of symbol.now))) }
-    ensures others { OnOk result (map range_parts rows.new.others.items ≡ map range_parts rows.old.others.items ++ map code_parts (option_to_list (other_of (symbol_of symbol.now)))) }
-    ensures sites { OnOk result (map entry_of rows.new.sites.items ≡ map entry_of rows.old.sites.items ++ option_to_list (site_of (symbol_of symbol.now))) }
+/// One more symbol that starts a scope.
+#[inline(never)]
+fn add_scope<'t>(alloc: Global, rows: &mut Rows<'t>, symbol: Symbol<'t>) -> Result<()>
+    ensures procedures { OnOk result (map shown_procedure rows.new.procedures.items ≡ map shown_procedure rows.old.procedures.items ++ option_to_list (procedure_of (symbol_of symbol.entry))) }
+    ensures others { OnOk result (map range_parts rows.new.others.items ≡ map range_parts rows.old.others.items ++ map code_parts (option_to_list (other_of (symbol_of symbol.entry)))) }
+    ensures sites { OnOk result (map entry_of rows.new.sites.items ≡ map entry_of rows.old.sites.items ++ option_to_list (site_of (symbol_of symbol.entry))) }
     ensures bounded { All IsBounded rows.old.sites.items → OnOk result (All IsBounded rows.new.sites.items) }
     ensures refused { IfErr result (λ e. e ≡ Error.OutOfMemory) }
 {
     let index = symbol.index();
-    match role_of(alloc, symbol) {
+    match role_of(alloc, &symbol) {
         Ok(Role::Procedure(span)) => push_procedure(&mut rows.procedures, span, index),
         Ok(Role::Other(span)) => push(&mut rows.others, span, index),
-        Ok(Role::Site(_)) => push_site(&mut rows.sites, symbol),
+        Ok(Role::Site(_)) => push_site(&mut rows.sites, &symbol),
         Ok(Role::Passed) => Ok(()),
         Err(_) => Err(Error::OutOfMemory),
     }
 }
 
-/// The procedures, the ranges and the sites of the symbols that an iterator has left, up to its fault.
+/// One more symbol. Most start no scope; only where one does is it handed on, so that the others are never stored.
+#[inline(always)]
+fn add<'t>(alloc: Global, rows: &mut Rows<'t>, symbol: Symbol<'t>) -> Result<()>
+    ensures procedures { OnOk result (map shown_procedure rows.new.procedures.items ≡ map shown_procedure rows.old.procedures.items ++ option_to_list (procedure_of (symbol_of symbol.entry))) }
+    ensures others { OnOk result (map range_parts rows.new.others.items ≡ map range_parts rows.old.others.items ++ map code_parts (option_to_list (other_of (symbol_of symbol.entry)))) }
+    ensures sites { OnOk result (map entry_of rows.new.sites.items ≡ map entry_of rows.old.sites.items ++ option_to_list (site_of (symbol_of symbol.entry))) }
+    ensures bounded { All IsBounded rows.old.sites.items → OnOk result (All IsBounded rows.new.sites.items) }
+    ensures refused { IfErr result (λ e. e ≡ Error.OutOfMemory) }
+{
+    if has_role(&symbol) {
+        return add_scope(alloc, rows, symbol);
+    }
+    Ok(())
+}
+
+/// The procedures, the ranges and the sites of the symbols that an iterator has left, up to its fault. Most of a module is
+/// passed here: the loop keeps registers of its own.
+#[inline(never)]
 pub(crate) fn rows_of<'t>(alloc: Global, mut symbols: SymbolIter<'t>) -> Result<Rows<'t>>
     ensures procedures { IfOk result (λ rows. map shown_procedure rows.procedures.items ≡ filter_map procedure_of (symbols_left symbols.entry).items) }
     ensures others { IfOk result (λ rows. AreRangesOf (filter_map other_of (symbols_left symbols.entry).items) rows.others.items) }
@@ -102,7 +120,7 @@ pub(crate) fn rows_of<'t>(alloc: Global, mut symbols: SymbolIter<'t>) -> Result<
     };
     loop {
         match symbols.next() {
-            Ok(Some(symbol)) => add(alloc, &mut rows, &symbol)?,
+            Ok(Some(symbol)) => add(alloc, &mut rows, symbol)?,
             Ok(None) => return Ok(rows),
             Err(_) => return Ok(rows),
         }

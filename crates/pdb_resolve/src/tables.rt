@@ -8,7 +8,8 @@ ghost use Rattle.pdb.specs.Answers.{string_table_in};
 ghost use Rattle.pdb_resolve.specs.AsIfEmpty.{if_read, OnlyFails};
 ghost use Rattle.pdb_resolve.specs.FileParts.{names_in};
 ghost use Rattle.pdb_resolve.specs.Frames.{frames_in, inlined_frame, outer_name};
-ghost use Rattle.pdb_resolve.specs.ModuleCode.{program_in, inlined_at};
+ghost use Rattle.pdb_resolve.specs.ModuleCode.{program_in, inlined_at, procedure_at};
+ghost use Rattle.pdb_resolve.specs.Listed.{shown_procedure};
 ghost use Rattle.pdb_resolve.specs.KeptFrames.{shown_frame};
 ghost use Rattle.pdb_resolve.specs.KeptParts.{IsAskedOf, AreTablesOf};
 
@@ -17,6 +18,7 @@ use crate::global_names::GlobalNames;
 use crate::module_code::ModuleCode;
 use crate::name_tables::NameTables;
 use crate::part::Part;
+use crate::procedures::ListedProcedure;
 use pdb::{Error, PDB, PdbInternalSectionOffset, RawString, Result, Source, StringTable};
 use std::alloc::Global;
 
@@ -53,8 +55,10 @@ fn inlined_frames<'a, 's, S: Source<'s>>(
     names: &mut NameTables<'a, 's>,
     code: &ModuleCode<'a>,
     strings: Option<&'a StringTable<'a>>,
+    procedure: Option<ListedProcedure>,
     place: PdbInternalSectionOffset,
 ) -> Result<Vec<Frame<'a>>>
+    requires procedure { option_map shown_procedure procedure ≡ procedure_at place code.now }
     requires names { AreTablesOf pdb.old.file names.old }
     requires strings { option_copied strings ≡ if_read (string_table_in pdb.old.file) }
     ensures continues { Continues pdb.old pdb.new }
@@ -62,7 +66,7 @@ fn inlined_frames<'a, 's, S: Source<'s>>(
     ensures frames { IfOk result (λ fs. map shown_frame fs.items ≡ map (inlined_frame (names_in pdb.old.file) (program_in code.now)) (reverse (inlined_at place code.now))) }
     ensures refused { IfErr result (λ e. OnlyFails (MayFail pdb.old pdb.new) e) }
 {
-    let calls = code.inlined(alloc, place)?;
+    let calls = code.inlined_in(alloc, place, procedure)?;
     if calls.is_empty() {
         return Ok(Vec::new(alloc));
     }
@@ -80,16 +84,18 @@ fn inlined_frames<'a, 's, S: Source<'s>>(
 fn outer_name<'a>(
     alloc: Global,
     code: &ModuleCode<'a>,
+    procedure: Option<ListedProcedure>,
     public: Option<RawString<'a>>,
     place: PdbInternalSectionOffset,
 ) -> Result<Option<RawString<'a>>>
+    requires { option_map shown_procedure procedure ≡ procedure_at place code.now }
     ensures name { IfOk result (λ n. option_map name_bytes n ≡ outer_name (option_map name_bytes public.entry) place code.now) }
     ensures refused { IfErr result (λ e. e ≡ Error.OutOfMemory) }
 {
-    if let Some(name) = code.function_name(alloc, place)? {
+    if let Some(name) = code.name_in(alloc, place, procedure)? {
         return Ok(Some(name));
     }
-    match code.function(place) {
+    match code.function_in(place, procedure) {
         Some(_) => Ok(None),
         None => Ok(public),
     }
@@ -98,25 +104,35 @@ fn outer_name<'a>(
 impl<'a, 's> Tables<'a, 's> {
     ghost use Rattle.pdb_resolve.specs.KeptNames.{AreNamesOf};
 
-    /// The frames of a place in a module, and the public symbol before it.
+    /// The frames of a place in a module, whose procedure there and the public symbol before it are these.
     #[tactic(auto, unfolding(crate::specs::Frames::frames_in, crate::specs::FileParts::names_in))]
     pub(crate) fn frames<S: Source<'s>>(
         &mut self,
         alloc: Global,
         pdb: &mut PDB<'s, S>,
         code: &ModuleCode<'a>,
+        procedure: Option<ListedProcedure>,
         public: Option<RawString<'a>>,
         place: PdbInternalSectionOffset,
     ) -> Result<Vec<Frame<'a>>>
-        requires { AreNamesOf pdb.old.file self.old }
+        requires names { AreNamesOf pdb.old.file self.old }
+        requires procedure { option_map shown_procedure procedure ≡ procedure_at place code.now }
         ensures continues { Continues pdb.old pdb.new }
         ensures kept { AreNamesOf pdb.old.file self.new }
         ensures frames { IfOk result (λ fs. map shown_frame fs.items ≡ frames_in (names_in pdb.old.file) (option_map name_bytes public.entry) place code.now) }
         ensures refused { IfErr result (λ e. OnlyFails (MayFail pdb.old pdb.new) e) }
     {
         let strings = strings_asked(pdb, &mut self.strings)?;
-        let mut frames = inlined_frames(alloc, pdb, &mut self.names, code, strings, place)?;
-        let name = outer_name(alloc, code, public, place)?;
+        let mut frames = inlined_frames(
+            alloc,
+            pdb,
+            &mut self.names,
+            code,
+            strings,
+            procedure,
+            place,
+        )?;
+        let name = outer_name(alloc, code, procedure, public, place)?;
         push_outer(&mut frames, code, strings, name, place)?;
         Ok(frames)
     }

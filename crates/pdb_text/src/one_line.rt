@@ -17,7 +17,9 @@ fn in_line(byte: u8) -> u8
     if is_line_end(byte) { b' ' } else { byte }
 }
 
-/// Whether bytes may end a line. Every byte is read, without a branch, so that many are compared at once.
+/// Whether bytes may end a line. Every byte is read, without a branch, so that many are compared at once. Where it is
+/// inlined, LLVM compares them one by one.
+#[inline(never)]
 fn has_line_end(bytes: &[u8]) -> bool
     ensures { result ≡ false → one_line bytes.now ≡ bytes.now }
 {

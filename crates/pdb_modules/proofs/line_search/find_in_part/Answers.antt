@@ -1,8 +1,16 @@
-use Rattle.std.proofs.Common.{◌≡◌, ◌<◌, ◌≤◌, length, Some, ap, sym, refl, ◌∙◌, arith}
+use Rattle.std.proofs.Common.{ℕ, List, Ok, subst, ◌≡◌, ◌<◌, ◌≤◌, length, Some, ap, sym, refl, ◌∙◌, arith}
 use Rattle.pdb_modules.specs.LineSearch.{begun_line}
+use Rattle.pdb_modules.specs.Blocks.{block_at}
+use Rattle.pdb_modules.specs.BlockViews.{block_of}
 use Rattle.pdb_modules.specs.KeptRows.{subsection_of}
 use Rattle.pdb_modules.proofs.BlockSearches.{lines_found, search_moves, search_goes_on, search_finds, nothing_at_fault, last_at_end}
+use Rattle.pdb_modules.proofs.RisingLemmas.{none_rise}
 use Rattle.pdb_modules.proofs.line_search.find_in_part.Goals as goal
+
+pub search_block-requires-clause-rising : goal.search_block-requires-clause-rising
+search_block-requires-clause-rising c =
+    let i = c.loop-buffer.invariant in
+    i.rising (block_of c.in-Ok.block) (subst (λ (b : List ℕ). block_at c.args.part.has_columns b c.loop-buffer.buffer.place ≡ Ok (block_of c.in-Ok.block)) i.same c.in-Ok.ensures.reads.0)
 
 pub returns-in-Found : goal.returns-in-Found
 returns-in-Found c =
@@ -18,6 +26,7 @@ loop-buffer-preserved c =
       same = c.in-Ok.ensures.reads.1 ∙ i.same;
       inside = (search_moves c.args.place c.args.part.place c.args.part.has_columns c.args.part.bytes.now c.loop-buffer.buffer c.read_block.new.buffer i.same c.loop-buffer.last i.searching c.in-Ok.block c.in-Ok.ensures.reads).1;
       searching = search_goes_on c.args.place c.args.part.place c.args.part.has_columns c.args.part.bytes.now c.loop-buffer.buffer c.read_block.new.buffer i.same c.loop-buffer.last i.searching c.in-Ok.block c.in-Ok.ensures.reads c.in-On.next (c.in-On.ensures _ i.searching.searched);
+      rising = none_rise c.args.part.place c.args.part.has_columns c.args.part.bytes.now c.read_block.new.buffer.place;
     }
 
 pub returns-in-Err : goal.returns-in-Err

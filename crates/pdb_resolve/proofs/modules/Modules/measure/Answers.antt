@@ -6,4 +6,4 @@ pub returns-in-Some-clause-codes : goal.returns-in-Some-clause-codes
 returns-in-Some-clause-codes c =
     let there = c.if-number-len.false in
     let many = c.len.ensures in
-    code_stays c.args.self.now.codes.items c.args.number _ c.in-Some.code _ (sym (c.index_mut.ensures.value) ∙ c.in-Some.is) (c.measure.ensures ∙ c.deref_mut.ensures.value)
+    code_stays c.args.self.now.codes.items c.args.number _ c.in-Some.code _ (sym (c.index_mut.ensures.value) ∙ c.in-Some.is) (c.measure.ensures.stays ∙ c.deref_mut.ensures.value)
