@@ -1,0 +1,6 @@
+//! Worked examples: bytes, and what they mean.
+
+mod damaged;
+mod rows;
+mod support;
+mod tables;
