@@ -1,13 +1,14 @@
 //! Records as compilers wrote them, and what they say.
 
-use crate::tests::support::{at, has_gaps, has_numbers, has_strings, is, parsed, says, says_exactly};
+use crate::tests::support::{
+    at, has_gaps, has_numbers, has_strings, is, parsed, says, says_exactly,
+};
 use crate::{
     AddressRange, BasePointerRelative, CallSiteInfo, CoffGroup, CookieKind, DefRange,
     DefRangeFramePointerRelative, DefRangeFramePointerRelativeFullScope, DefRangeRegister,
     DefRangeRegisterRelative, DefRangeSubfield, DefRangeSubfieldRegister, EntryKind, FileStatic,
-    FrameCookie, FrameFlags, FrameProcedure, Gaps, HeapAllocationSite, HotPatchFunction,
-    JumpTable, ManagedProcedure, Oem, PogoData, Record, Relation, Section, TokenReference,
-    VariableFlags,
+    FrameCookie, FrameFlags, FrameProcedure, Gaps, HeapAllocationSite, HotPatchFunction, JumpTable,
+    ManagedProcedure, Oem, PogoData, Record, Relation, Section, TokenReference, VariableFlags,
 };
 use pdb_base::{Error, IdIndex, RawString, Register, Result, SymbolIndex, TypeIndex};
 use pdb_symbols::ProcedureFlags;
@@ -64,7 +65,8 @@ fn frames_of_procedures(rt: HostRuntime) -> Result<()> {
         parameter_base: 1,
     });
     says(&rt, rt.alloc(), "of x64", bytes, &wanted)?;
-    let bytes = b"\x12\x10\x2c\0\0\0\x02\x01\0\0\x03\0\x01\0\x0c\0\0\0\x05\x04\0\0\x06\0\0\x80\x03\0";
+    let bytes =
+        b"\x12\x10\x2c\0\0\0\x02\x01\0\0\x03\0\x01\0\x0c\0\0\0\x05\x04\0\0\x06\0\0\x80\x03\0";
     let wanted = Record::FrameProcedure(FrameProcedure {
         frame_bytes: 44,
         padding_bytes: 258,
@@ -154,7 +156,8 @@ fn variables_in_registers(rt: HostRuntime) -> Result<()> {
         gaps: Gaps::new(b""),
     });
     says_exactly(&rt, "a part", bytes, &wanted);
-    let bytes = b"\x43\x11\x6b\x01\x03\0\xff\xff\xff\xff\x10\0\0\0\x01\0\x15\0\x01\0\x02\0\x03\0\x04\0";
+    let bytes =
+        b"\x43\x11\x6b\x01\x03\0\xff\xff\xff\xff\x10\0\0\0\x01\0\x15\0\x01\0\x02\0\x03\0\x04\0";
     let Record::DefRangeSubfieldRegister(found) = parsed(bytes)? else {
         return Err(OTHER_RECORD);
     };
@@ -294,8 +297,7 @@ fn lists_of_functions(rt: HostRuntime) -> Result<()> {
 
 #[test]
 fn jumps_by_tables(rt: HostRuntime) -> Result<()> {
-    let bytes =
-        b"\x59\x11\x5c\0\0\0\x02\0\x04\0\xb9\x04\0\0\x5d\0\0\0\x01\0\x03\0\x07\x01\0\0";
+    let bytes = b"\x59\x11\x5c\0\0\0\x02\0\x04\0\xb9\x04\0\0\x5d\0\0\0\x01\0\x03\0\x07\x01\0\0";
     let wanted = Record::JumpTable(JumpTable {
         base: at(2, 0x5c),
         entry_kind: EntryKind::Int4,
@@ -385,7 +387,8 @@ fn profiles(rt: HostRuntime) -> Result<()> {
 
 #[test]
 fn managed_procedures(rt: HostRuntime) -> Result<()> {
-    let body = b"\x04\x01\0\0\x68\0\0\0\0\0\0\0\x0d\0\0\0\x01\0\0\0\x0c\0\0\0\x01\0\0\x06\x05\0\0\0\x01\0\x81\x11\0";
+    let body =
+        b"\x04\x01\0\0\x68\0\0\0\0\0\0\0\x0d\0\0\0\x01\0\0\0\x0c\0\0\0\x01\0\0\x06\x05\0\0\0\x01\0\x81\x11\0";
     let rows: [(u16, bool, &[u8]); 4] = [
         (0x112a, true, b"Main\0"),
         (0x112b, false, b"Main\0"),
@@ -444,7 +447,8 @@ fn tokens(rt: HostRuntime) -> Result<()> {
 
 #[test]
 fn records_of_other_makers(rt: HostRuntime) -> Result<()> {
-    let bytes = b"\x04\x04\xc9\x3f\xea\xc6\xb3\x59\xd6\x49\xbc\x25\x09\x02\xbb\xab\xb4\x60\x01\x02\x03\x04\x4d\0\x44\0\x32\0";
+    let bytes =
+        b"\x04\x04\xc9\x3f\xea\xc6\xb3\x59\xd6\x49\xbc\x25\x09\x02\xbb\xab\xb4\x60\x01\x02\x03\x04\x4d\0\x44\0\x32\0";
     let wanted = Record::Oem(Oem {
         id: &bytes[2..18],
         type_index: TypeIndex(0x0403_0201),

@@ -139,7 +139,8 @@ fn kinds_of_entries(rt: HostRuntime) -> Result<()> {
         EntryKind::Unknown(11),
     ];
     for (k, kind) in wanted.iter().enumerate() {
-        let mut bytes = *b"\x59\x11\x5c\0\0\0\x02\0\0\0\xb9\x04\0\0\x5d\0\0\0\x01\0\x03\0\x07\0\0\0";
+        let mut bytes =
+            *b"\x59\x11\x5c\0\0\0\x02\0\0\0\xb9\x04\0\0\x5d\0\0\0\x01\0\x03\0\x07\0\0\0";
         bytes[8] = k as u8;
         let Record::JumpTable(found) = parsed(&bytes)? else {
             return Err(OTHER_RECORD);
