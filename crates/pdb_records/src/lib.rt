@@ -10,9 +10,18 @@ mod frames;
 mod image;
 pub mod laws;
 mod lists;
+mod machine;
 mod managed;
+mod names;
 mod ranges;
 mod record;
+mod registers_arm;
+mod registers_arm64;
+mod registers_common;
+mod registers_mips;
+mod registers_x64;
+mod registers_x64_high;
+mod registers_x86;
 mod strings;
 mod variables;
 
@@ -24,7 +33,9 @@ pub use flags::{FrameFlags, VariableFlags};
 pub use frames::{CookieKind, FrameCookie, FrameProcedure};
 pub use image::{CoffGroup, EnvironmentBlock, Section};
 pub use lists::{AddressGap, AddressRange, Gaps, GapsIter, Numbers, NumbersIter, Relation};
+pub use machine::Machine;
 pub use managed::{ManagedProcedure, Oem, TokenReference};
+pub use names::{language_name, processor_name};
 pub use ranges::{
     DefRange, DefRangeFramePointerRelative, DefRangeFramePointerRelativeFullScope,
     DefRangeRegister, DefRangeRegisterRelative, DefRangeSubfield, DefRangeSubfieldRegister,
