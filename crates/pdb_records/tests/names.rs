@@ -32,7 +32,9 @@ fn processors_of_today(rt: HostRuntime) {
     for (number, name) in rows {
         is(&rt, "a processor", &processor_name(number), &Some(name));
     }
-    for number in [0x08, 0x0f, 0x19, 0x4f, 0x69, 0xf1, 0xf5, 0xfa, 0xfe, 0x101, 0xffff] {
+    for number in [
+        0x08, 0x0f, 0x19, 0x4f, 0x69, 0xf1, 0xf5, 0xfa, 0xfe, 0x101, 0xffff,
+    ] {
         is(&rt, "no name", &processor_name(number), &None);
     }
 }

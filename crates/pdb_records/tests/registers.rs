@@ -108,7 +108,12 @@ fn names_are(rt: &impl Abort, machine: Machine, table: &str, count: u32) {
     let mut named = 0u32;
     for number in (0..1200u16).chain(29990..30030).chain(65530..=65535) {
         let wanted = name_in(table, number);
-        is(rt, "a name", &machine.register_name(Register(number)), &wanted);
+        is(
+            rt,
+            "a name",
+            &machine.register_name(Register(number)),
+            &wanted,
+        );
         if wanted.is_some() {
             named = named.wrapping_add(1);
         }
@@ -150,7 +155,10 @@ fn registers_of_mips(rt: HostRuntime) {
 #[test]
 fn registers_that_frames_count_from(rt: HostRuntime) {
     let rows: [(Machine, [Option<&str>; 4]); 5] = [
-        (Machine::X86, [None, Some("vframe"), Some("ebp"), Some("ebx")]),
+        (
+            Machine::X86,
+            [None, Some("vframe"), Some("ebp"), Some("ebx")],
+        ),
         (Machine::X64, [None, Some("rsp"), Some("rbp"), Some("r13")]),
         (Machine::Arm, [None, Some("sp"), Some("r7"), None]),
         (Machine::Arm64, [None, Some("sp"), Some("fp"), None]),
@@ -175,9 +183,17 @@ fn machines_of_processors_and_images(rt: HostRuntime) {
     let processors: [(Machine, &[u16]); 5] = [
         (Machine::X86, &[0, 1, 2, 3, 4, 5, 6, 7]),
         (Machine::X64, &[0xd0]),
-        (Machine::Arm, &[0x60, 0x61, 0x62, 0x63, 0x64, 0x65, 0x66, 0x67, 0x68, 0xf0, 0xf4]),
+        (
+            Machine::Arm,
+            &[
+                0x60, 0x61, 0x62, 0x63, 0x64, 0x65, 0x66, 0x67, 0x68, 0xf0, 0xf4,
+            ],
+        ),
         (Machine::Arm64, &[0xf6, 0xf8, 0xf9]),
-        (Machine::Mips, &[0x10, 0x11, 0x12, 0x13, 0x14, 0x15, 0x16, 0x17, 0x18]),
+        (
+            Machine::Mips,
+            &[0x10, 0x11, 0x12, 0x13, 0x14, 0x15, 0x16, 0x17, 0x18],
+        ),
     ];
     let images: [(Machine, &[u16]); 4] = [
         (Machine::X86, &[0x14c]),
