@@ -33,13 +33,13 @@ rows_free [] kind g h e = absurd cc
 rows_free ((ks, f) ∷ rows) kind g h e = row_free ks f rows kind g (is_in ks kind) h.0 (rows_free rows kind g h.1) e refl
 
 older_free : FreeRows older_record_rows
-older_free = ((refl, tt), ((refl, tt), ((refl, tt), ((refl, (refl, tt)), ((refl, tt), tt)))))
+older_free = ((refl, tt), ((refl, tt), ((refl, tt), ((refl, (refl, tt)), ((refl, tt), ((refl, tt), ((refl, tt), ((refl, tt), ((refl, tt), ((refl, tt), ((refl, tt), ((refl, (refl, tt)), ((refl, tt), ((refl, tt), ((refl, tt), ((refl, tt), tt))))))))))))))))
 
 middle_free : FreeRows middle_record_rows
-middle_free = ((refl, tt), ((refl, tt), ((refl, (refl, tt)), ((refl, tt), ((refl, tt), ((refl, tt), ((refl, tt), ((refl, tt), ((refl, tt), tt)))))))))
+middle_free = ((refl, tt), ((refl, tt), ((refl, (refl, tt)), ((refl, tt), ((refl, tt), ((refl, tt), ((refl, tt), ((refl, tt), ((refl, tt), ((refl, tt), ((refl, tt), ((refl, (refl, tt)), ((refl, tt), ((refl, (refl, tt)), ((refl, (refl, tt)), ((refl, (refl, tt)), tt))))))))))))))))
 
 newer_free : FreeRows newer_record_rows
-newer_free = ((refl, tt), ((refl, tt), ((refl, tt), ((refl, tt), ((refl, tt), ((refl, tt), ((refl, tt), ((refl, tt), ((refl, (refl, (refl, tt))), ((refl, tt), ((refl, tt), ((refl, tt), tt))))))))))))
+newer_free = ((refl, tt), ((refl, tt), ((refl, tt), ((refl, tt), ((refl, tt), ((refl, tt), ((refl, tt), ((refl, tt), ((refl, (refl, (refl, tt))), ((refl, tt), ((refl, tt), ((refl, tt), ((refl, tt), ((refl, tt), ((refl, tt), ((refl, tt), tt))))))))))))))))
 
 pub further_is_no_form : (kind : ℕ) (g : RecordForm) → record_row kind ≡ Some g → row kind ≡ None
 further_is_no_form kind g e = by_band (nat_lt kind 0x1100) refl

@@ -7,6 +7,11 @@ use Rattle.pdb_records.specs.declared.frames.CookieKind.{CookieKind}
 use Rattle.pdb_records.specs.declared.frames.CookieKind.TheVariants as cookie
 use Rattle.pdb_records.specs.declared.code.EntryKind.{EntryKind}
 use Rattle.pdb_records.specs.declared.code.EntryKind.TheVariants as entry
+use Rattle.pdb_records.specs.declared.flags.ModuleTypeFlags.{ModuleTypeFlags}
+use Rattle.pdb_records.specs.declared.flags.MiniReferenceFlags.{MiniReferenceFlags}
+use Rattle.pdb_records.specs.declared.older.Discard.{Discard}
+use Rattle.pdb_records.specs.declared.older.Discard.TheVariants.{NotSaid, NotSelected, NotReferenced}
+use Rattle.pdb_records.specs.declared.older.Discard.TheVariants as discard
 use Rattle.pdb_records.specs.declared.lists.Relation.{Relation}
 use Rattle.pdb_records.specs.declared.lists.Relation.TheVariants.{Callees, Callers, Inlinees}
 
@@ -86,3 +91,30 @@ entry_kind_of n =
 -- how functions of a list belong to the procedure, by the record's kind
 abbrev pub relation_of : ℕ → Relation
 relation_of kind = if kind == 0x115a then Callees else if kind == 0x115b then Callers else Inlinees
+
+unfoldable pub module_type_flags_of : ℕ → ModuleTypeFlags
+module_type_flags_of n = record {
+  none = has n 0x1;
+  ref_tmpct = has n 0x2;
+  own_tmpct = has n 0x4;
+  own_tmr = has n 0x8;
+  own_tm = has n 0x10;
+  ref_tm = has n 0x20;
+}
+
+unfoldable pub mini_reference_flags_of : ℕ → MiniReferenceFlags
+mini_reference_flags_of n = record {
+  local = has n 0x1;
+  «data» = has n 0x2;
+  udt = has n 0x4;
+  label = has n 0x8;
+  constant = has n 0x10;
+}
+
+-- why something was discarded: bits 0 to 7
+abbrev pub discard_of : ℕ → Discard
+discard_of word =
+    if word % 256 == 0 then NotSaid
+    else if word % 256 == 1 then NotSelected
+    else if word % 256 == 2 then NotReferenced
+    else discard.Unknown (word % 256)

@@ -10,9 +10,9 @@ use Rattle.pdb_base.specs.declared.index.TypeIndex.{TypeIndex}
 use Rattle.pdb_base.specs.Refusal.{◌>>=◌}
 use Rattle.pdb_base.specs.Fields.{signed_at, cstring_at}
 use Rattle.pdb_base.specs.Places.{IsSigned, IsCString}
-use Rattle.pdb_base.specs.Layouts.{Part, ◌▷◌, behind, together, together_at, times, list_at, number, number_as, slice, rest, cstring}
+use Rattle.pdb_base.specs.Layouts.{Part, ◌▷◌, behind, together, together_at, times, list_at, number, number_as, signed, slice, rest, cstring}
 use Rattle.pdb_symbols.specs.declared.flags.ProcedureFlags.{ProcedureFlags}
-use Rattle.pdb_symbols.specs.Groups.{type_index, register, procedure_flags, two_places}
+use Rattle.pdb_symbols.specs.Groups.{type_index, symbol_index, optional_index, register, procedure_flags}
 use Rattle.pdb_symbols.specs.Parts.{offset}
 use Rattle.pdb_records.specs.declared.flags.VariableFlags.{VariableFlags}
 use Rattle.pdb_records.specs.RecordFlags.{variable_flags_of}
@@ -116,3 +116,19 @@ names_passed n b p = list_at cstring n 0 b p >>= (λ names. Ok tt)
 -- a procedure's token, its place, its flags, and the register of what it returns
 abbrev pub managed : Part (ℕ × (PdbInternalSectionOffset × (ProcedureFlags × Register)))
 managed = together (number 4 ▷ offset ▷ procedure_flags ▷ register)
+
+-- a type, flags, a slot, and the offset in it
+abbrev pub shared_head : Part (TypeIndex × (VariableFlags × (ℕ × ℕ)))
+shared_head = together (type_index ▷ variable_flags ▷ number 2 ▷ number 2)
+
+-- the symbol around a scope, the end of the scope, and its length
+abbrev pub with_span : Part (Option SymbolIndex × (SymbolIndex × ℕ))
+with_span = together (optional_index ▷ symbol_index ▷ number 4)
+
+-- where a variable begins to live, and its flags
+abbrev pub attributes : Part (PdbInternalSectionOffset × VariableFlags)
+attributes = together (offset ▷ variable_flags)
+
+-- an offset from a register's value, a type, and the register
+abbrev pub place_by_register : Part (ℤ × (TypeIndex × Register))
+place_by_register = together (signed ▷ type_index ▷ register)

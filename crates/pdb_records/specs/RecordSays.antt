@@ -10,12 +10,19 @@ use Rattle.pdb_records.specs.declared.code.CallSiteInfo.{CallSiteInfo}
 use Rattle.pdb_records.specs.declared.code.HeapAllocationSite.{HeapAllocationSite}
 use Rattle.pdb_records.specs.declared.code.JumpTable.{JumpTable}
 use Rattle.pdb_records.specs.declared.code.PogoData.{PogoData}
+use Rattle.pdb_records.specs.declared.flags.MiniReferenceFlags.{MiniReferenceFlags}
 use Rattle.pdb_records.specs.declared.flags.VariableFlags.{VariableFlags}
 use Rattle.pdb_records.specs.declared.frames.FrameCookie.{FrameCookie}
 use Rattle.pdb_records.specs.declared.frames.FrameProcedure.{FrameProcedure as FrameProcedureSays}
 use Rattle.pdb_records.specs.declared.lists.AddressGap.{AddressGap}
 use Rattle.pdb_records.specs.declared.lists.AddressRange.{AddressRange}
 use Rattle.pdb_records.specs.declared.lists.Relation.{Relation}
+use Rattle.pdb_records.specs.declared.managed_variables.Attributes.{Attributes}
+use Rattle.pdb_records.specs.declared.older.Discard.{Discard}
+use Rattle.pdb_records.specs.declared.older.ModuleTypeReference.{ModuleTypeReference}
+use Rattle.pdb_records.specs.declared.older.StartSearch.{StartSearch}
+use Rattle.pdb_records.specs.declared.older.VirtualTablePath.{VirtualTablePath}
+use Rattle.pdb_records.specs.declared.shared.PointerTag.{PointerTag}
 
 -- what a record of a section says
 pub record SectionSays : Type 0 where
@@ -67,3 +74,19 @@ pub data Says : Type 0 where
   ManagedProcedure : (s : ManagedProcedureSays) → Says
   TokenReference : (sum_name : ℕ) (symbol_index : SymbolIndex) (of_module : Option ℕ) (name : List ℕ) → Says
   Oem : (id : List ℕ) (type_index : TypeIndex) (content : List ℕ) → Says
+  LocalGroupShared : (type_index : TypeIndex) (flags : VariableFlags) (data_slot data_offset : ℕ) (name : List ℕ) → Says
+  PointerTagMap : (tags : List PointerTag) → Says
+  RegisterRelativeOld : (offset : ℤ) (type_index : TypeIndex) (register : Register) (name : List ℕ) → Says
+  With : (parent : Option SymbolIndex) (end : SymbolIndex) (len : ℕ) (offset : PdbInternalSectionOffset) (name : List ℕ) → Says
+  TablePath : (s : VirtualTablePath) → Says
+  TypeReference : (s : ModuleTypeReference) → Says
+  MiniReference : (value : ℕ) (of_module : Option ℕ) (flags : MiniReferenceFlags) (name : List ℕ) → Says
+  Discarded : (why : Discard) (file line : ℕ) (content : List ℕ) → Says
+  Compile : (cpu language flags : ℕ) (name : List ℕ) → Says
+  Search : (s : StartSearch) → Says
+  EndOfArguments : Says
+  Slot : (param : Bool) (slot : ℕ) (type_index : TypeIndex) (name : List ℕ) → Says
+  ManagedSlot : (slot : ℕ) (type_index : TypeIndex) (attributes : Attributes) (name : List ℕ) → Says
+  ManagedFrameRelative : (offset : ℤ) (type_index : TypeIndex) (attributes : Attributes) (name : List ℕ) → Says
+  ManagedRegister : (type_index : TypeIndex) (attributes : Attributes) (register : Register) (name : List ℕ) → Says
+  ManagedRegisterRelative : (offset : ℤ) (type_index : TypeIndex) (register : Register) (attributes : Attributes) (name : List ℕ) → Says

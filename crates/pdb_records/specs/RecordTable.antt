@@ -2,18 +2,18 @@
 use Rattle.std.specs.Prelude.{ℕ, ◌*◌, ◌%◌, ◌≡◌, List, [], ◌∷◌, take, Result, Ok}
 use Rattle.pdb_base.specs.declared.error.Error.{Error}
 use Rattle.pdb_base.specs.Refusal.{◌>>=◌}
-use Rattle.pdb_base.specs.Layouts.{Part, ◌▷◌, number, number_as, signed, slice, rest}
+use Rattle.pdb_base.specs.Layouts.{Part, ◌▷◌, nothing, number, number_as, signed, slice, rest}
 use Rattle.pdb_symbols.specs.Flags.{has}
 use Rattle.pdb_symbols.specs.Groups.{type_index, id_index, symbol_index, register, scope, body, two_places}
 use Rattle.pdb_symbols.specs.Kinds.{is_in}
 use Rattle.pdb_symbols.specs.Parts.{offset, name, module_of}
 use Rattle.pdb_records.specs.declared.form.RecordForm.{RecordForm}
 use Rattle.pdb_records.specs.declared.form.RecordForm.TheVariants as form
-use Rattle.pdb_records.specs.RecordFlags.{frame_flags_of, local_base_of, parameter_base_of, subfield_of, cookie_of, entry_kind_of, relation_of}
-use Rattle.pdb_records.specs.RecordLists.{gaps_of, numbers_of}
-use Rattle.pdb_records.specs.RecordParts.{signed_wide, names, ranged, register_and_word, frame_sizes, static_head, site_of_type, counted_ids, table_base, group_place, section_head, section_span, counted_names, managed}
+use Rattle.pdb_records.specs.RecordFlags.{frame_flags_of, local_base_of, parameter_base_of, subfield_of, cookie_of, entry_kind_of, relation_of, module_type_flags_of, mini_reference_flags_of, discard_of}
+use Rattle.pdb_records.specs.RecordLists.{gaps_of, numbers_of, tags_of}
+use Rattle.pdb_records.specs.RecordParts.{signed_wide, names, ranged, register_and_word, frame_sizes, static_head, site_of_type, counted_ids, table_base, group_place, section_head, section_span, counted_names, managed, shared_head, with_span, attributes, place_by_register}
 use Rattle.pdb_records.specs.RecordSays.{Says}
-use Rattle.pdb_records.specs.RecordSays.Says.{FrameProcedure, BasePointerRelative, DefRange, DefRangeSubfield, DefRangeRegister, DefRangeFramePointerRelative, DefRangeSubfieldRegister, DefRangeFramePointerRelativeFullScope, DefRangeRegisterRelative, FileStatic, FrameCookieSays, CallSite, HeapAllocation, FunctionList, Jumps, CoffGroup, Section, EnvironmentBlock, Annotation, Pogo, HotPatchFunction, ManagedProcedure, TokenReference, Oem}
+use Rattle.pdb_records.specs.RecordSays.Says.{FrameProcedure, BasePointerRelative, DefRange, DefRangeSubfield, DefRangeRegister, DefRangeFramePointerRelative, DefRangeSubfieldRegister, DefRangeFramePointerRelativeFullScope, DefRangeRegisterRelative, FileStatic, FrameCookieSays, CallSite, HeapAllocation, FunctionList, Jumps, CoffGroup, Section, EnvironmentBlock, Annotation, Pogo, HotPatchFunction, ManagedProcedure, TokenReference, Oem, LocalGroupShared, PointerTagMap, RegisterRelativeOld, With, TablePath, TypeReference, MiniReference, Discarded, Compile, Search, EndOfArguments, Slot, ManagedSlot, ManagedFrameRelative, ManagedRegister, ManagedRegisterRelative}
 
 -- a form: how its records are laid out behind the kind, and what their parts say in a record of a kind
 pub record LaidRecord : Type 1 where
@@ -115,6 +115,39 @@ laid_record form.TokenReference = lay (number 4 ▷ symbol_index ▷ number_as 2
     (λ kind (sum_name, (symbol_index, (of_module, name))). TokenReference sum_name symbol_index of_module name)
 laid_record form.Oem = lay (slice 16 ▷ type_index ▷ rest)
     (λ kind (id, (type_index, content)). Oem id type_index content)
+-- variables of accelerators
+laid_record form.LocalGroupShared = lay (shared_head ▷ name)
+    (λ kind ((type_index, (flags, (data_slot, data_offset))), name). LocalGroupShared type_index flags data_slot data_offset name)
+laid_record form.PointerTagMap = lay rest (λ kind tags. PointerTagMap (tags_of tags))
+-- variables of managed code
+laid_record form.Slot = lay (number 4 ▷ type_index ▷ name)
+    (λ kind (slot, (type_index, name)). Slot (is_in (0x111b ∷ 0x1018 ∷ []) kind) slot type_index name)
+laid_record form.ManagedSlot = lay (number 4 ▷ type_index ▷ attributes ▷ name)
+    (λ kind (slot, (type_index, ((live, flags), name))). ManagedSlot slot type_index (record { live = live; flags = flags }) name)
+laid_record form.ManagedFrameRelative = lay (signed ▷ type_index ▷ attributes ▷ name)
+    (λ kind (offset, (type_index, ((live, flags), name))). ManagedFrameRelative offset type_index (record { live = live; flags = flags }) name)
+laid_record form.ManagedRegister = lay (type_index ▷ attributes ▷ register ▷ name)
+    (λ kind (type_index, ((live, flags), (register, name))). ManagedRegister type_index (record { live = live; flags = flags }) register name)
+laid_record form.ManagedRegisterRelative = lay (place_by_register ▷ attributes ▷ name)
+    (λ kind ((offset, (type_index, register)), ((live, flags), name)). ManagedRegisterRelative offset type_index register (record { live = live; flags = flags }) name)
+-- older compilers, and other kinds of code
+laid_record form.RegisterRelativeOld = lay (signed ▷ type_index ▷ register ▷ name)
+    (λ kind (offset, (type_index, (register, name))). RegisterRelativeOld offset type_index register name)
+laid_record form.With = lay (with_span ▷ offset ▷ name)
+    (λ kind ((parent, (end, len)), (offset, name)). With parent end len offset name)
+laid_record form.VirtualTablePath = lay (type_index ▷ type_index ▷ offset)
+    (λ kind (root, (path, offset)). TablePath (record { root = root; path = path; offset = offset }))
+laid_record form.ModuleTypeReference = lay (number_as 4 module_type_flags_of ▷ number 2 ▷ number 2)
+    (λ kind (flags, (word0, word1)). TypeReference (record { flags = flags; word0 = word0; word1 = word1 }))
+laid_record form.MiniReference = lay (number 4 ▷ number_as 2 module_of ▷ number_as 2 mini_reference_flags_of ▷ name)
+    (λ kind (value, (of_module, (flags, name))). MiniReference value of_module flags name)
+laid_record form.Discarded = lay (number 4 ▷ number 4 ▷ number 4 ▷ rest)
+    (λ kind (word, (file, (line, content))). Discarded (discard_of word) file line content)
+laid_record form.Compile = lay (number 1 ▷ number 1 ▷ number 2 ▷ name)
+    (λ kind (cpu, (language, (flags, name))). Compile cpu language flags name)
+laid_record form.StartSearch = lay (symbol_index ▷ number 2)
+    (λ kind (start, section). Search (record { start = start; section = section }))
+laid_record form.EndOfArguments = lay nothing (λ kind _. EndOfArguments)
 
 -- a record of a form and a kind, of bytes b, says d
 abbrev pub IsOfRecord : RecordForm → ℕ → List ℕ → Says → Type 0

@@ -9,11 +9,14 @@ use Rattle.pdb_records.specs.declared.lists.Numbers.{Numbers}
 use Rattle.pdb_records.specs.declared.lists.NumbersIter.{NumbersIter}
 use Rattle.pdb_records.specs.declared.strings.Strings.{Strings}
 use Rattle.pdb_records.specs.declared.strings.StringsIter.{StringsIter}
+use Rattle.pdb_records.specs.declared.shared.PointerTag.{PointerTag}
+use Rattle.pdb_records.specs.declared.shared.PointerTags.{PointerTags}
+use Rattle.pdb_records.specs.declared.shared.PointerTagsIter.{PointerTagsIter}
 use Rattle.pdb_records.specs.declared.record.Record.{Record}
 use Rattle.pdb_records.specs.declared.record.Record.TheVariants as rust
-use Rattle.pdb_records.specs.RecordLists.{items_from, gap_at, number_of_four, gaps_of, numbers_of, names_from}
+use Rattle.pdb_records.specs.RecordLists.{items_from, gap_at, number_of_four, gaps_of, numbers_of, tag_at, tags_of, names_from}
 use Rattle.pdb_records.specs.RecordSays.{Says}
-use Rattle.pdb_records.specs.RecordSays.Says.{FrameProcedure, BasePointerRelative, DefRange, DefRangeSubfield, DefRangeRegister, DefRangeFramePointerRelative, DefRangeSubfieldRegister, DefRangeFramePointerRelativeFullScope, DefRangeRegisterRelative, FileStatic, FrameCookieSays, CallSite, HeapAllocation, FunctionList, Jumps, CoffGroup, Section, EnvironmentBlock, Annotation, Pogo, HotPatchFunction, ManagedProcedure, TokenReference, Oem}
+use Rattle.pdb_records.specs.RecordSays.Says.{FrameProcedure, BasePointerRelative, DefRange, DefRangeSubfield, DefRangeRegister, DefRangeFramePointerRelative, DefRangeSubfieldRegister, DefRangeFramePointerRelativeFullScope, DefRangeRegisterRelative, FileStatic, FrameCookieSays, CallSite, HeapAllocation, FunctionList, Jumps, CoffGroup, Section, EnvironmentBlock, Annotation, Pogo, HotPatchFunction, ManagedProcedure, TokenReference, Oem, LocalGroupShared, PointerTagMap, RegisterRelativeOld, With, TablePath, TypeReference, MiniReference, Discarded, Compile, Search, EndOfArguments, Slot, ManagedSlot, ManagedFrameRelative, ManagedRegister, ManagedRegisterRelative}
 
 -- ---- lists
 
@@ -34,12 +37,21 @@ numbers_in_list n = numbers_of (number_bytes n)
 abbrev pub strings_in : Strings → List (List ℕ)
 strings_in s = names_from s.count s.bytes.now 0
 
+abbrev pub tag_bytes : PointerTags → List ℕ
+tag_bytes t = t.bytes.now
+
+abbrev pub tags_in : PointerTags → List PointerTag
+tags_in t = tags_of (tag_bytes t)
+
 -- those that an iterator has left
 abbrev pub gaps_left : GapsIter → Left AddressGap
 gaps_left it = record { items = items_from 4 gap_at it.bytes.now it.at; fault = None }
 
 abbrev pub numbers_left : NumbersIter → Left ℕ
 numbers_left it = record { items = items_from 4 number_of_four it.bytes.now it.at; fault = None }
+
+abbrev pub tags_left : PointerTagsIter → Left PointerTag
+tags_left it = record { items = items_from 8 tag_at it.bytes.now it.at; fault = None }
 
 abbrev pub strings_left : StringsIter → Left (List ℕ)
 strings_left it = record { items = names_from it.count it.buffer.bytes it.buffer.place; fault = None }
@@ -91,3 +103,19 @@ shown_record (rust.ManagedProcedure s) = ManagedProcedure (record {
 })
 shown_record (rust.TokenReference s) = TokenReference s.sum_name s.symbol_index s.«module» (name_bytes s.name)
 shown_record (rust.Oem s) = Oem s.id.now s.type_index s.content.now
+shown_record (rust.LocalGroupShared s) = LocalGroupShared s.type_index s.flags s.data_slot s.data_offset (name_bytes s.name)
+shown_record (rust.PointerTagMap s) = PointerTagMap (tags_in s.tags)
+shown_record (rust.RegisterRelativeOld s) = RegisterRelativeOld s.offset s.type_index s.register (name_bytes s.name)
+shown_record (rust.With s) = With s.parent s.end s.len s.offset (name_bytes s.name)
+shown_record (rust.VirtualTablePath s) = TablePath s
+shown_record (rust.ModuleTypeReference s) = TypeReference s
+shown_record (rust.MiniReference s) = MiniReference s.value s.«module» s.flags (name_bytes s.name)
+shown_record (rust.Discarded s) = Discarded s.why s.file s.line s.content.now
+shown_record (rust.Compile s) = Compile s.cpu s.language s.flags (name_bytes s.name)
+shown_record (rust.StartSearch s) = Search s
+shown_record rust.EndOfArguments = EndOfArguments
+shown_record (rust.Slot s) = Slot s.param s.slot s.type_index (name_bytes s.name)
+shown_record (rust.ManagedSlot s) = ManagedSlot s.slot s.type_index s.attributes (name_bytes s.name)
+shown_record (rust.ManagedFrameRelative s) = ManagedFrameRelative s.offset s.type_index s.attributes (name_bytes s.name)
+shown_record (rust.ManagedRegister s) = ManagedRegister s.type_index s.attributes s.register (name_bytes s.name)
+shown_record (rust.ManagedRegisterRelative s) = ManagedRegisterRelative s.offset s.type_index s.register s.attributes (name_bytes s.name)

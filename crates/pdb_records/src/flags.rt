@@ -2,7 +2,7 @@
 
 ghost use Rattle.std.specs.Prelude.{◌≡◌};
 ghost use Rattle.pdb_symbols.specs.Flags.{procedure_flags_of as procedure_bits};
-ghost use Rattle.pdb_records.specs.RecordFlags.{frame_flags_of, variable_flags_of};
+ghost use Rattle.pdb_records.specs.RecordFlags.{frame_flags_of, mini_reference_flags_of, module_type_flags_of, variable_flags_of};
 
 use pdb_symbols::ProcedureFlags;
 
@@ -127,6 +127,73 @@ impl VariableFlags {
             optimizedout: bits & 0x100 != 0,
             enreg_glob: bits & 0x200 != 0,
             enreg_stat: bits & 0x400 != 0,
+        }
+    }
+}
+
+/// Where a module's types are: the flags of `MODTYPEREF` of `cvinfo.h`, 32 bits.
+#[derive(Clone, Copy, Debug, Eq, PartialEq)]
+pub struct ModuleTypeFlags {
+    /// The module has no types: bit 0.
+    pub none: bool,
+    /// It refers to types of a precompiled header: bit 1.
+    pub ref_tmpct: bool,
+    /// It has types of a precompiled header: bit 2.
+    pub own_tmpct: bool,
+    /// It has a reference to types: bit 3.
+    pub own_tmr: bool,
+    /// It has types of its own: bit 4.
+    pub own_tm: bool,
+    /// It refers to types of another module: bit 5.
+    pub ref_tm: bool,
+}
+
+impl ModuleTypeFlags {
+    // The flags of 32 bits.
+    #[inline]
+    #[tactic(auto, unfolding(crate::specs::RecordFlags::module_type_flags_of))]
+    pub(crate) fn of(bits: u32) -> Self
+        ensures { result ≡ module_type_flags_of bits }
+    {
+        ModuleTypeFlags {
+            none: bits & 0x1 != 0,
+            ref_tmpct: bits & 0x2 != 0,
+            own_tmpct: bits & 0x4 != 0,
+            own_tmr: bits & 0x8 != 0,
+            own_tm: bits & 0x10 != 0,
+            ref_tm: bits & 0x20 != 0,
+        }
+    }
+}
+
+/// What a reference into an object file is of: the flags of `REFMINIPDB` of `cvinfo.h`, 16 bits.
+#[derive(Clone, Copy, Debug, Eq, PartialEq)]
+pub struct MiniReferenceFlags {
+    /// It is local to its module: bit 0.
+    pub local: bool,
+    /// It is data: bit 1.
+    pub data: bool,
+    /// It is a name of a type: bit 2.
+    pub udt: bool,
+    /// It is a label: bit 3.
+    pub label: bool,
+    /// It is a constant: bit 4.
+    pub constant: bool,
+}
+
+impl MiniReferenceFlags {
+    // The flags of 16 bits.
+    #[inline]
+    #[tactic(auto, unfolding(crate::specs::RecordFlags::mini_reference_flags_of))]
+    pub(crate) fn of(bits: u16) -> Self
+        ensures { result ≡ mini_reference_flags_of bits }
+    {
+        MiniReferenceFlags {
+            local: bits & 0x1 != 0,
+            data: bits & 0x2 != 0,
+            udt: bits & 0x4 != 0,
+            label: bits & 0x8 != 0,
+            constant: bits & 0x10 != 0,
         }
     }
 }

@@ -30,6 +30,22 @@ pub(crate) enum RecordForm {
     ManagedProcedure,
     TokenReference,
     Oem,
+    LocalGroupShared,
+    PointerTagMap,
+    RegisterRelativeOld,
+    With,
+    VirtualTablePath,
+    ModuleTypeReference,
+    MiniReference,
+    Discarded,
+    Compile,
+    StartSearch,
+    EndOfArguments,
+    Slot,
+    ManagedSlot,
+    ManagedFrameRelative,
+    ManagedRegister,
+    ManagedRegisterRelative,
 }
 
 // Kinds below 0x1100.
@@ -43,6 +59,17 @@ fn older_record_form(kind: u16) -> Option<RecordForm>
         0x1019 => Some(RecordForm::Annotation),
         0x101a | 0x101b => Some(RecordForm::ManagedProcedure),
         0x0404 => Some(RecordForm::Oem),
+        0x100d => Some(RecordForm::RegisterRelativeOld),
+        0x0208 => Some(RecordForm::With),
+        0x100c => Some(RecordForm::VirtualTablePath),
+        0x0001 => Some(RecordForm::Compile),
+        0x0005 => Some(RecordForm::StartSearch),
+        0x000a => Some(RecordForm::EndOfArguments),
+        0x1017 | 0x1018 => Some(RecordForm::Slot),
+        0x1024 => Some(RecordForm::ManagedSlot),
+        0x1022 => Some(RecordForm::ManagedFrameRelative),
+        0x1023 => Some(RecordForm::ManagedRegister),
+        0x1026 => Some(RecordForm::ManagedRegisterRelative),
         _ => None,
     }
 }
@@ -62,6 +89,13 @@ fn middle_record_form(kind: u16) -> Option<RecordForm>
         0x113a => Some(RecordForm::FrameCookie),
         0x113d => Some(RecordForm::EnvironmentBlock),
         0x113f => Some(RecordForm::DefRange),
+        0x1104 => Some(RecordForm::With),
+        0x113b => Some(RecordForm::Discarded),
+        0x111a | 0x111b => Some(RecordForm::Slot),
+        0x1120 => Some(RecordForm::ManagedSlot),
+        0x111e | 0x112e => Some(RecordForm::ManagedFrameRelative),
+        0x111f | 0x112f => Some(RecordForm::ManagedRegister),
+        0x1122 | 0x1130 => Some(RecordForm::ManagedRegisterRelative),
         _ => None,
     }
 }
@@ -84,6 +118,10 @@ fn newer_record_form(kind: u16) -> Option<RecordForm>
         0x115c => Some(RecordForm::PogoData),
         0x115e => Some(RecordForm::HeapAllocationSite),
         0x1169 => Some(RecordForm::HotPatchFunction),
+        0x1154 => Some(RecordForm::LocalGroupShared),
+        0x1158 => Some(RecordForm::PointerTagMap),
+        0x115f => Some(RecordForm::ModuleTypeReference),
+        0x1160 => Some(RecordForm::MiniReference),
         _ => None,
     }
 }

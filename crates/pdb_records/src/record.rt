@@ -24,12 +24,26 @@ use crate::managed::{
     ManagedProcedure, Oem, TokenReference, parse_managed_procedure, parse_oem,
     parse_token_reference,
 };
+use crate::managed_variables::{
+    ManagedFrameRelative, ManagedRegister, ManagedRegisterRelative, ManagedSlot, Slot,
+    parse_managed_frame_relative, parse_managed_register, parse_managed_register_relative,
+    parse_managed_slot, parse_slot,
+};
+use crate::older::{
+    Compile, Discarded, MiniReference, ModuleTypeReference, RegisterRelativeOld, StartSearch,
+    VirtualTablePath, With, parse_compile, parse_discarded, parse_mini_reference,
+    parse_module_type_reference, parse_register_relative_old, parse_start_search,
+    parse_virtual_table_path, parse_with,
+};
 use crate::ranges::{
     DefRange, DefRangeFramePointerRelative, DefRangeFramePointerRelativeFullScope,
     DefRangeRegister, DefRangeRegisterRelative, DefRangeSubfield, DefRangeSubfieldRegister,
     parse_def_range, parse_def_range_frame_pointer_relative,
     parse_def_range_frame_pointer_relative_full_scope, parse_def_range_register,
     parse_def_range_register_relative, parse_def_range_subfield, parse_def_range_subfield_register,
+};
+use crate::shared::{
+    LocalGroupShared, PointerTagMap, parse_local_group_shared, parse_pointer_tag_map,
 };
 use crate::variables::{
     BasePointerRelative, FileStatic, parse_base_pointer_relative, parse_file_static,
@@ -88,6 +102,38 @@ pub enum Record<'t> {
     TokenReference(TokenReference<'t>),
     /// A record of another maker.
     Oem(Oem<'t>),
+    /// A variable that a group of threads shares.
+    LocalGroupShared(LocalGroupShared<'t>),
+    /// The variables that pointers with tags point to.
+    PointerTagMap(PointerTagMap<'t>),
+    /// A variable at an offset from a register's value.
+    RegisterRelativeOld(RegisterRelativeOld<'t>),
+    /// A scope in which members of a variable are named alone.
+    With(With<'t>),
+    /// Where a table of virtual functions stands.
+    VirtualTablePath(VirtualTablePath),
+    /// How a module's types are kept.
+    ModuleTypeReference(ModuleTypeReference),
+    /// A reference into an object file.
+    MiniReference(MiniReference<'t>),
+    /// What the linker discarded.
+    Discarded(Discarded<'t>),
+    /// How a module was compiled, by the oldest compilers.
+    Compile(Compile<'t>),
+    /// Where a search for symbols starts.
+    StartSearch(StartSearch),
+    /// The end of the arguments of a procedure: `S_ENDARG` (0x000a).
+    EndOfArguments,
+    /// A variable in a slot of the intermediate language.
+    Slot(Slot<'t>),
+    /// A variable in a slot, with its attributes.
+    ManagedSlot(ManagedSlot<'t>),
+    /// A variable at an offset from the frame's register, with its attributes.
+    ManagedFrameRelative(ManagedFrameRelative<'t>),
+    /// A variable in a register, with its attributes.
+    ManagedRegister(ManagedRegister<'t>),
+    /// A variable at an offset from a register's value, with its attributes.
+    ManagedRegisterRelative(ManagedRegisterRelative<'t>),
 }
 
 impl<'t> Record<'t> {
@@ -127,6 +173,7 @@ fn parse_record(kind: u16, bytes: &[u8]) -> Result<Record<'_>>
 }
 
 // What a record of a kind says, its fields at the buffer's place.
+#[tactic(auto, using(crate::proofs::LaidRecords::end_of_arguments_read))]
 fn parse_fields<'t>(kind: u16, buffer: &mut ParseBuffer<'t>) -> Result<Record<'t>>
     requires { buffer.old.place ≡ 2 }
     ensures { Answers shown_record result (further_fields_at (record_row kind) kind buffer.old.bytes) }
@@ -163,5 +210,21 @@ fn parse_fields<'t>(kind: u16, buffer: &mut ParseBuffer<'t>) -> Result<Record<'t
         RecordForm::ManagedProcedure => parse_managed_procedure(kind, buffer),
         RecordForm::TokenReference => parse_token_reference(kind, buffer),
         RecordForm::Oem => parse_oem(kind, buffer),
+        RecordForm::LocalGroupShared => parse_local_group_shared(kind, buffer),
+        RecordForm::PointerTagMap => parse_pointer_tag_map(kind, buffer),
+        RecordForm::RegisterRelativeOld => parse_register_relative_old(kind, buffer),
+        RecordForm::With => parse_with(kind, buffer),
+        RecordForm::VirtualTablePath => parse_virtual_table_path(kind, buffer),
+        RecordForm::ModuleTypeReference => parse_module_type_reference(kind, buffer),
+        RecordForm::MiniReference => parse_mini_reference(kind, buffer),
+        RecordForm::Discarded => parse_discarded(kind, buffer),
+        RecordForm::Compile => parse_compile(kind, buffer),
+        RecordForm::StartSearch => parse_start_search(kind, buffer),
+        RecordForm::EndOfArguments => Ok(Record::EndOfArguments),
+        RecordForm::Slot => parse_slot(kind, buffer),
+        RecordForm::ManagedSlot => parse_managed_slot(kind, buffer),
+        RecordForm::ManagedFrameRelative => parse_managed_frame_relative(kind, buffer),
+        RecordForm::ManagedRegister => parse_managed_register(kind, buffer),
+        RecordForm::ManagedRegisterRelative => parse_managed_register_relative(kind, buffer),
     }
 }

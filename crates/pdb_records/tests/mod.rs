@@ -1,6 +1,7 @@
 //! Worked examples: bytes, and what they mean.
 
 mod damaged;
+mod further;
 mod names;
 mod registers;
 mod rows;

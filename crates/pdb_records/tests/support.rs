@@ -97,3 +97,12 @@ pub fn has_strings(
     is(rt, label, &it.next(), &Ok(None));
     Ok(())
 }
+
+/// A record's bytes: its kind, and two parts behind it.
+pub fn record(alloc: Global, kind: u16, body: &[u8], more: &[u8]) -> Result<Vec<u8>> {
+    let mut bytes = Vec::new(alloc);
+    bytes.extend_from_slice(&kind.to_le_bytes())?;
+    bytes.extend_from_slice(body)?;
+    bytes.extend_from_slice(more)?;
+    Ok(bytes)
+}

@@ -27,7 +27,7 @@ fn no_kind_is_read_by_both_layers(rt: HostRuntime) {
             }
         }
     }
-    is(&rt, "further records", &further, &30);
+    is(&rt, "further records", &further, &57);
     is(&rt, "forms", &forms, &66);
 }
 
