@@ -35,7 +35,12 @@ fn name_of(kind: u16) -> &'static [u8] {
 
 #[test]
 fn slots(rt: HostRuntime) -> Result<()> {
-    let rows = [(0x111a, false), (0x111b, true), (0x1017, false), (0x1018, true)];
+    let rows = [
+        (0x111a, false),
+        (0x111b, true),
+        (0x1017, false),
+        (0x1018, true),
+    ];
     for (kind, param) in rows {
         let body = b"\x02\x01\0\0\x74\0\0\x03";
         let bytes = record(rt.alloc(), kind, body, name_of(kind))?;
@@ -147,7 +152,13 @@ fn records_of_older_compilers(rt: HostRuntime) -> Result<()> {
         section: 0x0605,
     });
     says(&rt, rt.alloc(), "a search", bytes, &wanted)?;
-    says(&rt, rt.alloc(), "the end", b"\x0a\0", &Record::EndOfArguments)
+    says(
+        &rt,
+        rt.alloc(),
+        "the end",
+        b"\x0a\0",
+        &Record::EndOfArguments,
+    )
 }
 
 #[test]
@@ -159,7 +170,9 @@ fn what_was_discarded(rt: HostRuntime) -> Result<()> {
         (3, Discard::Unknown(3)),
     ];
     for (number, why) in rows {
-        let bytes = [0x3b, 0x11, number, 7, 0, 0, 2, 1, 0, 0, 10, 0, 3, 0, 0, 0x11];
+        let bytes = [
+            0x3b, 0x11, number, 7, 0, 0, 2, 1, 0, 0, 10, 0, 3, 0, 0, 0x11,
+        ];
         let wanted = Record::Discarded(Discarded {
             why,
             file: 258,
