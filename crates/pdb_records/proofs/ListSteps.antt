@@ -1,8 +1,7 @@
 -- One turn of an iterator over a lent list.
-use Rattle.std.proofs.Common.{◌≡◌, ℕ, suc, ◌+◌, ◌-◌, ◌*◌, ◌/◌, ◌<◌, ◌≤◌, List, [], ◌∷◌, ◌++◌, length, map, Option, None, refl, ap, arith}
-use Rattle.std.specs.List.{range_with_len}
+use Rattle.std.proofs.Common.{◌≡◌, ℕ, suc, ◌+◌, ◌-◌, ◌*◌, ◌/◌, ◌<◌, ◌≤◌, List, [], ◌∷◌, length, None, refl, ap, arith}
 use Rattle.std.proofs.lemmas.List.FromFn.{length-map-range_with_len}
-use Rattle.pdb_base.specs.Left.{Left, Follows, Ends, ended}
+use Rattle.pdb_base.specs.Left.{Left, Follows, Ends}
 use Rattle.pdb_records.specs.RecordLists.{items_from}
 
 -- the item at the place, and then those behind it

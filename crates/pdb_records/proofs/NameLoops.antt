@@ -1,14 +1,14 @@
 -- Loops that pass names, and the lists that are lent.
-use Rattle.std.proofs.Common.{◌≡◌, ℕ, zero, suc, ◌+◌, ◌-◌, ◌<◌, ◌≤◌, Bool, true, false, List, [], ◌∷◌, length, drop, Option, None, Result, Ok, Err, refl, sym, ap, ◌∙◌, arith, length-drop, drop-drop}
+use Rattle.std.proofs.Common.{◌≡◌, ℕ, zero, suc, ◌+◌, ◌-◌, ◌<◌, ◌≤◌, Bool, true, false, List, [], ◌∷◌, length, drop, Result, Ok, Err, refl, sym, ap, ◌∙◌, arith, length-drop, drop-drop}
 use Rattle.std.specs.Prelude.{nat_le, position, ◌==◌}
 use Rattle.std.proofs.lemmas.Bool.Decides.{nat_tests}
 use Rattle.pdb_base.specs.declared.error.Error.{Error}
 use Rattle.pdb_base.specs.Refusal.{◌>>=◌}
 use Rattle.pdb_base.specs.Fields.{number_at, cstring_at, cut_at}
 use Rattle.pdb_base.specs.Layouts.{list_at, cstring, together_at}
-use Rattle.pdb_base.proofs.Places.{bind_ok, cstring_is}
+use Rattle.pdb_base.proofs.Places.{bind_ok}
 use Rattle.pdb_records.specs.RecordLists.{names_from, name_and}
-use Rattle.pdb_records.specs.RecordParts.{further, names_within, names_at, names_counted, names_passed, counted_names_at}
+use Rattle.pdb_records.specs.RecordParts.{names_within, names_at, names_counted, names_passed, counted_names_at}
 use Rattle.pdb_records.proofs.NameParts.{behind_name, names_one, names_none}
 
 -- ---- bytes of which a front is left out

@@ -1,12 +1,11 @@
 -- What is read of names up to the first empty one is what stands there, and it is refused only at the end.
-use Rattle.std.proofs.Common.{◌≡◌, ℕ, zero, suc, ◌+◌, ◌-◌, ◌<◌, ◌≤◌, Bool, true, false, cond, List, [], ◌∷◌, length, Result, Ok, Err, refl, sym, ap, ◌∙◌, arith, ◌⊎◌, inl, inr}
+use Rattle.std.proofs.Common.{◌≡◌, ℕ, zero, suc, ◌+◌, ◌-◌, ◌<◌, ◌≤◌, Bool, true, false, cond, List, [], ◌∷◌, length, Result, Ok, refl, sym, ◌∙◌, arith, inl, inr}
 use Rattle.std.specs.Prelude.{nat_le}
 use Rattle.std.specs.Int.{w64}
 use Rattle.std.proofs.lemmas.Bool.Decides.{nat_tests}
 use Rattle.pdb_base.specs.declared.error.Error.{Error}
 use Rattle.pdb_base.specs.Refusal.{◌>>=◌}
 use Rattle.pdb_base.specs.Fields.{cstring_at}
-use Rattle.pdb_base.specs.Places.{IsCString}
 use Rattle.pdb_base.proofs.Places.{bind_ok, OnlyEof, bind_eof, ok_eof, cstring_is, is_cstring, cstring_eof}
 use Rattle.pdb_base.proofs.Variants.{signed_is, is_signed, signed_eof}
 use Rattle.pdb_base.proofs.Layouts.{Tells, Ends}

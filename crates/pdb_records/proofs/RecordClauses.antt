@@ -1,5 +1,5 @@
 -- The clauses of parsing, from what is read.
-use Rattle.std.proofs.Common.{◌≡◌, ℕ, List, None, Result, Ok, Err, ◌⊎◌, inl, inr}
+use Rattle.std.proofs.Common.{◌≡◌, ℕ, List, None, Result, Ok, Err, inl, inr}
 use Rattle.std.specs.Prelude.{◌↔◌, IfOk, IfErr, IsOkAnd, IsErrOf}
 use Rattle.pdb_base.specs.declared.error.Error.{Error}
 use Rattle.pdb_base.specs.declared.error.Error.TheVariants.{UnimplementedSymbolKind}

@@ -1,5 +1,5 @@
 -- Machines: which one a number of a processor means, and which registers frames count from.
-use Rattle.std.specs.Prelude.{ℕ, List, [], ◌∷◌, Option, Some, None, ◌==◌, nat_lt, ◌&&◌, ◌||◌, if◌then◌else◌}
+use Rattle.std.specs.Prelude.{ℕ, List, Option, Some, None, ◌==◌, nat_lt, if◌then◌else◌}
 use Rattle.pdb_base.specs.declared.index.Register.{Register}
 use Rattle.pdb_records.specs.declared.machine.Machine.{Machine}
 use Rattle.pdb_records.specs.declared.machine.Machine.TheVariants.{X86, X64, Arm, Arm64, Mips}
