@@ -1,0 +1,17 @@
+pub mod RecordLists
+pub mod RecordFlags
+pub mod RecordSays
+pub mod RecordParts
+pub mod RecordRows
+pub mod RecordTable
+pub mod RecordReading
+pub mod RecordViews
+pub mod NameRows
+pub mod RegistersX86
+pub mod RegistersX64
+pub mod RegistersArm
+pub mod RegistersArm64
+pub mod RegistersMips
+pub mod RegistersCommon
+pub mod Machines
+pub mod CompilerNames

@@ -1,0 +1,9 @@
+//! Worked examples: bytes, and what they mean.
+
+mod damaged;
+mod further;
+mod names;
+mod registers;
+mod rows;
+mod support;
+mod tables;
