@@ -73,8 +73,8 @@ pub met_occurs : (piece rest name : List ℕ) (at : ℕ) → at ≤ length name 
 met_occurs piece rest name at le m =
     let fits = m.fits in
     record {
-        fits = omega (arith, length-drop at name);
-        reads = λ j l. sym (get_or-take (length piece) _ j 0 (omega arith) ∙ get_or-drop at name j 0) ∙ ap (λ xs. get_or xs j 0) m.begins;
+      fits = omega (arith, length-drop at name);
+      reads = λ j l. sym (get_or-take (length piece) _ j 0 (omega arith) ∙ get_or-drop at name j 0) ∙ ap (λ xs. get_or xs j 0) m.begins;
     }
 
 -- ---- from some place on
@@ -161,8 +161,8 @@ from_zero k = omega arith
 pub first_piece : (piece rest name : List ℕ) → NoStar piece → OccursAt name piece 0 → from_somewhere (matches rest) (drop (length piece) name) ≡ matches (piece ++ 42 ∷ rest) name
 first_piece piece rest name n h =
     same_tests _ _
-        (λ m. rw (split_at name piece 0 h) (piece_met piece (42 ∷ rest) (drop (0 + length piece) name) n (rw (from_zero (length piece)) m)))
-        (λ m. (piece_meets piece (42 ∷ rest) name n m).goes_on)
+    (λ m. rw (split_at name piece 0 h) (piece_met piece (42 ∷ rest) (drop (0 + length piece) name) n (rw (from_zero (length piece)) m)))
+    (λ m. (piece_meets piece (42 ∷ rest) name n m).goes_on)
 
 pub no_first_piece : (b : Bool) (piece rest name : List ℕ) → NoStar piece → b ≡ false → (IsTrue b ↔ OccursAt name piece 0) → b ≡ matches (piece ++ rest) name
 no_first_piece b piece rest name n e h = e ∙ sym (false_from_ne_true _ (λ m. false≢true (sym e ∙ h.1 (met_occurs piece rest name 0 (omega arith) (piece_meets piece rest name n m)))))
@@ -171,11 +171,11 @@ no_first_piece b piece rest name n e h = e ∙ sym (false_from_ne_true _ (λ m. 
 pub whole_name : (piece name : List ℕ) → NoStar piece → bytes_eq name piece ≡ matches piece name
 whole_name piece name n =
     same_tests _ _
-        (λ e. let same = (bytes_eq-Decides name piece).0 e in rw same (subst (λ l. matches l l ≡ true) (append-nil piece) (piece_met piece [] [] n refl)))
-        (λ m. let met = piece_meets piece [] name n (subst (λ l. matches l name ≡ true) (sym (append-nil piece)) m) in
-            let fits = met.fits in
-            let whole : take (length piece) name ≡ name = take_all (length piece) name (omega (arith, fits, is_empty_length _ met.goes_on, length-drop (length piece) name)) in
-            (bytes_eq-Decides name piece).1 (sym whole ∙ met.begins))
+    (λ e. let same = (bytes_eq-Decides name piece).0 e in rw same (subst (λ l. matches l l ≡ true) (append-nil piece) (piece_met piece [] [] n refl)))
+    (λ m. let met = piece_meets piece [] name n (subst (λ l. matches l name ≡ true) (sym (append-nil piece)) m) in
+    let fits = met.fits in
+    let whole : take (length piece) name ≡ name = take_all (length piece) name (omega (arith, fits, is_empty_length _ met.goes_on, length-drop (length piece) name)) in
+    (bytes_eq-Decides name piece).1 (sym whole ∙ met.begins))
 
 -- ---- a pattern by its first star
 

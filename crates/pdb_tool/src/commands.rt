@@ -114,9 +114,7 @@ pub fn write_modules<'s, S: Source<'s>, T: ModuleText, W: Write>(
 
 // piece: strings_of
 /// The string table; none where it is refused.
-pub fn strings_of<'s, S: Source<'s>>(
-    pdb: &mut PDB<'s, S>,
-) -> Result<Option<StringTable<'s>>, Stop>
+pub fn strings_of<'s, S: Source<'s>>(pdb: &mut PDB<'s, S>) -> Result<Option<StringTable<'s>>, Stop>
     ensures continues { Continues pdb.old pdb.new }
     ensures is { IfOk result (λ o. o ≡ if_read (string_table_in pdb.old.file)) }
     ensures unwritten { IfErr result (λ e. (e ≡ Stop.Memory) ⊎ (e ≡ Stop.Read)) }

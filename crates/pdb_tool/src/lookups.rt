@@ -226,13 +226,7 @@ fn asking_by<'w, 'a>(
 {
     let ids = ids_of(alloc, ids).map_err(stop_of)?;
     let types = types_of(alloc, types).map_err(stop_of)?;
-    Ok(Asking::new(
-        asked,
-        strings,
-        ids,
-        types,
-        PlaceAddresses::new(addresses),
-    ))
+    Ok(Asking::new(asked, strings, ids, types, PlaceAddresses::new(addresses)))
 }
 
 /// Writes which addresses lines of a source's file have that are asked for.
@@ -253,6 +247,13 @@ pub fn write_where<'w, 's, S: Source<'s>, W: Write>(
     let ids = ids_stream(&mut pdb)?;
     let types = types_stream(&mut pdb)?;
     let map = address_map(&mut pdb)?;
-    let asking = asking_by(alloc, asked, strings.as_ref(), ids.as_ref(), types.as_ref(), map)?;
+    let asking = asking_by(
+        alloc,
+        asked,
+        strings.as_ref(),
+        ids.as_ref(),
+        types.as_ref(),
+        map,
+    )?;
     write_plain(alloc, &mut pdb, &asking, out)
 }

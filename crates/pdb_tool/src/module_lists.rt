@@ -26,10 +26,7 @@ use std::io::Write;
 
 /// How many bytes each module of a file has; none where the contributions can't be read.
 #[tactic(auto, using(crate::proofs::SameSizes::same_sizes))]
-fn module_sizes(
-    alloc: Global,
-    information: &DebugInformation<'_>,
-) -> Result<Vec<u64>, AllocError>
+fn module_sizes(alloc: Global, information: &DebugInformation<'_>) -> Result<Vec<u64>, AllocError>
     ensures { IfOk result (λ v. size_in v.items ≡ bytes_of_module (items_of (contributions_in information.now))) }
 {
     match information.section_contributions() {

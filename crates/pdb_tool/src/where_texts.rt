@@ -142,7 +142,15 @@ fn put_symbol<'a>(
 {
     match symbol.parse(alloc) {
         Ok(parsed) => {
-            put_says(out, asking, program, known, *parent, symbol.index().0, &parsed)?;
+            put_says(
+                out,
+                asking,
+                program,
+                known,
+                *parent,
+                symbol.index().0,
+                &parsed,
+            )?;
             *parent = parent_behind(*parent, &parsed);
             Ok(())
         }
@@ -207,7 +215,14 @@ pub fn put_where<'a>(
     match info.line_program(alloc) {
         Ok(program) => {
             let mut functions = FunctionsOf::new(info);
-            put_records(alloc, out, asking, &mut functions, &program, program.lines())?;
+            put_records(
+                alloc,
+                out,
+                asking,
+                &mut functions,
+                &program,
+                program.lines(),
+            )?;
             put_sites(alloc, out, asking, Some(&program), info)
         }
         Err(e) => {
