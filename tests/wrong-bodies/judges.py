@@ -8,6 +8,7 @@ import re
 FUNCTION = re.compile(r"(?m)^[ \t]*(pub(?:\([a-z]+\))? )?(?:final )?(?:const )?(?:extern \"C\" )?fn (\w+)[^{;]*(?:\{[^{}]*(?:\{[^{}]*\}[^{}]*)*\}\n[^{;]*?)*?(?=^[ \t]*\{$|\{\n|;)")
 CONSTANT = re.compile(r"(?m)^[ \t]*(pub(?:\([a-z]+\))? )?(?:const|static) ([A-Z_0-9]+):[^;]*;")
 TYPE = re.compile(r"(?m)^(pub(?:\([a-z]+\))? )?(?:struct|enum) (\w+)")
+TRAIT = re.compile(r"(?m)^(?:pub(?:\([a-z]+\))? )?trait \w+")
 MODEL = re.compile(r"(?m)^(impl)\b[^\n{]*\bModel for (\w+)")
 # What a file brings from specs/: names in braces, or a module under another name.
 NAMES = re.compile(r"\buse Rattle\.\w+\.specs\.(\w+)[\w.]*\.\{([^}]*)\}")
@@ -24,6 +25,12 @@ def text_of(path):
 
 def words_of(text):
     return set(re.split(r"[\s(){};,.:\[\]]+", text))
+
+
+def named_in(text):
+    """The functions that a text calls, names behind `::` or brings in, and each word that begins as types and constants do."""
+    brought = " ".join(re.findall(r"(?m)^use [^;]*;", text))
+    return set(re.findall(r"\b[A-Z]\w*|\b\w+(?=\(|::<)|(?<=::)\w+", text)) | set(re.findall(r"\w+", brought))
 
 
 class Definition:
@@ -105,7 +112,7 @@ class Judges:
     def __init__(self, folders):
         self.definitions = {key: it for folder in folders for key, it in definitions_in(f"{folder}/specs")}
         texts = [(text, folder == folders[-1]) for folder in folders for _, text in sorted(sources_in(f"{folder}/src").items())]
-        self.traits = [it for it, _ in texts if re.search(r"(?m)^(?:pub )?trait ", it)]
+        self.traits = [block_at(it, found.start()) for it, _ in texts for found in TRAIT.finditer(it)]
         self.items = {}
         for text, is_own in texts:
             source = Source(text, is_own)
@@ -114,7 +121,7 @@ class Judges:
 
     def of(self, texts):
         """The texts that decide over mutants of these files, these among them."""
-        words = set().union(*(set(re.findall(r"\w+", it)) for it in texts))
+        words = set().union(*(named_in(it) for it in texts))
         items = [it for name in sorted(words & self.items.keys()) for it in self.items[name]]
         left = set().union(*(cited_in(it, dict(brought_in(it))) for it in texts), *(cited_in(*it) for it in items))
         found = set()
