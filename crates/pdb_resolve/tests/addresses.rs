@@ -1,9 +1,11 @@
 //! The places of addresses.
 
-use crate::AddressPlaces;
 use crate::sections::place_among;
 use crate::tests::files::{file_of, is, numbers, put};
-use pdb::{ImageSectionHeader, MemorySource, PDB, ParseBuffer, Result, Steps};
+use crate::{AddressPlaces, PlaceAddresses};
+use pdb::{
+    ImageSectionHeader, MemorySource, PDB, ParseBuffer, PdbInternalSectionOffset, Result, Steps,
+};
 use std::alloc::Global;
 use std::process::Abort;
 
@@ -162,5 +164,98 @@ fn a_section_number_has_two_bytes(rt: HostRuntime) -> Result<()> {
     is(&rt, "number 65535", &last, &Some((65535, 7)));
     let behind = place_among(&sections, 0x17, steps).map(|it| (it.section, it.offset));
     is(&rt, "number 65536", &behind, &None);
+    Ok(())
+}
+
+/// These places of a file have these addresses.
+fn addresses_are(
+    rt: &impl Abort,
+    alloc: Global,
+    file: &[u8],
+    rows: &[((u16, u32), Option<u32>)],
+) -> Result<()> {
+    let mut pdb = PDB::open(alloc, MemorySource::new(file))?;
+    let addresses = PlaceAddresses::new(Some(pdb.address_map()?));
+    for ((section, offset), wanted) in rows {
+        let place = PdbInternalSectionOffset {
+            offset: *offset,
+            section: *section,
+        };
+        let given = addresses.address(place);
+        is(
+            rt,
+            "address",
+            &(*section, *offset, given),
+            &(*section, *offset, *wanted),
+        );
+    }
+    Ok(())
+}
+
+#[test]
+fn places_lead_back_to_addresses(rt: HostRuntime) -> Result<()> {
+    let pairs = [
+        0x1000,
+        0x300,
+        0x1100,
+        0,
+        0x2000,
+        0x1100,
+        0xffff_fff0,
+        0xffff_fffe,
+    ];
+    let own = headers(rt.alloc(), &OWN)?;
+    let original = headers(rt.alloc(), &ORIGINAL)?;
+    let dbi = dbi(rt.alloc(), 6, 5, 8)?;
+    let table = numbers(rt.alloc(), &pairs)?;
+    let file = file_of(rt.alloc(), &dbi, &table, &own, &original)?;
+    let rows = [
+        ((0, 0), None),
+        ((1, 0), Some(0x300)),
+        ((1, 0xff), Some(0x3ff)),
+        ((1, 0x100), None),
+        ((2, 0x7f), Some(0x3ff)),
+        ((2, 0x80), None),
+        ((2, 0x1ff), None),
+        ((3, 0), None),
+        ((4, 0xf), Some(0x110f)),
+        ((5, 1), Some(0xffff_ffff)),
+        ((5, 2), None),
+        ((5, 0x10), None),
+        ((6, 0), None),
+    ];
+    addresses_are(&rt, rt.alloc(), &file, &rows)?;
+    let later = numbers(rt.alloc(), &[0x1001, 0x300])?;
+    let file = file_of(rt.alloc(), &dbi, &later, &own, &original)?;
+    addresses_are(
+        &rt,
+        rt.alloc(),
+        &file,
+        &[((1, 0), None), ((1, 1), Some(0x300))],
+    )
+}
+
+#[test]
+fn without_a_map_places_are_in_the_own_sections(rt: HostRuntime) -> Result<()> {
+    let own = headers(rt.alloc(), &OWN)?;
+    let dbi = dbi(rt.alloc(), 255, 255, 255)?;
+    let file = file_of(rt.alloc(), &dbi, b"-", &own, b"-")?;
+    let rows = [
+        ((1, 0), Some(0x5000)),
+        ((1, 0xff), Some(0x50ff)),
+        ((1, 0x100), None),
+        ((2, 0), None),
+    ];
+    addresses_are(&rt, rt.alloc(), &file, &rows)?;
+    let place = PdbInternalSectionOffset {
+        offset: 0,
+        section: 1,
+    };
+    is(
+        &rt,
+        "no map",
+        &PlaceAddresses::new(None).address(place).is_none(),
+        &true,
+    );
     Ok(())
 }
