@@ -1,15 +1,14 @@
 -- The last colon of a word, and words that no text is.
-use Rattle.std.proofs.Common.{◌≡◌, ℕ, zero, suc, ◌+◌, ◌<◌, ◌≤◌, List, [], ◌∷◌, length, Bool, true, false, ◌&&◌, ◌==◌, cond, nat_lt, nat_le, Option, Some, None, refl, sym, ap, ◌∙◌, arith, All}
+use Rattle.std.proofs.Common.{◌≡◌, ℕ, zero, suc, ◌+◌, ◌<◌, List, [], ◌∷◌, length, true, ◌&&◌, ◌==◌, nat_lt, nat_le, Option, Some, None, refl, sym, ap, arith, All}
 use Rattle.std.proofs.lemmas.Bool.{false_from_ne_true, and_parts, leb-true}
 use Rattle.std.proofs.lemmas.Str.{IsUtf8-from_ascii}
 use Rattle.std.proofs.lemmas.Str.Ascii.{IsAscii-from_all}
 use Rattle.std.specs.Char.{is_ascii_digit}
 use Rattle.std.specs.List.{list_all}
-use Rattle.std.specs.Option.{option_map, option_or}
 use Rattle.std.specs.Str.{IsUtf8}
-use Rattle.bstr.specs.Find.{IsLastByte, NoneAfter, Nowhere, Passes, is_byte}
+use Rattle.bstr.specs.Find.{IsLastByte, Nowhere, Passes, is_byte}
 use Rattle.pdb_text.specs.Numbers.{is_short_numeral, long_number_in}
-use Rattle.pdb_tool.specs.SourcesAsked.{further, last_colon}
+use Rattle.pdb_tool.specs.SourcesAsked.{last_colon}
 
 -- ---- the last colon
 

@@ -1,12 +1,12 @@
 -- Names that match a pattern, piece by piece.
-use Rattle.std.proofs.Common.{◌≡◌, ℕ, zero, suc, ◌+◌, ◌-◌, ◌<◌, ◌≤◌, List, [], ◌∷◌, ◌++◌, length, take, drop, Bool, true, false, ◌&&◌, ◌||◌, ◌==◌, cond, refl, sym, ap, subst, ◌∙◌, arith, ⊎_elim, get_or, ext_get_or, get_or-take, get_or-drop, length-drop, length-take-le, take-append-drop, drop-drop, drop-cons, take_all, append-nil, IsTrue, ◌↔◌}
+use Rattle.std.proofs.Common.{◌≡◌, ℕ, zero, suc, ◌+◌, ◌-◌, ◌<◌, ◌≤◌, List, [], ◌∷◌, ◌++◌, length, take, drop, Bool, true, false, ◌==◌, refl, sym, ap, subst, ◌∙◌, arith, ⊎_elim, get_or, ext_get_or, get_or-take, get_or-drop, length-drop, length-take-le, take-append-drop, drop-drop, drop-cons, take_all, append-nil, IsTrue, ◌↔◌}
 use Rattle.std.proofs.lemmas.List.{drop_all}
 use Rattle.std.proofs.Math.Seq.{take-length}
 use Rattle.std.specs.Str.{bytes_eq}
 use Rattle.std.proofs.lemmas.Slice.Eq.{bytes_eq-Decides}
 use Rattle.std.proofs.lemmas.Bool.{and_parts, and_from, or_left, or_right, or_cases, eqb-true, eq-eqb, false_from_ne_true, false≢true}
 use Rattle.bstr.specs.Find.{OccursAt, NoneBefore, Nowhere, Passes, is_byte}
-use Rattle.pdb_tool.specs.Wildcards.{begins_with, from_somewhere, is_empty, matches}
+use Rattle.pdb_tool.specs.Wildcards.{from_somewhere, is_empty, matches}
 
 -- ---- two tests that say the same
 

@@ -3,7 +3,6 @@ use Rattle.std.specs.Prelude.{ℕ, ◌+◌, List, [], ◌∷◌, ◌++◌, ◌||
 use Rattle.std.specs.Str.{bytes_eq}
 use Rattle.std.specs.Fmt.{decimal}
 use Rattle.pdb.specs.Left.{Left}
-use Rattle.pdb.specs.Refusal.{◌>>=◌}
 use Rattle.pdb.specs.Contributions.{contributions_in}
 use Rattle.pdb.specs.Modules.{ModuleEntry, modules_in}
 use Rattle.pdb.specs.Answers.{debug_information_in}

@@ -1,5 +1,4 @@
-use Rattle.std.proofs.Common.{length, ◌≡◌, ℕ, ◌+◌, ◌-◌, ◌*◌, ◌<◌, ◌≤◌}
-use Rattle.pdb_tool.specs.Wildcards.{from_somewhere, matches}
+use Rattle.std.proofs.Common.{length}
 use Rattle.pdb_tool.proofs.wildcards.+matches_somewhere.Given as goal
 
 abbrev pub decreases-matches_somewhere : goal.decreases-matches_somewhere
