@@ -1,5 +1,5 @@
-"""list.py FILE COMMAND..: the lines that `pdb_list FILE COMMAND..` has for info, modules, globals, symbols K, lines K, files K,
-inlinees K, imports K INDEX and exports K.
+"""list.py FILE COMMAND..: the lines that `pdb_list FILE COMMAND..` has for info, names, sections, modules, contributions,
+globals, symbols K, lines K, files K, inlinees K, imports K INDEX and exports K.
 
     python3 examples/list.py FILE COMMAND..
 """
@@ -12,9 +12,14 @@ import pdbreader  # noqa: E402
 from pdbreader import Form  # noqa: E402
 
 OUT = sys.stdout.buffer.write
-USAGE = "usage: list.py FILE COMMAND.., of info, modules, globals, symbols K, lines K, files K, inlinees K, imports K INDEX, exports K"
+USAGE = """usage: list.py FILE COMMAND.., of info, names, sections, modules, contributions, globals, symbols K, lines K, files K, \
+inlinees K, imports K INDEX, exports K"""
 # How many numbers stand behind a command.
-NUMBERS = {"info": 0, "modules": 0, "globals": 0, "symbols": 1, "lines": 1, "files": 1, "inlinees": 1, "imports": 2, "exports": 1}
+NUMBERS = {
+    **dict.fromkeys(("info", "names", "sections", "modules", "contributions", "globals"), 0),
+    **dict.fromkeys(("symbols", "lines", "files", "inlinees", "exports"), 1),
+    "imports": 2,
+}
 FORMS = {it: "".join(map(str.capitalize, it.name.split("_"))).encode() for it in Form}
 VERSIONS = {930803: b"V41", 19960307: b"V50", 19970606: b"V60", 19990903: b"V70", 20091201: b"V110"}
 MACHINES = {
@@ -55,6 +60,27 @@ def info(file):
     OUT(b"info %s %d %d %s\n" % (VERSIONS.get(it.version, b"%d" % it.version), it.signature, it.age, it.guid.hex.encode()))
     header = file.debug_information
     OUT(b"dbi %s %s\n" % (or_dash(header.age or None), MACHINES.get(header.machine, b"Unknown")))
+
+
+def names(file):
+    for it in file.stream_names():
+        OUT(b"name %s %s\n" % (or_dash(it.number), it.name))
+
+
+def sections(file):
+    try:
+        for it in file.sections():
+            memory = b"%08x %08x" % (it.virtual_size, it.virtual_address)
+            data = b"%08x %08x" % (it.size_of_raw_data, it.pointer_to_raw_data)
+            OUT(b"section %s %s %08x %s\n" % (memory, data, it.characteristics, it.name))
+    except pdbreader.SectionsNotFound:
+        OUT(b"none\n")
+
+
+def contributions(file):
+    for it in file.contributions():
+        numbers = (it.size, it.characteristics, it.module, it.data_crc, it.reloc_crc)
+        OUT(b"contribution %04x:%08x %d %08x %d %08x %08x\n" % (it.section, it.offset, *numbers))
 
 
 def modules(file):
@@ -133,11 +159,13 @@ def put_of_module(file, command, k, *index):
         put_exports(module.exports())
 
 
+# What prints the lines of a command without a module.
+PLAIN = {"info": info, "names": names, "sections": sections, "modules": modules, "contributions": contributions}
+
+
 def put(file, command, numbers):
-    if command == "info":
-        info(file)
-    elif command == "modules":
-        modules(file)
+    if command in PLAIN:
+        PLAIN[command](file)
     elif command == "globals":
         put_symbols(file.global_symbols())
     else:

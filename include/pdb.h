@@ -15,12 +15,13 @@
  * Buffers A parameter room, room_size, rows_room or names_room is the capacity of the buffer before it, in records or, for
  *         uint8_t, in bytes. Where a capacity is too small the call writes what fits, returns PDB_ROOM, and sets how much
  *         there is: call with capacity 0 to get the size first.
- * Borrow  pdb_module, pdb_symbol, pdb_file, pdb_import and a name of pdb_name point into the bytes that were passed in that
- *         call. They are valid as long as these stay where they are, unchanged. No zero byte ends a name: use sizes.
+ * Borrow  pdb_module, pdb_symbol, pdb_file, pdb_import, pdb_image_t and a name of pdb_name point into the bytes that were
+ *         passed in that call. They are valid as long as these stay where they are, unchanged. No zero byte ends a name: use sizes.
  * Memory  Calls that may take memory say so. All of it is freed before they return. Where malloc fails, they return
  *         PDB_OUT_OF_MEMORY; nothing aborts, and the same call may be made again. What a buffer then holds is unspecified,
  *         and each count is 0; pdb_symbols and pdb_global_symbols count the symbols before the one that takes memory.
- * Codes   0, or the number of an error from 1 to 22, or one of the codes behind them.
+ * Codes   0, or the number of an error from 1 to 22, or one of the codes behind them. 34 to 38 are errors of images, which
+ *         pdb_image alone returns.
  * Changes A later libpdb.so.0 may add calls, constants and error codes: treat an unknown code as an error. It keeps each
  *         call, record and constant as it is; a library that changes one is libpdb.so.1.
  */
@@ -65,7 +66,13 @@ enum {
     PDB_OUT_OF_MEMORY = 22,                    /* malloc failed */
     PDB_END = 30,                              /* the list has ended */
     PDB_ROOM = 31,                             /* a buffer is too small; the call sets how much there is */
-    PDB_LARGE = 32                             /* more bytes than a stream can have: 4294967295 or more */
+    PDB_LARGE = 32,                            /* more bytes than a stream can have: 4294967295 or more */
+    PDB_SECTIONS_NOT_FOUND = 33,               /* no stream of section headers */
+    PDB_NOT_AN_IMAGE = 34,                     /* no image: it doesn't begin with the bytes MZ */
+    PDB_NO_PE_SIGNATURE = 35,                  /* the number at offset 60 doesn't lead to the bytes PE 0 0 */
+    PDB_UNKNOWN_OPTIONAL_HEADER = 36,          /* the optional header is that of neither PE32 nor PE32+ */
+    PDB_NB10 = 37,                             /* the image names a PDB of version 2.00 */
+    PDB_UNKNOWN_CODE_VIEW = 38                 /* the debug record begins with neither RSDS nor NB10 */
 };
 
 #define PDB_NOTHING ((const uint8_t *)"")
@@ -122,6 +129,41 @@ pdb_code pdb_streams(const uint8_t *file, size_t file_size, const uint16_t *numb
 pdb_code pdb_named_stream(const uint8_t *file, size_t file_size, const uint8_t *name, size_t name_size,
                           uint8_t *room, size_t room_size, size_t *size);
 
+typedef struct pdb_stream_name {
+    size_t at;       /* the offset of the name in names */
+    size_t size;     /* the number of its bytes */
+    uint32_t number; /* of the stream; not every number is that of a stream */
+} pdb_stream_name;
+
+/* The named streams, in the order in which the file lists them, and their names one after the other; the first of equal
+ * names counts. *count is how many there are, and *size how many bytes their names have. PDB_ROOM where either buffer is too
+ * small; what fits is written. Any other code but 0 is why the file can't be opened, why its names can't be read, or
+ * PDB_OUT_OF_MEMORY: then nothing is written, and *count and *size are 0. Takes memory. */
+pdb_code pdb_stream_names(const uint8_t *file, size_t file_size, pdb_stream_name *records, size_t room, size_t *count,
+                          uint8_t *names, size_t names_room, size_t *size);
+
+/* ---- Sections of the image, as the file has their headers. */
+
+/* The fields of IMAGE_SECTION_HEADER. Sections count from 1: records[0] is section 1 of pdb_symbol and pdb_address. */
+typedef struct pdb_section {
+    uint8_t name[8];                  /* with zero bytes behind it where it is shorter */
+    uint32_t name_size;               /* how many of these bytes stand before the first zero byte: 0 to 8 */
+    uint32_t virtual_size;            /* its bytes in memory */
+    uint32_t virtual_address;         /* relative to the load address */
+    uint32_t size_of_raw_data;        /* its bytes in the image's file */
+    uint32_t pointer_to_raw_data;     /* their offset in the image's file */
+    uint32_t pointer_to_relocations;  /* the same of its relocations, */
+    uint32_t pointer_to_line_numbers; /* and of its line numbers */
+    uint16_t number_of_relocations;
+    uint16_t number_of_line_numbers;
+    uint32_t characteristics;         /* IMAGE_SCN_.. */
+} pdb_section;
+
+/* The section headers; *count is how many there are. PDB_SECTIONS_NOT_FOUND where the file has no stream of them. Any other
+ * code but 0 and PDB_ROOM is why the file can't be opened, why the headers can't be read, or PDB_OUT_OF_MEMORY. On each of
+ * these errors nothing is written, and *count is 0. Takes memory. */
+pdb_code pdb_sections(const uint8_t *file, size_t file_size, pdb_section *records, size_t room, size_t *count);
+
 /* ---- Modules, of the DBI stream's bytes. */
 
 typedef struct pdb_module {
@@ -136,6 +178,22 @@ typedef struct pdb_module {
 /* The listed modules; *count is how many there are. A module takes at least 68 bytes of dbi. An error is that of the whole
  * list (*count is 0), or one behind the *count modules before it. Takes no memory. */
 pdb_code pdb_modules(const uint8_t *dbi, size_t dbi_size, pdb_module *records, size_t room, size_t *count);
+
+/* ---- Section contributions, of the DBI stream's bytes: which bytes of the image came from which module. */
+
+typedef struct pdb_contribution {
+    size_t module;            /* its index in the list of pdb_modules, from 0 */
+    uint32_t offset;          /* the offset of the first byte in the section */
+    uint32_t size;            /* how many bytes */
+    uint32_t characteristics; /* IMAGE_SCN_.. of the object file's section from which they came */
+    uint32_t data_crc;        /* a checksum of the bytes */
+    uint32_t reloc_crc;       /* a checksum of their relocations */
+    uint16_t section;         /* from 1 */
+} pdb_contribution;
+
+/* The contributions; *count is how many there are. A contribution takes at least 28 bytes of dbi. An error is that of the
+ * whole list (*count is 0), or one behind the *count contributions before it. Takes no memory. */
+pdb_code pdb_contributions(const uint8_t *dbi, size_t dbi_size, pdb_contribution *records, size_t room, size_t *count);
 
 /* ---- Symbols, as many as the buffer holds. */
 
@@ -292,6 +350,23 @@ typedef struct pdb_frame {
  * present. The file is opened once. PDB_ROOM where either buffer is too small; what fits is written. Takes memory. */
 pdb_code pdb_frames(const uint8_t *file, size_t file_size, const pdb_address *addresses, size_t addresses_count,
                     pdb_frame *frames, size_t room, size_t *count, uint8_t *names, size_t names_room, size_t *size);
+
+/* ---- Images: an EXE or a DLL in the PE format. */
+
+typedef struct pdb_image_t {
+    pdb_bytes path;      /* of its PDB, as the linker was given it; borrows image */
+    uint64_t base;       /* the address at which it wants to be loaded */
+    uint8_t guid[16];    /* of its PDB, in the order in which a GUID is printed: that of pdb_information_t */
+    uint32_t machine;    /* IMAGE_FILE_MACHINE_.. */
+    uint32_t time_stamp; /* its own key is this number as %08X, */
+    uint32_t size;       /* and this one, its bytes in memory, as %x */
+    uint32_t age;        /* of its PDB: that of pdb_debug_information_t */
+    uint32_t has_pdb;    /* 1 or 0: whether it names a PDB; where it names none, path is empty, and guid and age are 0 */
+} pdb_image_t;
+
+/* What an image says, by all its bytes. PDB_UNEXPECTED_EOF where bytes are not present, or one of the codes from
+ * PDB_NOT_AN_IMAGE to PDB_UNKNOWN_CODE_VIEW; on an error *out is unchanged. Takes no memory. */
+pdb_code pdb_image(const uint8_t *image, size_t image_size, pdb_image_t *out);
 
 #ifdef __cplusplus
 }

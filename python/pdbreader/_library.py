@@ -5,7 +5,7 @@ import ctypes as c
 import os
 from typing import Any, List, Tuple
 
-u8, u16, u32, size_t = c.c_uint8, c.c_uint16, c.c_uint32, c.c_size_t
+u8, u16, u32, u64, size_t = c.c_uint8, c.c_uint16, c.c_uint32, c.c_uint64, c.c_size_t
 
 
 def _all(kind: Any, *names: str) -> List[Tuple[str, Any]]:
@@ -32,8 +32,30 @@ class Stream(c.Structure):
     _fields_ = [*_all(size_t, "at", "size"), *_all(u32, "number", "code")]
 
 
+class StreamName(c.Structure):
+    _fields_ = [*_all(size_t, "at", "size"), ("number", u32)]
+
+
+class Section(c.Structure):
+    _fields_ = [
+        ("name", u8 * 8),
+        *_all(u32, "name_size", "virtual_size", "virtual_address", "size_of_raw_data", "pointer_to_raw_data"),
+        *_all(u32, "pointer_to_relocations", "pointer_to_line_numbers"),
+        *_all(u16, "number_of_relocations", "number_of_line_numbers"),
+        ("characteristics", u32),
+    ]
+
+
 class Module(c.Structure):
     _fields_ = [*_all(Bytes, "name", "object"), *_all(u32, "stream", "symbols_size", "lines_size", "c13_lines_size")]
+
+
+class Contribution(c.Structure):
+    _fields_ = [
+        ("module", size_t),
+        *_all(u32, "offset", "size", "characteristics", "data_crc", "reloc_crc"),
+        ("section", u16),
+    ]
 
 
 class Symbol(c.Structure):
@@ -81,6 +103,15 @@ class Frame(c.Structure):
     ]
 
 
+class Image(c.Structure):
+    _fields_ = [
+        ("path", Bytes),
+        ("base", u64),
+        ("guid", u8 * 16),
+        *_all(u32, "machine", "time_stamp", "size", "age", "has_pdb"),
+    ]
+
+
 def _load() -> c.CDLL:
     """The library that PDB_LIBRARY names; otherwise that of this clone or of this installation, or the system's."""
     here = os.path.dirname(os.path.abspath(__file__))
@@ -111,7 +142,10 @@ _CALLS: Any = {
     "pdb_key": [*_DATA, c.c_char_p, size_t, _SIZE],
     "pdb_streams": [*_DATA, c.POINTER(u16), size_t, c.POINTER(Stream), size_t, c.c_char_p, size_t, _SIZE],
     "pdb_named_stream": [*_DATA, *_DATA, c.c_char_p, size_t, _SIZE],
+    "pdb_stream_names": [*_DATA, *_rows(StreamName), c.c_char_p, size_t, _SIZE],
+    "pdb_sections": [*_DATA, *_rows(Section)],
     "pdb_modules": [*_DATA, *_rows(Module)],
+    "pdb_contributions": [*_DATA, *_rows(Contribution)],
     "pdb_symbols": [*_DATA, u32, c.POINTER(u32), *_rows(Symbol)],
     "pdb_global_symbols": [*_DATA, c.POINTER(u32), *_rows(Symbol)],
     "pdb_lines": [*_DATA, *_SIZES, *_rows(Line)],
@@ -122,6 +156,7 @@ _CALLS: Any = {
     "pdb_exports": [*_DATA, *_SIZES, *_rows(Export)],
     "pdb_name": [*_DATA, u32, c.POINTER(Bytes)],
     "pdb_frames": [*_DATA, c.POINTER(Address), size_t, *_rows(Frame), c.c_char_p, size_t, _SIZE],
+    "pdb_image": [*_DATA, c.POINTER(Image)],
 }
 
 for _name, _types in _CALLS.items():

@@ -151,6 +151,42 @@ class StreamTooLarge(PdbError):
     code = 32
 
 
+class SectionsNotFound(PdbError):
+    """No stream of section headers."""
+
+    code = 33
+
+
+class NotAnImage(PdbError):
+    """No image: it doesn't begin with MZ."""
+
+    code = 34
+
+
+class NoPeSignature(PdbError):
+    """The number at offset 60 doesn't lead to a PE signature."""
+
+    code = 35
+
+
+class UnknownOptionalHeader(PdbError):
+    """The optional header of an image is that of neither PE32 nor PE32+."""
+
+    code = 36
+
+
+class Nb10(PdbError):
+    """The image names a PDB of version 2.00."""
+
+    code = 37
+
+
+class UnknownCodeView(PdbError):
+    """The debug record of an image begins with neither RSDS nor NB10."""
+
+    code = 38
+
+
 _BY_CODE: Dict[int, Type[PdbError]] = {it.code: it for it in PdbError.__subclasses__()}
 
 

@@ -7,7 +7,22 @@ from typing import Iterable, Iterator, List, Tuple, Union
 
 from . import functions
 from .errors import GlobalSymbolsNotFound
-from .records import Address, DebugInformation, Export, Frame, Import, Information, Inlinee, Line, Module, SourceFile, Symbol
+from .records import (
+    Address,
+    Contribution,
+    DebugInformation,
+    Export,
+    Frame,
+    Import,
+    Information,
+    Inlinee,
+    Line,
+    Module,
+    Section,
+    SourceFile,
+    StreamName,
+    Symbol,
+)
 
 _DBI_STREAM = 3
 
@@ -98,6 +113,18 @@ class PdbFile:
     def stream(self, number: int) -> bytes:
         """The bytes of a stream."""
         return functions.stream(self.data, number)
+
+    def stream_names(self) -> List[StreamName]:
+        """The names of its streams, in the order in which it lists them."""
+        return functions.stream_names(self.data)
+
+    def sections(self) -> List[Section]:
+        """The section headers of its image. Raises SectionsNotFound where it has no stream of them."""
+        return functions.sections(self.data)
+
+    def contributions(self) -> Iterator[Contribution]:
+        """Which bytes of the image came from which module."""
+        return functions.contributions(self.stream(_DBI_STREAM))
 
     def modules(self) -> Iterator[PdbModule]:
         """Its modules."""

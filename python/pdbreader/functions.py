@@ -14,16 +14,21 @@ from .errors import PdbError, error_of
 from .records import (
     Address,
     ChecksumKind,
+    Contribution,
     DebugInformation,
     Export,
     Form,
     Frame,
+    Image,
     Import,
     Information,
     Inlinee,
     Line,
     Module,
+    PdbReference,
+    Section,
     SourceFile,
+    StreamName,
     Symbol,
 )
 
@@ -111,6 +116,44 @@ def named_stream(file: bytes, name: bytes) -> bytes:
     return room.raw[: size.value]
 
 
+def stream_names(file: bytes) -> List[StreamName]:
+    """The names of streams, in the order in which the file lists them; the first of equal names counts."""
+    count, size, names = raw.size_t(), raw.size_t(), c.create_string_buffer(1)
+    rows = (raw.StreamName * 0)()
+    code = raw.LIBRARY.pdb_stream_names(file, len(file), rows, 0, count, names, 0, size)
+    if code == _ROOM:
+        rows, names = (raw.StreamName * count.value)(), c.create_string_buffer(max(1, size.value))
+        code = raw.LIBRARY.pdb_stream_names(file, len(file), rows, len(rows), count, names, size.value, size)
+    _check(code)
+    data = names.raw
+    return [StreamName(data[it.at : it.at + it.size], None if it.number == _NO_STREAM else it.number) for it in rows]
+
+
+def sections(file: bytes) -> List[Section]:
+    """The section headers of the image, as the file has them."""
+    rows, count = (raw.Section * 0)(), raw.size_t()
+    code = raw.LIBRARY.pdb_sections(file, len(file), rows, 0, count)
+    if code == _ROOM:
+        rows = (raw.Section * count.value)()
+        code = raw.LIBRARY.pdb_sections(file, len(file), rows, len(rows), count)
+    _check(code)
+    return [
+        Section(
+            name=bytes(it.name)[: it.name_size],
+            virtual_size=it.virtual_size,
+            virtual_address=it.virtual_address,
+            size_of_raw_data=it.size_of_raw_data,
+            pointer_to_raw_data=it.pointer_to_raw_data,
+            pointer_to_relocations=it.pointer_to_relocations,
+            pointer_to_line_numbers=it.pointer_to_line_numbers,
+            number_of_relocations=it.number_of_relocations,
+            number_of_line_numbers=it.number_of_line_numbers,
+            characteristics=it.characteristics,
+        )
+        for it in rows
+    ]
+
+
 def modules(dbi: bytes) -> Iterator[Module]:
     """The modules of the DBI stream, which is stream 3."""
     most = len(dbi) // 68 + 1
@@ -119,6 +162,17 @@ def modules(dbi: bytes) -> Iterator[Module]:
     for it in rows[: count.value]:
         number = None if it.stream == _NO_STREAM else it.stream
         yield Module(it.name.copy(), it.object.copy(), number, it.symbols_size, it.lines_size, it.c13_lines_size)
+    _check(code)
+
+
+def contributions(dbi: bytes) -> Iterator[Contribution]:
+    """The section contributions of the DBI stream: which bytes of the image came from which module."""
+    most = len(dbi) // 28 + 1
+    rows, count = (raw.Contribution * most)(), raw.size_t()
+    code = raw.LIBRARY.pdb_contributions(dbi, len(dbi), rows, most, count)
+    for it in rows[: count.value]:
+        place, numbers = (it.module, it.section, it.offset), (it.size, it.characteristics, it.data_crc, it.reloc_crc)
+        yield Contribution(*place, *numbers)
     _check(code)
 
 
@@ -262,3 +316,11 @@ def frames(file: bytes, addresses: Iterable[Address]) -> List[List[Frame]]:
         path = data[it.file_at : it.file_at + it.file_size] if it.has_file else None
         found[it.address].append(Frame(function, path, it.line, it.column))
     return found
+
+
+def image(data: bytes) -> Image:
+    """What an image, an EXE or a DLL, says of itself and of its PDB, by all its bytes."""
+    out = raw.Image()
+    _check(raw.LIBRARY.pdb_image(data, len(data), out))
+    pdb = PdbReference(uuid.UUID(bytes=bytes(out.guid)), out.age, out.path.copy()) if out.has_pdb else None
+    return Image(out.machine, out.base, out.time_stamp, out.size, pdb)

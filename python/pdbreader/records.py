@@ -30,6 +30,30 @@ class DebugInformation:
 
 
 @dataclass(frozen=True)
+class StreamName:
+    """The name of a stream."""
+
+    name: bytes
+    number: Optional[int]  # not every number is that of a stream
+
+
+@dataclass(frozen=True)
+class Section:
+    """A section header of the image, as in the PE format."""
+
+    name: bytes  # without the zero bytes behind it
+    virtual_size: int  # bytes in memory
+    virtual_address: int  # relative to the load address
+    size_of_raw_data: int  # bytes in the image's file
+    pointer_to_raw_data: int  # their offset in the image's file
+    pointer_to_relocations: int
+    pointer_to_line_numbers: int
+    number_of_relocations: int
+    number_of_line_numbers: int
+    characteristics: int  # IMAGE_SCN_..
+
+
+@dataclass(frozen=True)
 class Module:
     """A module, which is an object file."""
 
@@ -39,6 +63,19 @@ class Module:
     symbols_size: int  # the sizes of that stream's parts
     lines_size: int
     c13_lines_size: int
+
+
+@dataclass(frozen=True)
+class Contribution:
+    """Bytes of the image that came from one module."""
+
+    module: int  # its index in the list of modules
+    section: int
+    offset: int  # the offset of the first byte in the section
+    size: int
+    characteristics: int  # IMAGE_SCN_.. of the object file's section from which they came
+    data_crc: int  # a checksum of the bytes
+    reloc_crc: int  # a checksum of their relocations
 
 
 class Form(enum.IntEnum):
@@ -174,3 +211,33 @@ class Frame:
     file: Optional[bytes]
     line: int  # 0 where unknown
     column: int
+
+
+@dataclass(frozen=True)
+class PdbReference:
+    """The PDB that an image names."""
+
+    guid: uuid.UUID
+    age: int
+    path: bytes  # as the linker was given it
+
+    @property
+    def key(self) -> str:
+        """The key under which a symbol server stores the PDB."""
+        return f"{self.guid.hex.upper()}{self.age:X}"
+
+
+@dataclass(frozen=True)
+class Image:
+    """What an image, an EXE or a DLL, says of itself and of its PDB."""
+
+    machine: int  # IMAGE_FILE_MACHINE_..
+    base: int  # the address at which it wants to be loaded
+    time_stamp: int
+    size: int  # its bytes in memory
+    pdb: Optional[PdbReference]
+
+    @property
+    def key(self) -> str:
+        """The key under which a symbol server stores the image."""
+        return f"{self.time_stamp:08X}{self.size:x}"

@@ -226,6 +226,84 @@ static void parts_in_error(void) {
     want(pdb_symbols(bytes, sizeof bytes, sizeof bytes + 1, &at, &row, 1, &count) == PDB_UNEXPECTED_EOF && count == 0 && at == 4, "a part's end", count);
 }
 
+/* Section headers in buffers of each size. */
+static void each_room_of_sections(void) {
+    size_t count, again;
+    pdb_section *all = filled(64 * sizeof *all);
+    want(pdb_sections(file, file_size, all, 64, &count) == 0 && count > 0, "sections", count);
+    for (size_t room = 0; room <= count; room++) {
+        pdb_section *got = filled((room + 1) * sizeof *got);
+        front("sections", got, all, room, count, sizeof *got, pdb_sections(file, file_size, got, room, &again));
+        want(again == count, "count of sections", room);
+        free(got);
+    }
+    free(all);
+}
+
+/* Contributions in buffers of each size, by their fields, since bytes of a row are none's. */
+static void each_room_of_contributions(void) {
+    size_t size, count, again;
+    uint8_t *dbi = stream(PDB_DBI_STREAM, &size);
+    pdb_contribution *all = filled((size / 28 + 1) * sizeof *all);
+    want(pdb_contributions(dbi, size, all, size / 28 + 1, &count) == 0 && count > 0, "contributions", count);
+    for (size_t room = 0; room <= count; room++) {
+        pdb_contribution *got = filled((room + 1) * sizeof *got);
+        pdb_code code = pdb_contributions(dbi, size, got, room, &again);
+        for (size_t i = 0; i < room; i++) {
+            const pdb_contribution *a = &all[i], *b = &got[i];
+            want(a->module == b->module && a->offset == b->offset && a->section == b->section && a->size == b->size, "contribution", i);
+            want(a->characteristics == b->characteristics && a->data_crc == b->data_crc && a->reloc_crc == b->reloc_crc, "contribution", i);
+        }
+        want(((uint8_t *)&got[room])[0] == 0xff && code == (room < count ? PDB_ROOM : PDB_DONE) && again == count, "contributions", room);
+        free(got);
+    }
+    want(pdb_contributions(dbi, 63, all, 1, &count) == PDB_UNEXPECTED_EOF && count == 0, "a header's end", count);
+    free(all);
+    free(dbi);
+}
+
+/* Names of streams in buffers of each size. */
+static void each_room_of_stream_names(void) {
+    size_t count, size, again, bytes;
+    pdb_stream_name *all = filled(64 * sizeof *all);
+    uint8_t *names = filled(4096);
+    want(pdb_stream_names(file, file_size, all, 64, &count, names, 4096, &size) == 0 && count > 0, "names", count);
+    for (size_t room = 0; room <= count; room++) {
+        size_t names_room = room == count ? size : room * size / count;
+        pdb_stream_name *got = filled((room + 1) * sizeof *got);
+        uint8_t *text = filled(names_room + 1);
+        pdb_code code = pdb_stream_names(file, file_size, got, room, &again, text, names_room, &bytes);
+        for (size_t i = 0; i < room; i++) want(all[i].at == got[i].at && all[i].size == got[i].size && all[i].number == got[i].number, "name", i);
+        want(!memcmp(text, names, names_room) && text[names_room] == 0xff && ((uint8_t *)&got[room])[0] == 0xff, "behind names", room);
+        want(code == (room < count ? PDB_ROOM : PDB_DONE) && again == count && bytes == size, "names", room);
+        free(text);
+        free(got);
+    }
+    for (size_t room = 0; room < size; room++) {
+        want(pdb_stream_names(file, file_size, all, 64, &again, names, room, &bytes) == PDB_ROOM && again == count && bytes == size, "bytes of names", room);
+    }
+    free(names);
+    free(all);
+}
+
+/* After an error nothing is written. */
+static void calls_in_error(void) {
+    size_t count = 77, size = 77;
+    pdb_section section;
+    pdb_stream_name name;
+    pdb_image_t image;
+    uint8_t text[4];
+    memset(&section, 0xff, sizeof section);
+    memset(&name, 0xff, sizeof name);
+    memset(&image, 0xff, sizeof image);
+    memset(text, 0xff, sizeof text);
+    want(pdb_sections(file, 16, &section, 1, &count) == PDB_UNRECOGNIZED_FILE_FORMAT && count == 0 && section.name[0] == 0xff, "no sections", count);
+    count = 77;
+    want(pdb_stream_names(file, 16, &name, 1, &count, text, 4, &size) == PDB_UNRECOGNIZED_FILE_FORMAT && count == 0 && size == 0, "no names", count);
+    want(name.number == 0xffffffff && text[0] == 0xff, "untouched names", 0);
+    want(pdb_image(file, file_size, &image) == PDB_NOT_AN_IMAGE && image.has_pdb == 0xffffffff && image.guid[0] == 0xff, "no image", 0);
+}
+
 static uint64_t frames(size_t n, size_t room, size_t names_room) {
     pdb_address *asked = filled(n * sizeof *asked);
     for (size_t k = 0; k < n; k++) asked[k] = (pdb_address){(uint32_t)(0x1000 + 7 * k), 0, PDB_ADDRESS};
@@ -264,6 +342,10 @@ int main(int count, char **words) {
     modules_and_lines();
     made_symbols();
     parts_in_error();
+    each_room_of_sections();
+    each_room_of_contributions();
+    each_room_of_stream_names();
+    calls_in_error();
     for (size_t room = 0; room < 24; room++) frames(8, room, 5 * room);
     uint64_t sum = frames(60, 4000, 400000);
     pthread_t threads[8];

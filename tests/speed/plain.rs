@@ -113,6 +113,31 @@ fn symbols(out: &mut Vec<u8>, b: &[u8], mut at: usize) {
     }
 }
 
+/// `pdb_tool find FILE '*'`, of the global symbols of a file without sections, whose names aren't decorated.
+fn find(out: &mut Vec<u8>, b: &[u8]) {
+    let mut at = 0;
+    while at < b.len() {
+        let size = u16_at(b, at) as usize;
+        let kind: &[u8] = match u16_at(b, at + 2) {
+            0x110e => b"public ",
+            0x110d => b"data ",
+            0x1113 => b"thread ",
+            _ => b"",
+        };
+        if !kind.is_empty() {
+            out.extend_from_slice(kind);
+            hex(out, u16_at(b, at + 12).into(), 4);
+            out.push(b':');
+            hex(out, u32_at(b, at + 8), 8);
+            out.extend_from_slice(b" - - ");
+            let name = cstring(b, at + 14);
+            out.extend(name.iter().map(|&x| if x == b'\n' || x == b'\r' { b' ' } else { x }));
+            out.push(b'\n');
+        }
+        at += 2 + size;
+    }
+}
+
 fn names(out: &mut Vec<u8>, b: &[u8]) {
     let text = &b[32..32 + u32_at(b, 28) as usize];
     let table = &b[32 + text.len()..];
@@ -401,6 +426,7 @@ fn main() {
         }
         let (dbi, starts) = kept.get_or_insert_with(|| modules_of(&file));
         match word.as_str() {
+            "find" => find(&mut out, &file.stream(u16_at(dbi, 20).into())),
             "globals" => symbols(&mut out, &file.stream(u16_at(dbi, 20).into()), 0),
             "modules" => modules(&mut out, dbi),
             "contributions" => contributions(&mut out, dbi),

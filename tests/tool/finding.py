@@ -4,7 +4,7 @@ import os
 import random
 import re
 
-from program import FILES, LIST, REAL, compare, ran, tell
+from program import FILES, LIST, REAL, compare, damage_notice, ran, tell, wrong
 
 FIND = b"""public 0001:00000100 0x1100 - main
 data 0003:00000010 - - g
@@ -27,8 +27,9 @@ USAGES = {
     "sources": b"usage: pdb_tool sources FILE [K..]\n",
     "modules": b"usage: pdb_tool modules FILE\n",
     "sections": b"usage: pdb_tool sections FILE\n",
+    "streams": b"usage: pdb_tool streams FILE\n",
 }
-EVERYTHING = {"find": ["*"], "where": ["a.c", "tour.c", "tour.h"], "sources": [], "modules": [], "sections": []}
+EVERYTHING = {"find": ["*"], "where": ["a.c", "tour.c", "tour.h"], "sources": [], "modules": [], "sections": [], "streams": []}
 DAMAGED = 2000
 
 
@@ -83,14 +84,15 @@ def arguments(sample):
         for words in ["help", topic], [topic, "-h"], [topic, "--help"]:
             said = ran(*words)
             tell(said[0] == 0 and not said[2] and usage[7:].strip() in said[1], f"{words}", said)
-        compare(f"{topic} without a file", (2, b"", b"pdb_tool: a word is missing\n" + usage), topic)
-        compare(f"{topic} of no file", (3, b"", b"pdb_tool: /nowhere: cannot read file\n"), topic, "/nowhere", *EVERYTHING[topic])
-        compare(f"an option of {topic}", (2, b"", b"pdb_tool: bad word: --all\n" + usage), topic, "--all", sample, *EVERYTHING[topic])
+        compare(f"{topic} without a file", wrong(b"FILE is missing", usage), topic)
+        compare(f"{topic} of no file", (3, b"", b"pdb_tool: /nowhere: cannot read file: no such file\n"), topic, "/nowhere", *EVERYTHING[topic])
+        compare(f"an option of {topic}", wrong(topic.encode() + b" has no option --all", usage), topic, "--all", sample, *EVERYTHING[topic])
+    why = {"find": b"NAME is empty", "where": b"%s names no source file", "sources": b"%s is no index of a module: pdb_tool modules FILE lists them"}
     for topic, bad in [("find", ""), ("where", ""), ("where", ":1"), ("where", ":1-2"), ("sources", "x"), ("sources", "4294967296"), ("modules", "0"), ("sections", "1")]:
         words = [sample, *EVERYTHING[topic], bad]
-        compare(f"{topic} with {bad!r}", (2, b"", b"pdb_tool: bad word: " + bad.encode() + b"\n" + USAGES[topic]), topic, *words)
+        compare(f"{topic} with {bad!r}", wrong(why.get(topic, topic.encode() + b" takes one FILE, and not %s").replace(b"%s", bad.encode()), USAGES[topic]), topic, *words)
     for topic in "find", "where":
-        compare(f"{topic} without a name", (2, b"", b"pdb_tool: a word is missing\n" + USAGES[topic]), topic, sample)
+        compare(f"{topic} without a name", wrong(b"NAME is missing" if topic == "find" else b"SOURCE is missing", USAGES[topic]), topic, sample)
 
 
 def frames_of(file, addresses):
@@ -157,7 +159,7 @@ def found_in_damaged_files(room, hostile):
             if closed:
                 well = status == 4 and not out and err.startswith(f"pdb_tool: {path}: ".encode()) and err.count(b"\n") == 1
             else:
-                well = not err and status == (0 if out or topic not in ("find", "where") else 1)
+                well = err == damage_notice(path, out) and status == (0 if out or topic not in ("find", "where") else 1)
             tell(well, f"{topic} of damaged file {number}", (status, out[-80:], err))
         os.remove(path)
     tell(DAMAGED // 50 < refused < DAMAGED // 2, "damaged files that can't be opened", refused)

@@ -45,7 +45,7 @@ def images(sample, room):
     compare("an image without a PDB", (0, f"112233443000 {none} - -\n".encode(), b""), "key", none)
     compare("its PDB", (4, b"", f"pdb_tool: {none}: names no PDB\n".encode()), "resolve", f"--image={none}", sample, "1:100")
     compare("no image", (4, b"", f"pdb_tool: {sample}: no image\n".encode()), "resolve", f"--image={sample}", sample, "1:100")
-    compare("no file of an image", (3, b"", b"pdb_tool: /nowhere: cannot read file\n"), "resolve", "--image=/nowhere", sample, "xyz")
+    compare("no file of an image", (3, b"", b"pdb_tool: /nowhere: cannot read file: no such file\n"), "resolve", "--image=/nowhere", sample, "1:100")
     text = b"main\na.c:1:0\n\n"
     for word in b"--key=" + key, b"--key=" + key.lower():
         compare(f"the wanted {word}", (0, text, b""), "resolve", word, sample, "1:100")
@@ -63,7 +63,7 @@ def images(sample, room):
     named = put("named.exe", named)
     for words in ["140001100"], ["--base=1000", "2100"], ["1:100"], ["--base", "0", "1100"]:
         compare(f"the sample by its image at {words}", (0, text, b""), "resolve", f"--image={named}", sample, *words)
-    is_refused = (4, b"", f"pdb_tool: {file}: this is no PDB file of the format MSF 7.00\n".encode())
+    is_refused = (4, b"", f"pdb_tool: {file}: this is no PDB file of the format MSF 7.00: it is an image (EXE or DLL), which key and resolve --image=IMAGE read\n".encode())
     compare("a wanted key of no PDB", is_refused, "resolve", b"--key=" + key, file, "1:100")
 
 

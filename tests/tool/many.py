@@ -3,7 +3,7 @@ import os
 import shutil
 import subprocess
 
-from program import TOOL, compare, ran, tell
+from program import TOOL, compare, ran, tell, wrong
 
 MANY = 2000
 LINES = 1_000_001
@@ -32,11 +32,11 @@ def many_lines(sample):
 def order_of_faults(sample):
     """Arguments are judged before a file is opened; one file's error is told, and the next follows."""
     usage = b"usage: pdb_tool resolve [--base=HEX] [--key=KEY | --image=IMAGE] [--addresses] FILE [ADDRESS..]\n"
-    compare("a bad word and no file", (2, b"", b"pdb_tool: bad word: zz\n" + usage), "resolve", "nowhere.pdb", "zz")
+    compare("a bad word and no file", wrong(b"address zz is none: write HEX, 0xHEX, HEXh, or SECTION:OFFSET", usage), "resolve", "nowhere.pdb", "zz")
     usage = b"usage: pdb_tool lines FILE [K..]\n"
-    compare("a bad number and no file", (2, b"", b"pdb_tool: bad word: zz\n" + usage), "lines", "nowhere.pdb", "0", "zz")
+    compare("a bad number and no file", wrong(b"zz is no index of a module: pdb_tool modules FILE lists them", usage), "lines", "nowhere.pdb", "0", "zz")
     ok = f"{sample}: ok\n".encode()
-    unread = b"pdb_tool: nowhere.pdb: cannot read file\n"
+    unread = b"pdb_tool: nowhere.pdb: cannot read file: no such file\n"
     for words, out in ((["nowhere.pdb", sample], ok), ([sample, "nowhere.pdb"], ok), (["nowhere.pdb", sample, sample], ok + ok)):
         compare(f"check of {len(words)} files, of which one isn't there", (1, out, unread), "check", *words)
 
@@ -44,10 +44,50 @@ def order_of_faults(sample):
 def names_of_every_kind(sample, room):
     """A file's name is passed on as it stands: empty, with blanks at its ends, long, in another script."""
     key = ran("key", sample)[1].split()[0]
-    compare("an empty name", (1, b"", b"pdb_tool: : cannot read file\n"), "key", "")
+    compare("an empty name", (1, b"", b"pdb_tool: : cannot read file: no such file\n"), "key", "")
     for name in " app.pdb", "app.pdb ", "Приложение.pdb", 200 * "a" + ".pdb", "-base.pdb":
         file = os.path.join(room, name)
         shutil.copyfile(sample, file)
         compare(f"the key of {name!r}", (0, key + b" " + file.encode() + b"\n", b""), "key", file)
         done = subprocess.run([TOOL, "check", name], cwd=room, capture_output=True, check=False)
         tell((done.returncode, done.stdout) == (0, f"{name}: ok\n".encode()), f"check of {name!r}", done)
+
+
+def files_that_are_no_pdb(sample, room):
+    """A file that can't be opened is named for what it is, where its first bytes or its size say so."""
+    with open(sample, "rb") as it:
+        whole = it.read()
+    no_pdb = "this is no PDB file of the format MSF 7.00"
+    for name, data, text in (
+        ("empty", b"", f"{no_pdb}: it is empty"),
+        ("net", b"BSJB\1\0\1\0" + bytes(80), f"{no_pdb}: it is a portable PDB of .NET"),
+        ("gzip", b"\x1f\x8b\x08" + bytes(80), f"{no_pdb}: it is compressed by gzip"),
+        ("old", b"Microsoft C/C++ program database 2.00\r\n\x1aJG" + bytes(80), "not supported: small MSF file format: it is a PDB of version 2.00"),
+        ("image", b"MZ" + bytes(100), f"{no_pdb}: it is an image (EXE or DLL), which key and resolve --image=IMAGE read"),
+        ("short", whole[:1000], f"the data ends before a record does: it is cut short, and has 1000 of {len(whole)} bytes"),
+        ("text", b"hello, world" * 9, no_pdb),
+    ):
+        file = os.path.join(room, name)
+        with open(file, "wb") as it:
+            it.write(data)
+        wanted = f"pdb_tool: {file}: {text}\n".encode()
+        compare(f"modules of {name}", (4, b"", wanted), "modules", file)
+        if name != "image":
+            compare(f"key of {name}", (1, b"", wanted), "key", file)
+
+
+def damage_is_a_notice(sample, room):
+    """A text that has the line of an error is as ever; one message on standard error says where to look."""
+    with open(sample, "rb") as it:
+        data = bytearray(it.read())
+    at = data.index(b"\xf4\0\0\0\x18\0\0\0")
+    data[at + 4] = 0xFF
+    data[at + 5] = 0xFF
+    file = os.path.join(room, "cut.pdb")
+    with open(file, "wb") as it:
+        it.write(data)
+    notice = f"pdb_tool: {file}: a part of the file is damaged: see pdb_tool check\n".encode()
+    said = b"error 1 the data ends before a record does\n"
+    for topic in "lines", "sources":
+        compare(f"{topic} of a module that is cut", (0, said, notice), topic, file)
+    compare("scopes of it", (0, b"procedure 0001:00000100 48 main\n  inlined ??\n", b""), "scopes", file)

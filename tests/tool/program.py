@@ -31,3 +31,23 @@ def compare(what, wanted, *words, given=b""):
 def stored(name):
     with open(f"{HERE}/{name}", "rb") as it:
         return it.read()
+
+
+COMMANDS = b"resolve find where lines scopes symbols sources modules sections streams key check help version"
+USAGE = b"usage: pdb_tool COMMAND [OPTION..] FILE [ARGUMENT..]; pdb_tool help prints more\n"
+
+
+def wrong(why, usage):
+    """What is printed where an argument is wrong."""
+    return 2, b"", b"pdb_tool: " + why + b"\n" + usage
+
+
+def unknown(word, closest=b""):
+    """What is printed where a word is no command."""
+    return wrong(b"unknown command: " + word + (b"; did you mean " + closest + b"?" if closest else b""), b"commands: " + COMMANDS + b"\n")
+
+
+def damage_notice(file, out):
+    """What is printed on standard error where a text has the line of an error."""
+    has_error = out.startswith(b"error ") or b"\nerror " in out
+    return f"pdb_tool: {file}: a part of the file is damaged: see pdb_tool check\n".encode() if has_error else b""

@@ -4,6 +4,7 @@
 mod calls;
 mod holders;
 pub mod laws;
+mod module_list;
 mod named;
 mod pdb;
 mod places;
@@ -14,6 +15,7 @@ pub use holders::FrameTable;
 pub use holders::IdInformation;
 pub use holders::OMAPTable;
 pub use holders::TypeInformation;
+pub use module_list::ModuleList;
 pub use pdb::PDB;
 pub use pdb::StreamIndexExt;
 pub use pdb_base::Error;

@@ -1,10 +1,10 @@
 //! An opened PDB file, and its streams.
 
-ghost use Rattle.std.specs.Prelude.{◌≡◌, ◌≢◌, ℕ, List, Ok, IfOk, false, None};
+ghost use Rattle.std.specs.Prelude.{◌≡◌, ◌≢◌, ℕ, List, Ok, IfOk, IfErr, false, None};
 ghost use Rattle.std.specs.Option.{option_map};
 ghost use Rattle.pdb_base.specs.Refusal.{Gives};
 ghost use Rattle.pdb_base.specs.Source.{State, Continues, MayFail};
-ghost use Rattle.pdb_base.specs.Container.{opens, stream_of};
+ghost use Rattle.pdb_base.specs.Container.{opens, stream_of, stream_count as count_in, stream_size as size_in};
 ghost use Rattle.pdb_dbi.specs.Header.{header_in};
 ghost use Rattle.pdb_dbi.specs.DbiViews.{information};
 ghost use Rattle.pdb.specs.Answers.{information_in, named_stream_in, debug_information_in, global_symbols_in, raw_stream_in, listed_stream as listed_stream_in, extra_streams_of_file, headers_in, sections_in, frame_table_in, transformed_in, address_map_in, string_table_in, module_info_in, module_of_file};
@@ -94,6 +94,24 @@ impl<'s, S: Source<'s>> PDB<'s, S> {
         ensures opened { opens self.now.file ≡ Ok tt }
     {
         self.msf.steady()
+    }
+
+    /// How many streams the directory lists, absent ones too. `UnexpectedEof` where the directory ends before their sizes
+    /// do.
+    pub fn stream_count(&self) -> Result<u32>
+        ensures count { Gives (λ n. n) ⊥ result (count_in self.now.file) }
+        ensures memory { IfErr result (λ e. e ≢ Error.OutOfMemory) }
+    {
+        self.msf.stream_count()
+    }
+
+    /// How many bytes a stream has, by the directory. `StreamNotFound` where there is no such stream or it is absent, and
+    /// `UnexpectedEof` where the directory ends before the sizes do.
+    pub fn stream_size(&self, number: u32) -> Result<u32>
+        ensures size { Gives (λ n. n) ⊥ result (size_in self.now.file number) }
+        ensures memory { IfErr result (λ e. e ≢ Error.OutOfMemory) }
+    {
+        self.msf.stream_size(number)
     }
 
     /// The information stream, stream 1: the numbers by which a file is matched with its image, and the names of

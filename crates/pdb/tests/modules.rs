@@ -1,6 +1,7 @@
 //! The streams of modules.
 
 use super::is;
+use crate::tests::put_numbers;
 use crate::tests::sample::{DBI, SAMPLE, changed, file_of};
 use crate::*;
 use std::alloc::Global;
@@ -121,6 +122,61 @@ fn a_fault_behind_a_module_is_not_met(rt: HostRuntime) -> Result<()> {
     for place in 1..3usize {
         let refused = pdb.module_at(place).err();
         is(&rt, "behind", &refused, &Some(Error::UnexpectedEof));
+    }
+    Ok(())
+}
+
+/// The name of a module of a list.
+fn name_at(list: &mut ModuleList<'_>, k: u32) -> Result<usize> {
+    list.read_to(k)?;
+    match list.get(k)? {
+        Some(module) => Ok(module.raw_module_name().as_bytes().len()),
+        None => Ok(0),
+    }
+}
+
+#[test]
+fn modules_of_a_list_are_read_once(rt: HostRuntime) -> Result<()> {
+    let mut dbi = Vec::new(rt.alloc());
+    dbi.extend_from_slice(&DBI[..64])?;
+    dbi.extend_from_slice(&DBI[64..140])?;
+    let mut second = [0u8; 76];
+    for (at, byte) in DBI[64..140].iter().enumerate() {
+        if at < 76 {
+            second[at] = *byte;
+        }
+    }
+    second[68] = 0;
+    second[69] = b'x';
+    dbi.extend_from_slice(&second)?;
+    dbi.extend_from_slice(&DBI[140..])?;
+    put_numbers(&mut dbi, 24, &[152]);
+    let bytes = changed(rt.alloc(), 3, Some(&dbi))?;
+    let mut pdb = PDB::open(rt.alloc(), MemorySource::new(&bytes))?;
+    let information = pdb.debug_information()?;
+    let mut list = ModuleList::new(rt.alloc(), information.modules()?);
+    for (k, size) in [(1, 4), (0, 5), (1, 4), (2, 0), (4294967295, 0), (0, 5)] {
+        is(&rt, "the length of a name", &name_at(&mut list, k)?, &size);
+    }
+    Ok(())
+}
+
+#[test]
+fn the_fault_of_a_list_stands_behind_its_modules(rt: HostRuntime) -> Result<()> {
+    let mut dbi = DBI;
+    dbi[24] = 77;
+    let bytes = changed(rt.alloc(), 3, Some(&dbi))?;
+    let mut pdb = PDB::open(rt.alloc(), MemorySource::new(&bytes))?;
+    let information = pdb.debug_information()?;
+    let mut list = ModuleList::new(rt.alloc(), information.modules()?);
+    for _ in 0..2 {
+        is(
+            &rt,
+            "behind it",
+            &name_at(&mut list, 1),
+            &Err(Error::UnexpectedEof),
+        );
+        is(&rt, "before it", &name_at(&mut list, 0), &Ok(5));
     }
     Ok(())
 }

@@ -185,6 +185,19 @@ fn refused_numbers_leave_the_rest(rt: HostRuntime) -> Result<()> {
     Ok(())
 }
 
+#[test]
+fn the_directory_has_sizes(rt: HostRuntime) -> Result<()> {
+    let bytes = file_with(rt.alloc(), b"")?;
+    let pdb = PDB::open(rt.alloc(), MemorySource::new(&bytes))?;
+    is(&rt, "count", &pdb.stream_count(), &Ok(9));
+    is(&rt, "names", &pdb.stream_size(7), &Ok(17));
+    let absent = Err(Error::StreamNotFound(4));
+    is(&rt, "ids", &pdb.stream_size(4), &absent);
+    let missing = Err(Error::StreamNotFound(9));
+    is(&rt, "no such stream", &pdb.stream_size(9), &missing);
+    Ok(())
+}
+
 /// A stream of one structure, `S`, with the index 0x1000.
 const TYPES: [u8; 80] = [
     0x0b, 0xca, 0x31, 0x01, 0x38, 0x00, 0x00, 0x00, 0x00, 0x10, 0x00, 0x00, 0x01, 0x10, 0x00, 0x00,

@@ -102,6 +102,13 @@ size_of directory n =
     else (if number directory (4 + 4 * n) 4 == absent then Err (StreamNotFound n)
     else Ok (number directory (4 + 4 * n) 4))))
 
+-- how many streams there are
+unfoldable pub count_of : List ℕ → Result ℕ Error
+count_of directory =
+    if nat_lt (length directory) 4 then Err UnexpectedEof
+    else (if nat_lt (length directory) (4 + 4 * number directory 0 4) then Err UnexpectedEof
+    else Ok (number directory 0 4))
+
 abbrev pub limited : Option ℕ → ℕ → ℕ
 limited None size = size
 limited (Some limit) size = min limit size
@@ -152,3 +159,10 @@ pub record IsOpened (file : List ℕ) (page_size used : ℕ) (directory before :
 -- all page numbers of stream n, where they are there
 unfoldable pub page_numbers_of : List ℕ → ℕ → Result (List ℕ) Error
 page_numbers_of file n = open_of file >>= λ o. size_of o.directory n >>= λ size. pages_at o.directory o.page_size n size
+
+-- how many streams a file has, and the size of stream n
+unfoldable pub stream_count : List ℕ → Result ℕ Error
+stream_count file = open_of file >>= λ o. count_of o.directory
+
+unfoldable pub stream_size : List ℕ → ℕ → Result ℕ Error
+stream_size file n = open_of file >>= λ o. size_of o.directory n

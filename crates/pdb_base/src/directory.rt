@@ -5,7 +5,7 @@ ghost use Rattle.std.specs.Int.{div_ceil};
 ghost use Rattle.pdb_base.specs.Refusal.{Gives};
 ghost use Rattle.pdb_base.specs.Source.{State, Continues, MayFail, view_bytes};
 ghost use Rattle.pdb_base.specs.Fields.{number};
-ghost use Rattle.pdb_base.specs.Container.{head_of, list_of, is_page_size as page_size_test, numbers, size_of as stream_size, pages_of as page_count, numbers_at as numbers_place, pages_at as stream_pages, ArePagesBefore};
+ghost use Rattle.pdb_base.specs.Container.{head_of, list_of, is_page_size as page_size_test, numbers, count_of as stream_count, size_of as stream_size, pages_of as page_count, numbers_at as numbers_place, pages_at as stream_pages, ArePagesBefore};
 ghost use Rattle.pdb_base.specs.Heads.{head, as_format};
 
 use crate::error::{Error, Feature, Result};
@@ -101,6 +101,22 @@ pub(crate) fn size_of(directory: &[u8], stream: u32) -> Result<u32>
         return Err(Error::StreamNotFound(stream));
     }
     Ok(size)
+}
+
+/// How many streams there are, by the directory.
+#[tactic(auto, unfolding(crate::specs::Container::count_of))]
+pub(crate) fn count_of(directory: &[u8]) -> Result<u32>
+    ensures count { Gives (λ n. n) ⊥ result (stream_count directory.now) }
+    ensures memory { IfErr result (λ e. e ≢ Error.OutOfMemory) }
+{
+    if directory.len() < 4 {
+        return Err(Error::UnexpectedEof);
+    }
+    let count = u32_at(directory, 0);
+    if directory.len() < 4 + 4 * count as usize {
+        return Err(Error::UnexpectedEof);
+    }
+    Ok(count)
 }
 
 /// How many pages a stream has.

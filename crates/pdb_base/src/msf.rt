@@ -1,11 +1,11 @@
 //! An opened file.
 
-ghost use Rattle.std.specs.Prelude.{◌≡◌, ℕ, ◌+◌, ◌*◌, ◌<◌, ◌≤◌, ◌^◌, List, length, true, false, Ok, IfOk, IsOk, IsErrOf};
+ghost use Rattle.std.specs.Prelude.{◌≡◌, ℕ, ◌+◌, ◌*◌, ◌<◌, ◌≤◌, ◌^◌, List, length, true, false, Ok, IfOk, IfErr, IsOk, IsErrOf, ◌≢◌};
 ghost use Rattle.pdb_base.specs.Refusal.{Gives};
 ghost use Rattle.pdb_base.specs.Source.{State, Continues, MayFail, view_bytes};
-ghost use Rattle.pdb_base.specs.Container.{opens, stream_of, pages_needed, limited as limited_size};
+ghost use Rattle.pdb_base.specs.Container.{opens, stream_of, pages_needed, stream_count as count_in, stream_size as size_in, limited as limited_size};
 
-use crate::directory::{pages_at, pages_before, read_head, read_list, size_of};
+use crate::directory::{count_of, pages_at, pages_before, read_head, read_list, size_of};
 use crate::error::{Error, Result};
 use crate::pages::view_pages;
 use crate::source::{Meaning, Source, View};
@@ -93,6 +93,28 @@ impl<'s, S: Source<'s>> Msf<'s, S> {
             size as usize,
         )?;
         Ok(Stream::of(view))
+    }
+
+    /// How many streams the directory lists, absent ones too. `UnexpectedEof` where the directory ends before their sizes
+    /// do.
+    #[tactic(auto, unfolding(crate::specs::Container::stream_count), using(crate::proofs::OpenLemmas::opened_opens))]
+    pub fn stream_count(&self) -> Result<u32>
+        ensures count { Gives (λ n. n) ⊥ result (count_in self.now.file) }
+        ensures memory { IfErr result (λ e. e ≢ Error.OutOfMemory) }
+        ensures opened { opens self.now.file ≡ Ok tt }
+    {
+        count_of(self.directory.as_slice())
+    }
+
+    /// How many bytes a stream has, by the directory. `StreamNotFound` where there is no such stream or it is absent, and
+    /// `UnexpectedEof` where the directory ends before the sizes do.
+    #[tactic(auto, unfolding(crate::specs::Container::stream_size), using(crate::proofs::OpenLemmas::opened_opens))]
+    pub fn stream_size(&self, number: u32) -> Result<u32>
+        ensures size { Gives (λ n. n) ⊥ result (size_in self.now.file number) }
+        ensures memory { IfErr result (λ e. e ≢ Error.OutOfMemory) }
+        ensures opened { opens self.now.file ≡ Ok tt }
+    {
+        size_of(self.directory.as_slice(), number)
     }
 
     /// How many views of the source failed so far.

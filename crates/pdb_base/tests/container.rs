@@ -251,6 +251,46 @@ fn a_small_directory_opens(rt: HostRuntime) -> Result<()> {
 }
 
 #[test]
+fn the_directory_has_sizes(rt: HostRuntime) -> Result<()> {
+    let bytes = file(rt.alloc(), 256)?;
+    let msf = open(rt.alloc(), &bytes)?;
+    is(&rt, "count", &msf.stream_count(), &Ok(4));
+    let absent = Err(Error::StreamNotFound(1));
+    let missing = Err(Error::StreamNotFound(4));
+    let sizes = [Ok(300), absent, Ok(4), Ok(0), missing];
+    for (number, size) in sizes.iter().enumerate() {
+        is(&rt, "size", &msf.stream_size(number as u32), size);
+    }
+    Ok(())
+}
+
+#[test]
+fn a_directory_without_all_sizes_has_none(rt: HostRuntime) -> Result<()> {
+    let mut bytes = file(rt.alloc(), 256)?;
+    put(&mut bytes, 1024, 8);
+    let msf = open(rt.alloc(), &bytes)?;
+    is(
+        &rt,
+        "count",
+        &msf.stream_count(),
+        &Err(Error::UnexpectedEof),
+    );
+    is(&rt, "size", &msf.stream_size(0), &Err(Error::UnexpectedEof));
+    let beyond = Err(Error::StreamNotFound(8));
+    is(&rt, "beyond", &msf.stream_size(8), &beyond);
+    let mut bytes = file(rt.alloc(), 256)?;
+    put(&mut bytes, 44, 3);
+    let msf = open(rt.alloc(), &bytes)?;
+    is(
+        &rt,
+        "of 3 bytes",
+        &msf.stream_count(),
+        &Err(Error::UnexpectedEof),
+    );
+    Ok(())
+}
+
+#[test]
 fn a_page_list_ends_in_page_zero(rt: HostRuntime) -> Result<()> {
     let last = 51 * 64 * 256;
     is(

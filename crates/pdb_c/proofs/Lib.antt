@@ -2,7 +2,9 @@ pub mod Putting
 pub mod Codes
 pub mod Records
 pub mod StreamSteps
+pub mod StreamNameSteps
 pub mod ListSteps
+pub mod DbiHeaders
 pub mod FileSteps
 pub mod SymbolSteps
 pub mod FrameSteps

@@ -51,3 +51,30 @@ listed_whole {Y = Y} view says c before after items all is rows code =
       count = count;
       code = code ∙ ap (λ (k : ℕ). list_code k (length items) None) room ∙ ap (λ (k : ℕ). list_code (length before) k None) count;
     }
+
+-- ---- rows that are seen as they are
+
+-- the next item is put as the row that it says
+pub row_next : {X Z : Type 0} (says : Z → X) (n : ℕ) (row : X) (item : Z) (items others : List Z) (rows after all : List X) → items ≡ item ∷ others → row ≡ says item → after ≡ put n (row ∷ []) rows → put n (map says items) rows ≡ all → put (n + 1) (map says others) after ≡ all
+row_next {X = X} {Z = Z} says n row item items others rows after all e shown put_one so_far =
+    put_next n (n + 1) (row ∷ []) (map says others) rows after put_one refl
+    ∙ ap (λ (y : X). put n (y ∷ map says others) rows) shown
+    ∙ ap (λ (zs : List Z). put n (map says zs) rows) (sym e)
+    ∙ so_far
+
+-- the next item is the row
+pub same_next : {X : Type 0} (n : ℕ) (row : X) (items others rows after all : List X) → items ≡ row ∷ others → after ≡ put n (row ∷ []) rows → put n items rows ≡ all → put (n + 1) others after ≡ all
+same_next {X = X} n row items others rows after all e put_one so_far =
+    put_next n (n + 1) (row ∷ []) others rows after put_one refl
+    ∙ ap (λ (ys : List X). put n ys rows) (sym e)
+    ∙ so_far
+
+-- a list that is put whole at once
+pub rows_whole : {X Z : Type 0} (says : Z → X) (c : ℕ) (before after : List X) (items : List Z) → after ≡ over (map says items) before → c ≡ list_code (length after) (length items) None → IsListed (λ r. r) says c before after (length items) (whole_list items)
+rows_whole {X = X} says c before after items rows code =
+    let room : length after ≡ length before = ap (λ (ys : List X). length ys) rows ∙ over_length (map says items) before in
+    record {
+      rows = map-id after ∙ rows ∙ ap (λ (ys : List X). over (map says items) ys) (sym (map-id before));
+      count = refl;
+      code = code ∙ ap (λ (k : ℕ). list_code k (length items) None) room;
+    }

@@ -10,4 +10,8 @@ pub mod FileRows
 pub mod InlineeRows
 pub mod CrossRows
 pub mod FrameRows
+pub mod SectionRows
+pub mod ContributionRows
+pub mod StreamNameRows
+pub mod ImageRows
 pub mod Version

@@ -22,6 +22,9 @@ pub const ROOM: u32 = 31;
 /// The bytes are more than a stream can have.
 pub const LARGE: u32 = 32;
 
+/// The file has no stream of section headers.
+pub const SECTIONS_NOT_FOUND: u32 = 33;
+
 /// The number of a refusal, from 1 to 22.
 pub fn code_of(e: Error) -> u32
     ensures { result ≡ number_of e }

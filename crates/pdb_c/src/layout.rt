@@ -1,14 +1,18 @@
 //! How many bytes the records have that cross: `include/pdb.h` says the same to the C compiler.
 
+use crate::contributions::PdbContribution;
 use crate::exports::PdbExport;
 use crate::files::PdbFile;
 use crate::frames::{PdbAddress, PdbFrame};
+use crate::image::PdbImage;
 use crate::imports::PdbImport;
 use crate::information::{PdbDebugInformation, PdbInformation};
 use crate::inlinees::PdbInlinee;
 use crate::lines::PdbLine;
 use crate::modules::PdbModule;
 use crate::names::PdbName;
+use crate::sections::PdbSection;
+use crate::stream_names::PdbStreamName;
 use crate::streams::PdbStream;
 use crate::symbols::PdbSymbol;
 
@@ -37,3 +41,11 @@ const _: () = prove!(size_of::<PdbName<'_>>() == 16);
 const _: () = prove!(size_of::<PdbAddress>() == 8);
 
 const _: () = prove!(size_of::<PdbFrame>() == 56);
+
+const _: () = prove!(size_of::<PdbSection>() == 44);
+
+const _: () = prove!(size_of::<PdbContribution>() == 32);
+
+const _: () = prove!(size_of::<PdbStreamName>() == 24);
+
+const _: () = prove!(size_of::<PdbImage<'_>>() == 64);

@@ -4,10 +4,12 @@
 
 mod answers;
 mod bytes;
+mod contributions;
 mod exports;
 mod fields;
 mod files;
 mod frames;
+mod image;
 mod imports;
 mod information;
 mod inlinees;
@@ -18,13 +20,17 @@ mod modules;
 mod names;
 mod parts;
 mod rooms;
+mod sections;
+mod stream_names;
 mod streams;
 mod symbols;
 mod version;
 
+pub use contributions::{PdbContribution, pdb_contributions};
 pub use exports::{PdbExport, pdb_exports};
 pub use files::{PdbFile, pdb_files};
 pub use frames::{PdbAddress, PdbFrame, pdb_frames};
+pub use image::{PdbImage, pdb_image};
 pub use imports::{PdbImport, pdb_imports};
 pub use information::{
     PdbDebugInformation, PdbInformation, pdb_debug_information, pdb_information,
@@ -34,6 +40,8 @@ pub use key::pdb_key;
 pub use lines::{PdbLine, pdb_lines};
 pub use modules::{PdbModule, pdb_modules};
 pub use names::{PdbName, pdb_name};
+pub use sections::{PdbSection, pdb_sections};
+pub use stream_names::{PdbStreamName, pdb_stream_names};
 pub use streams::{PdbStream, pdb_named_stream, pdb_streams};
 pub use symbols::{PdbSymbol, pdb_global_symbols, pdb_symbols};
 pub use version::pdb_version;

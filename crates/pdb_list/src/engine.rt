@@ -6,14 +6,15 @@ ghost use Rattle.pdb.specs.Error.{Error};
 ghost use Rattle.pdb.specs.Error.TheVariants.{OutOfMemory};
 ghost use Rattle.pdb.specs.Source.{State, Continues};
 ghost use Rattle.pdb.specs.Container.{opens};
-ghost use Rattle.pdb_list.specs.Chosen.{IsListOf, KeptOf, listed};
+ghost use Rattle.pdb_list.specs.Chosen.{IsListOf, KeptOf};
+ghost use Rattle.pdb.specs.Listed.{listed};
 ghost use Rattle.pdb_text.specs.Written.{WroteFirst, WroteFront};
 ghost use Rattle.pdb_list.specs.Wrote.{Wrote};
 ghost use Rattle.pdb_list.specs.CommandTexts.{command_text, of_module_text, run_error_of, texts};
 ghost use Rattle.pdb_list.specs.ModuleTexts.{module_text, text_of_module};
 ghost use Rattle.pdb_list.specs.Texts.{error_text};
 
-use crate::chosen::ModuleList;
+use crate::chosen::module_info_in;
 use crate::command::{Command, names_module};
 use crate::contributions::put_contributions;
 use crate::cross_module::{put_exports, put_import};
@@ -26,7 +27,7 @@ use crate::names::put_names;
 use crate::sections::put_sections;
 use crate::symbols::{put_globals, put_symbols_of};
 use crate::text::{put_none, put_refusal};
-use pdb::{Error, ModuleInfo, PDB, Source};
+use pdb::{Error, ModuleInfo, ModuleList, PDB, Source};
 use pdb_text::{WriteFailed, write_out};
 use std::alloc::{AllocError, Global};
 use std::io::Write;
@@ -138,7 +139,7 @@ fn put_of_kept<'s, S: Source<'s>>(
     ensures kept { OnOk result (listed modules.new ≡ listed modules.old) }
     ensures text { pdb.old.steady ≡ true → IsListOf pdb.old.file modules.old → OnOk result (out.new.items ≡ out.old.items ++ module_text pdb.old.file k (of_module_text command)) }
 {
-    let found = modules.module_info(pdb, k);
+    let found = module_info_in(modules, pdb, k);
     put_found(alloc, out, found, command)
 }
 

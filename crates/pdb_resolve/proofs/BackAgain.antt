@@ -7,8 +7,8 @@ use Rattle.std.proofs.lemmas.Option.{get_or_from_slice_get, slice_get_cases}
 use Rattle.pdb.specs.ImageSectionHeader.{ImageSectionHeader}
 use Rattle.pdb.specs.PdbInternalSectionOffset.{PdbInternalSectionOffset}
 use Rattle.pdb.specs.Tables.{Addresses}
-use Rattle.pdb_resolve.specs.AddressPlaces.{Holds, numbered, place_from, place_in, translated}
-use Rattle.pdb_resolve.specs.PlaceAddresses.{AreSectionsApart, IsUnmoved, address_among, address_in, address_inside, as_address, back_through, section_numbered}
+use Rattle.pdb_resolve.specs.AddressPlaces.{Holds, numbered, place_from, place_in}
+use Rattle.pdb_resolve.specs.PlaceAddresses.{AreSectionsApart, IsUnmoved, address_among, address_in, address_inside, back_through, section_numbered}
 use Rattle.pdb_resolve.proofs.FirstSections.{first_counts}
 
 -- ---- the parts of the address of a place

@@ -24,3 +24,4 @@ pub mod PublicSymbols
 pub mod FirstContributions
 pub mod Sites
 pub mod BackAgain
+pub mod ImportLaws

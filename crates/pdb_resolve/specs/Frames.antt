@@ -59,9 +59,14 @@ frame_of strings program name (Some r) = record {
   column = unwrap_or r.column_start 0;
 }
 
--- of a function that was inlined
-abbrev pub inlined_frame : Names → Option ProgramOf → Call → Frame
-inlined_frame n program c = frame_of n.strings program (qualified_of n.ids n.types c.id) (Some c.line)
+-- the name of a function, by the id that the whole file knows, where there is one
+abbrev pub named_id : List ItemEntry → List ItemEntry → Option ℕ → Option Qualified
+named_id ids types None = None
+named_id ids types (Some id) = qualified_of ids types id
+
+-- of a function that was inlined, where global_id has the id that the whole file knows by one in the module
+abbrev pub inlined_frame : Names → (ℕ → Option ℕ) → Option ProgramOf → Call → Frame
+inlined_frame n global_id program c = frame_of n.strings program (named_id n.ids n.types (global_id c.id)) (Some c.line)
 
 -- the name of the function at a place; of the public before it where no function is there
 abbrev pub name_or : Option (List ℕ) → Option (List ℕ) → Option ℕ → Option (List ℕ)
@@ -75,8 +80,8 @@ abbrev pub outer_frame : Names → Option (List ℕ) → PdbInternalSectionOffse
 outer_frame n public q m = frame_of n.strings (program_in m) (option_map plain (outer_name public q m)) (line_at q m)
 
 -- the inlined frames from the last site to the first, and then that of the function
-unfoldable pub frames_in : Names → Option (List ℕ) → PdbInternalSectionOffset → ModuleBytes → List Frame
-frames_in n public q m = map (inlined_frame n (program_in m)) (reverse (inlined_at q m)) ++ outer_frame n public q m ∷ []
+unfoldable pub frames_in : Names → (ℕ → Option ℕ) → Option (List ℕ) → PdbInternalSectionOffset → ModuleBytes → List Frame
+frames_in n global_id public q m = map (inlined_frame n global_id (program_in m)) (reverse (inlined_at q m)) ++ outer_frame n public q m ∷ []
 
 -- where no module's code is there
 abbrev pub frame_without : Option (List ℕ) → Frame

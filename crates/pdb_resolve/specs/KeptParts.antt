@@ -9,7 +9,7 @@ use Rattle.pdb_resolve.specs.declared.name_tables.NameTables.{NameTables}
 use Rattle.pdb_resolve.specs.declared.modules.Modules.{Modules}
 use Rattle.pdb_resolve.specs.declared.global_names.GlobalNames.{GlobalNames}
 use Rattle.pdb_resolve.specs.declared.public_names.PublicNames.{PublicNames}
-use Rattle.pdb.specs.Answers.{global_symbols_in}
+use Rattle.pdb.specs.Answers.{debug_information_in, global_symbols_in}
 use Rattle.pdb_resolve.specs.AsIfEmpty.{if_read}
 use Rattle.pdb_resolve.specs.FileParts.{items_listed, modules_listed, module_numbered}
 
@@ -21,12 +21,13 @@ pub record IsAskedOf {A : Type 0} (reading : Option A) (p : Part A) : Type 0 whe
 -- the names that were made are those of the file
 abbrev pub IsMadeOf : List ℕ → Option FunctionNames → Type 0
 IsMadeOf file None = Unit {0}
-IsMadeOf file (Some n) = (n.ids ≡ items_listed file 4) × (n.types ≡ items_listed file 2)
+IsMadeOf file (Some n) = (n.ids ≡ items_listed file 4) × (n.types ≡ items_listed file 2) × (option_copied n.information ≡ if_read (debug_information_in file))
 
 pub record AreTablesOf (file : List ℕ) (t : NameTables) : Type 0 where
   pub ids : IsAskedOf (if_read (stream_of file 4 None)) t.ids
   pub types : IsAskedOf (if_read (stream_of file 2 None)) t.types
   pub made : IsMadeOf file t.made
+  pub information : option_copied t.information ≡ if_read (debug_information_in file)
 
 -- the modules whose code is kept, by their numbers
 abbrev pub boxed : Option (Box ModuleBytes Global) → Option ModuleBytes

@@ -5,9 +5,12 @@ pub mod Sorting
 pub mod ModuleCode
 pub mod Frames
 pub mod FileParts
+pub mod AcrossModules
+pub mod ImportTables
 pub mod Kept
 pub mod Listed
 pub mod KeptFrames
+pub mod CallViews
 pub mod AddressPlaces
 pub mod PlaceAddresses
 pub mod Behind

@@ -1,12 +1,9 @@
 -- What address of the image a place has: the original sections lead to an address of the image before it was rearranged, and the table of pairs leads back.
-use Rattle.std.specs.Prelude.{◌≡◌, ℕ, zero, suc, ◌+◌, ◌<◌, List, [], Option, Some, None, option_and_then, nat_lt, length, get_or, if◌then◌else◌, Result}
+use Rattle.std.specs.Prelude.{◌≡◌, ℕ, zero, suc, ◌+◌, ◌<◌, List, [], Option, Some, None, option_and_then, nat_lt, length, get_or, if◌then◌else◌}
 use Rattle.std.specs.List.{slice_get}
-use Rattle.pdb.specs.Error.{Error}
 use Rattle.pdb.specs.ImageSectionHeader.{ImageSectionHeader}
 use Rattle.pdb.specs.PdbInternalSectionOffset.{PdbInternalSectionOffset}
 use Rattle.pdb.specs.Tables.{Addresses}
-use Rattle.pdb.specs.Answers.{address_map_in}
-use Rattle.pdb_resolve.specs.AsIfEmpty.{if_read}
 use Rattle.pdb_resolve.specs.AddressPlaces.{Holds, Pair, pairs_of_table, translated}
 
 -- the section of a number, counted from 1
@@ -36,10 +33,6 @@ address_in a q = option_and_then (back_through a.omap_from_src) (address_among a
 abbrev pub address_for : Option Addresses → PdbInternalSectionOffset → Option ℕ
 address_for None q = None
 address_for (Some a) q = address_in a q
-
--- the address of a place of a file: none where its sections, or its map, can't be read
-abbrev pub address_of_file : List ℕ → PdbInternalSectionOffset → Option ℕ
-address_of_file file q = address_for (if_read (address_map_in file)) q
 
 -- the pairs that lead back
 abbrev pub back_pairs_of : Option Addresses → List Pair

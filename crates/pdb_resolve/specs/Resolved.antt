@@ -9,6 +9,7 @@ use Rattle.pdb_resolve.specs.ModuleCode.{Code, begins, function_at, procedure_at
 use Rattle.pdb_resolve.specs.ModulePlaces.{contributions_known, reaches, module_number_at}
 use Rattle.pdb_resolve.specs.PublicNames.{NamedPlace, public_at}
 use Rattle.pdb_resolve.specs.FileParts.{module_numbered, names_in}
+use Rattle.pdb_resolve.specs.AcrossModules.{global_id_in}
 use Rattle.pdb_resolve.specs.Frames.{Frame, frames_in, frame_without, frames_text}
 
 -- the place of a relative virtual address
@@ -52,7 +53,7 @@ public_of_file file m q = unless_there (function_where q m) (option_and_then (na
 
 abbrev pub frames_of_module : List ℕ → PdbInternalSectionOffset → Option ModuleBytes → List Frame
 frames_of_module file q None = frame_without (public_of_file file None q) ∷ []
-frames_of_module file q (Some m) = frames_in (names_in file) (public_of_file file (Some m) q) q m
+frames_of_module file q (Some m) = frames_in (names_in file) (global_id_in file m) (public_of_file file (Some m) q) q m
 
 -- the frames of a place; without a place one frame that tells nothing
 unfoldable pub frames_of_file : List ℕ → Option PdbInternalSectionOffset → List Frame

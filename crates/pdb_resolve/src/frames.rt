@@ -1,21 +1,26 @@
 //! The frames of a place.
 
-ghost use Rattle.std.specs.Prelude.{◌≡◌, ◌++◌, [], ◌∷◌, map, reverse, Some, None, option_copied, IfErr, OnOk};
+ghost use Rattle.std.specs.Prelude.{◌≡◌, ◌++◌, [], ◌∷◌, map, reverse, Some, None, option_copied, IfOk, IfErr, OnOk};
 ghost use Rattle.std.specs.Option.{option_map};
 ghost use Rattle.pdb.specs.FileViews.{shown_file};
 ghost use Rattle.pdb.specs.Qualified.{shown_qualified};
+ghost use Rattle.pdb.specs.Source.{Continues, MayFail};
+ghost use Rattle.pdb_resolve.specs.AsIfEmpty.{OnlyFails};
 ghost use Rattle.pdb.specs.Text.{name_bytes};
 ghost use Rattle.pdb_resolve.specs.ModuleCode.{program_in, line_at};
-ghost use Rattle.pdb_resolve.specs.Frames.{plain, file_name as file_name_of, frame_of, inlined_frame};
+ghost use Rattle.pdb_resolve.specs.Frames.{plain, file_name as file_name_of, frame_of, inlined_frame, named_id};
 ghost use Rattle.pdb_resolve.specs.Kept.{shown_call};
-ghost use Rattle.pdb_resolve.specs.KeptFrames.{shown_frame, names_of, frame_named, IsNamedIn};
+ghost use Rattle.pdb_resolve.specs.KeptFrames.{shown_frame, names_of, global_of_call, frame_named, IsNamedIn};
 
+use crate::across_modules::imported_id;
 use crate::calls::InlinedCall;
 use crate::module_code::ModuleCode;
 use pdb::{
-    Error, FileIndex, FileInfo, ItemFinder, LineInfo, PdbInternalSectionOffset, QualifiedName,
-    RawString, Result, StringTable, qualified_name,
+    DebugInformation, Error, FileIndex, FileInfo, IdIndex, ItemFinder, LineInfo, PDB,
+    PdbInternalSectionOffset, QualifiedName, RawString, Result, Source, StringTable,
+    qualified_name,
 };
+use std::alloc::Global;
 
 /// A function whose code stands at a place, and the line there. Names are bytes as the file has them.
 #[derive(Clone, Copy, Debug, PartialEq)]
@@ -35,6 +40,8 @@ pub struct Frame<'a> {
 pub struct FunctionNames<'a> {
     pub(crate) ids: ItemFinder<'a>,
     pub(crate) types: ItemFinder<'a>,
+    // The DBI stream, by whose modules an id of another module is found.
+    pub(crate) information: Option<&'a DebugInformation<'a>>,
 }
 
 /// The name of a file.
@@ -124,21 +131,46 @@ pub(crate) fn push_frame<'a>(frames: &mut Vec<Frame<'a>>, frame: Frame<'a>) -> R
     Ok(())
 }
 
+/// The name of a function, by the id that a call in a module has.
+fn name_of_call<'a, 's, S: Source<'s>>(
+    alloc: Global,
+    pdb: &mut PDB<'s, S>,
+    code: &ModuleCode<'a>,
+    names: &FunctionNames<'a>,
+    strings: Option<&'a StringTable<'a>>,
+    id: IdIndex,
+) -> Result<Option<QualifiedName<'a>>>
+    ensures continues { Continues pdb.old pdb.new }
+    ensures name { IfOk result (λ n. option_map shown_qualified n ≡ named_id names.now.ids names.now.types (global_of_call pdb.old.file (option_copied strings.entry) names.now code.now id.0)) }
+    ensures refused { IfErr result (λ e. OnlyFails (MayFail pdb.old pdb.new) e) }
+{
+    if id.0 < 0x8000_0000 {
+        return Ok(qualified_name(&names.ids, &names.types, id));
+    }
+    match imported_id(alloc, pdb, strings, names.information, code.info(), id)? {
+        Some(id) => Ok(qualified_name(&names.ids, &names.types, id)),
+        None => Ok(None),
+    }
+}
+
 /// The frames of inlined functions, from the last site to the first.
-pub(crate) fn push_inlined<'a>(
+pub(crate) fn push_inlined<'a, 's, S: Source<'s>>(
+    alloc: Global,
+    pdb: &mut PDB<'s, S>,
     frames: &mut Vec<Frame<'a>>,
     code: &ModuleCode<'a>,
     names: &FunctionNames<'a>,
     strings: Option<&'a StringTable<'a>>,
     calls: &[InlinedCall],
 ) -> Result<()>
-    ensures pushed { OnOk result (map shown_frame frames.new.items ≡ map shown_frame frames.old.items ++ map (inlined_frame (names_of names.now (option_copied strings.entry)) (program_in code.now)) (reverse (map shown_call calls.now))) }
-    ensures refused { IfErr result (λ e. e ≡ Error.OutOfMemory) }
+    ensures continues { Continues pdb.old pdb.new }
+    ensures pushed { OnOk result (map shown_frame frames.new.items ≡ map shown_frame frames.old.items ++ map (inlined_frame (names_of names.now (option_copied strings.entry)) (global_of_call pdb.old.file (option_copied strings.entry) names.now code.now) (program_in code.now)) (reverse (map shown_call calls.now))) }
+    ensures refused { IfErr result (λ e. OnlyFails (MayFail pdb.old pdb.new) e) }
 {
     let mut left = calls;
     let mut last = None;
     while let Some((call, before)) = left.split_last() {
-        let name = qualified_name(&names.ids, &names.types, call.id);
+        let name = name_of_call(alloc, pdb, code, names, strings, call.id)?;
         let file = named_file(code, strings, last, call.line.file_index);
         push_frame(frames, frame_in(file.name, name, &call.line))?;
         last = Some(file);

@@ -1,9 +1,11 @@
 //! What code stands at an address.
 #![tactic(auto)]
 
+mod across_modules;
 mod address_places;
 mod calls;
 mod frames;
+mod global_ids;
 mod global_names;
 mod kept_file;
 pub mod laws;
@@ -32,9 +34,11 @@ mod streams;
 mod tables;
 mod text;
 
+pub use across_modules::imported_id;
 pub use address_places::AddressPlaces;
 pub use calls::InlinedCall;
 pub use frames::{Frame, FunctionNames, plain_name};
+pub use global_ids::{CallNames, GlobalIds};
 pub use module_code::{ModuleCode, read_known};
 pub use module_places::ModulePlaces;
 pub use name_tables::{ids_of, types_of};

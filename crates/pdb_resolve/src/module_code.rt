@@ -228,6 +228,13 @@ impl<'a> ModuleCode<'a> {
         }
     }
 
+    // The module's stream.
+    pub(crate) fn info(&self) -> &'a ModuleInfo<'a>
+        ensures { result.now ≡ self.now }
+    {
+        self.info
+    }
+
     /// The line at a place: the first record of the last subsection at or before it that covers it. It takes no memory.
     pub fn line(&self, place: PdbInternalSectionOffset) -> Option<LineInfo>
         ensures { result ≡ line_at place self.now }

@@ -67,7 +67,7 @@ fn modules_of<'a>(
 }
 
 /// The stream of a listed module; none where it has none, or where it is refused.
-fn module_info<'s, S: Source<'s>>(
+pub(crate) fn module_info<'s, S: Source<'s>>(
     pdb: &mut PDB<'s, S>,
     module: &Module<'_>,
 ) -> Result<Option<ModuleInfo<'s>>>

@@ -12,7 +12,9 @@ ghost use Rattle.pdb_resolve.specs.KeptParts.{IsAskedOf, AreTablesOf};
 
 use crate::frames::FunctionNames;
 use crate::part::Part;
-use pdb::{Error, IdInformation, ItemFinder, PDB, Result, Source, TypeInformation};
+use pdb::{
+    DebugInformation, Error, IdInformation, ItemFinder, PDB, Result, Source, TypeInformation,
+};
 use std::alloc::Global;
 
 /// The streams of ids and of types, and the tables of both, each made where the first inlined function is met.
@@ -21,6 +23,7 @@ pub(crate) struct NameTables<'a, 's> {
     pub(crate) ids: Part<'a, IdInformation<'s>>,
     pub(crate) types: Part<'a, TypeInformation<'s>>,
     pub(crate) made: Option<FunctionNames<'a>>,
+    pub(crate) information: Option<&'a DebugInformation<'a>>,
 }
 
 /// What was answered where a stream's table was made; an empty one where the stream is refused.
@@ -106,7 +109,11 @@ impl<'a, 's> NameTables<'a, 's> {
         }
         let ids = ids_of(alloc, ids_asked(pdb, &mut self.ids)?)?;
         let types = types_of(alloc, types_asked(pdb, &mut self.types)?)?;
-        self.made = Some(FunctionNames { ids, types });
+        self.made = Some(FunctionNames {
+            ids,
+            types,
+            information: self.information,
+        });
         Ok(())
     }
 }

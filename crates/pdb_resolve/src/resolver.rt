@@ -98,6 +98,7 @@ impl<'a, 's, S: Source<'s>> Resolver<'a, 's, S> {
                 ids: Part::unasked(slice::from_mut(&mut streams.ids)),
                 types: Part::unasked(slice::from_mut(&mut streams.types)),
                 made: None,
+                information,
             },
             globals: GlobalNames {
                 globals: Part::unasked(slice::from_mut(&mut streams.globals)),

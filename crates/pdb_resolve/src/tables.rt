@@ -7,6 +7,7 @@ ghost use Rattle.pdb.specs.Source.{Continues, MayFail};
 ghost use Rattle.pdb.specs.Answers.{string_table_in};
 ghost use Rattle.pdb_resolve.specs.AsIfEmpty.{if_read, OnlyFails};
 ghost use Rattle.pdb_resolve.specs.FileParts.{names_in};
+ghost use Rattle.pdb_resolve.specs.AcrossModules.{global_id_in};
 ghost use Rattle.pdb_resolve.specs.Frames.{frames_in, inlined_frame, outer_name};
 ghost use Rattle.pdb_resolve.specs.ModuleCode.{program_in, inlined_at, procedure_at};
 ghost use Rattle.pdb_resolve.specs.Listed.{shown_procedure};
@@ -48,7 +49,7 @@ fn strings_asked<'a, 's, S: Source<'s>>(
 }
 
 /// The frames of the functions that were inlined at a place, from the last site to the first.
-#[tactic(auto, unfolding(crate::specs::FileParts::names_in))]
+#[tactic(auto, unfolding(crate::specs::FileParts::names_in, crate::specs::FileParts::modules_listed))]
 fn inlined_frames<'a, 's, S: Source<'s>>(
     alloc: Global,
     pdb: &mut PDB<'s, S>,
@@ -63,7 +64,7 @@ fn inlined_frames<'a, 's, S: Source<'s>>(
     requires strings { option_copied strings ≡ if_read (string_table_in pdb.old.file) }
     ensures continues { Continues pdb.old pdb.new }
     ensures kept { AreTablesOf pdb.old.file names.new }
-    ensures frames { IfOk result (λ fs. map shown_frame fs.items ≡ map (inlined_frame (names_in pdb.old.file) (program_in code.now)) (reverse (inlined_at place code.now))) }
+    ensures frames { IfOk result (λ fs. map shown_frame fs.items ≡ map (inlined_frame (names_in pdb.old.file) (global_id_in pdb.old.file code.now) (program_in code.now)) (reverse (inlined_at place code.now))) }
     ensures refused { IfErr result (λ e. OnlyFails (MayFail pdb.old pdb.new) e) }
 {
     let calls = code.inlined_in(alloc, place, procedure)?;
@@ -74,7 +75,17 @@ fn inlined_frames<'a, 's, S: Source<'s>>(
     let mut frames = Vec::with_capacity(alloc, calls.len().saturating_add(1))?;
     names.make(alloc, pdb)?;
     match &names.made {
-        Some(made) => push_inlined(&mut frames, code, made, strings, calls.as_slice())?,
+        Some(made) => {
+            push_inlined(
+                alloc,
+                pdb,
+                &mut frames,
+                code,
+                made,
+                strings,
+                calls.as_slice(),
+            )?
+        }
         None => return Err(Error::OutOfMemory),
     }
     Ok(frames)
@@ -119,7 +130,7 @@ impl<'a, 's> Tables<'a, 's> {
         requires procedure { option_map shown_procedure procedure ≡ procedure_at place code.now }
         ensures continues { Continues pdb.old pdb.new }
         ensures kept { AreNamesOf pdb.old.file self.new }
-        ensures frames { IfOk result (λ fs. map shown_frame fs.items ≡ frames_in (names_in pdb.old.file) (option_map name_bytes public.entry) place code.now) }
+        ensures frames { IfOk result (λ fs. map shown_frame fs.items ≡ frames_in (names_in pdb.old.file) (global_id_in pdb.old.file code.now) (option_map name_bytes public.entry) place code.now) }
         ensures refused { IfErr result (λ e. OnlyFails (MayFail pdb.old pdb.new) e) }
     {
         let strings = strings_asked(pdb, &mut self.strings)?;

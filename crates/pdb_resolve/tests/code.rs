@@ -1,12 +1,12 @@
 //! Code of modules that are put together record by record.
 
 use crate::frames::push_inlined;
-use crate::tests::files::is;
+use crate::tests::files::{file_of_streams, is};
 use crate::tests::modules::info_of;
 use crate::{FunctionNames, InlinedCall, ModuleCode};
 use pdb::{
-    FileIndex, IdIndex, ItemFinder, LineInfo, LineInfoKind, PdbInternalSectionOffset, Result,
-    Stream, StringTable,
+    FileIndex, IdIndex, ItemFinder, LineInfo, LineInfoKind, MemorySource, PDB,
+    PdbInternalSectionOffset, Result, Stream, StringTable,
 };
 use std::alloc::Global;
 use std::process::Abort;
@@ -399,6 +399,7 @@ fn frames_have_the_files_of_their_own_lines(rt: HostRuntime) -> Result<()> {
     let names = FunctionNames {
         ids: ItemFinder::empty(alloc),
         types: ItemFinder::empty(alloc),
+        information: None,
     };
     // There is no file at 16.
     let mut calls = Vec::new(alloc);
@@ -406,7 +407,17 @@ fn frames_have_the_files_of_their_own_lines(rt: HostRuntime) -> Result<()> {
         calls.push(call_in(file))?;
     }
     let mut frames = Vec::new(alloc);
-    push_inlined(&mut frames, &code, &names, Some(&strings), calls.as_slice())?;
+    let file = file_of_streams(alloc, [b"", b"", b"", b"", b"", b"", b"", b"", b""])?;
+    let mut pdb = PDB::open(alloc, MemorySource::new(file.as_slice()))?;
+    push_inlined(
+        alloc,
+        &mut pdb,
+        &mut frames,
+        &code,
+        &names,
+        Some(&strings),
+        calls.as_slice(),
+    )?;
     let wanted: [Option<&[u8]>; 5] = [Some(b"b.c"), Some(b"a.c"), Some(b"a.c"), Some(b"b.c"), None];
     is(&rt, "frames", &frames.len(), &5);
     for (frame, wanted) in frames.as_slice().iter().zip(&wanted) {

@@ -4,6 +4,7 @@ mod addresses;
 mod code;
 mod contributions;
 mod files;
+mod imports;
 mod modules;
 mod names;
 mod publics;

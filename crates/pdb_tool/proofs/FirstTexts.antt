@@ -4,7 +4,7 @@ use Rattle.std.specs.Prelude.{◌≢◌, IsErrAnd, IsErrOf}
 use Rattle.pdb_text.specs.Written.{WroteFirst, WroteFront}
 use Rattle.pdb_text.proofs.Written.{so_far_front}
 use Rattle.pdb_tool.specs.declared.stop.Stop.{Stop}
-use Rattle.pdb_tool.specs.declared.stop.Stop.TheVariants.{Read, Open, Image, NoPdb, Memory, Write}
+use Rattle.pdb_tool.specs.declared.stop.Stop.TheVariants.{Unopened, Read, Open, Image, NoPdb, Memory, Write}
 
 -- the texts of some first things are a beginning of all
 front_of_first : {X : Type 0} (f : X → List ℕ) (a b : Option (List ℕ)) (xs : List X) → WroteFirst f a b xs → WroteFront a b (flat_map f xs)
@@ -15,6 +15,7 @@ pub front_of_stops : {X T : Type 0} (f : X → List ℕ) (a b : Option (List ℕ
     → (IsErrAnd r (λ e. e ≢ Write) → WroteFirst f a b xs) → (IsErrOf r Write → WroteFront a b (flat_map f xs)) → OnErr r (WroteFront a b (flat_map f xs))
 front_of_stops f a b xs (Ok x) h w = tt
 front_of_stops f a b xs (Err Write) h w = w refl
+front_of_stops f a b xs (Err (Unopened why)) h w = front_of_first f a b xs (h (λ q. absurd cc))
 front_of_stops f a b xs (Err Read) h w = front_of_first f a b xs (h (λ q. absurd cc))
 front_of_stops f a b xs (Err (Open e)) h w = front_of_first f a b xs (h (λ q. absurd cc))
 front_of_stops f a b xs (Err (Image e)) h w = front_of_first f a b xs (h (λ q. absurd cc))

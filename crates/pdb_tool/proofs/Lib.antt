@@ -15,3 +15,7 @@ pub mod Patterns
 pub mod SomeWord
 pub mod Colons
 pub mod SameSizes
+pub mod PlacesTexts
+pub mod StreamOrder
+pub mod StreamFilters
+pub mod StreamNames

@@ -6,8 +6,9 @@ use Rattle.pdb_tool.specs.SourceViews.{source_view}
 use Rattle.pdb_tool.specs.ModuleLists.{modules_command}
 use Rattle.pdb_tool.specs.Operands.{word_of}
 use Rattle.pdb_tool.specs.SectionTexts.{sections_command}
+use Rattle.pdb_tool.specs.StreamTexts.{streams_command}
 use Rattle.pdb_tool.specs.declared.file_texts.FileText.{FileText}
-use Rattle.pdb_tool.specs.declared.file_texts.FileText.TheVariants.{AllSymbols, Code, Find, Lines, Modules, Scopes, Sections, Sources, Symbols, Where}
+use Rattle.pdb_tool.specs.declared.file_texts.FileText.TheVariants.{AllSymbols, Code, Find, Lines, Modules, Scopes, Sections, Sources, Streams, Symbols, Where}
 
 -- the code at addresses, one after another; lines, scopes, symbols or files of modules; what has a name; lists
 abbrev pub file_text : List ℕ → FileText → List ℕ
@@ -21,3 +22,4 @@ file_text file (Find words) = find_command file (map word_of words.now)
 file_text file (Where asked) = where_command file (map source_view asked.now)
 file_text file Modules = modules_command file
 file_text file Sections = sections_command file
+file_text file Streams = streams_command file

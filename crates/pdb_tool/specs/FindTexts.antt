@@ -15,7 +15,7 @@ use Rattle.pdb.specs.Inlinees.{InlineeEntry, inlinee_with}
 use Rattle.pdb.specs.Inlined.{lines_of_site}
 use Rattle.pdb.specs.LineInfo.{LineInfo}
 use Rattle.pdb.specs.ModuleStream.{ModuleBytes, symbols_of}
-use Rattle.pdb.specs.Qualified.{Qualified, qualified_of}
+use Rattle.pdb.specs.Qualified.{Qualified}
 use Rattle.pdb.specs.Tables.{Addresses}
 use Rattle.pdb.specs.Answers.{address_map_in, debug_information_in, global_symbols_in}
 use Rattle.pdb.specs.Header.{header_of}
@@ -24,6 +24,7 @@ use Rattle.pdb_names.specs.Spelling.{spelled, text_of}
 use Rattle.pdb_text.specs.OneLine.{one_line}
 use Rattle.pdb_resolve.specs.AsIfEmpty.{if_read}
 use Rattle.pdb_resolve.specs.FileParts.{items_listed}
+use Rattle.pdb_resolve.specs.AcrossModules.{call_name}
 use Rattle.pdb_resolve.specs.Frames.{qualified_text}
 use Rattle.pdb_resolve.specs.ModuleCode.{inlinees_in}
 use Rattle.pdb_resolve.specs.PlaceAddresses.{address_for}
@@ -108,25 +109,30 @@ inlined_at f None name = []
 inlined_at f (Some r) None = []
 inlined_at f (Some r) (Some name) = line_if_asked (codes "inlined") f r.offset r.length (qualified_text (Some name))
 
-abbrev pub symbol_line : Finding → (ℕ → Option InlineeEntry) → Option Parent → ℕ → Result Data Error → List ℕ
-symbol_line f known c index (Ok (Procedure s)) = line_if_asked (codes "procedure") f s.offset (Some s.len) s.name
-symbol_line f known c index (Ok (Thunk s)) = line_if_asked (codes "thunk") f s.offset (Some s.len) s.name
-symbol_line f known c index (Ok (DataItem global managed type_index offset name)) = line_if_asked (codes "data") f offset None name
-symbol_line f known c index (Ok (ThreadStorage global type_index offset name)) = line_if_asked (codes "thread") f offset None name
-symbol_line f known c index (Ok (Label offset flags name)) = line_if_asked (codes "label") f offset None name
-symbol_line f known c index (Ok (InlineSite s)) = inlined_at f (find has_bytes (site_records known c index s.inlinee.0 s.annotations)) (qualified_of f.ids f.types s.inlinee.0)
-symbol_line f known c index r = []
+-- the line of a symbol; names has the name of an inlined function by the id of its call
+abbrev pub symbol_line : Finding → (ℕ → Option Qualified) → (ℕ → Option InlineeEntry) → Option Parent → ℕ → Result Data Error → List ℕ
+symbol_line f names known c index (Ok (Procedure s)) = line_if_asked (codes "procedure") f s.offset (Some s.len) s.name
+symbol_line f names known c index (Ok (Thunk s)) = line_if_asked (codes "thunk") f s.offset (Some s.len) s.name
+symbol_line f names known c index (Ok (DataItem global managed type_index offset name)) = line_if_asked (codes "data") f offset None name
+symbol_line f names known c index (Ok (ThreadStorage global type_index offset name)) = line_if_asked (codes "thread") f offset None name
+symbol_line f names known c index (Ok (Label offset flags name)) = line_if_asked (codes "label") f offset None name
+symbol_line f names known c index (Ok (InlineSite s)) = inlined_at f (find has_bytes (site_records known c index s.inlinee.0 s.annotations)) (names s.inlinee.0)
+symbol_line f names known c index r = []
 
 -- the lines of symbols, of which the last procedure before is given
-abbrev pub symbol_lines : Finding → (ℕ → Option InlineeEntry) → Option Parent → List Entry → List ℕ
-symbol_lines f known c [] = []
-symbol_lines f known c (s ∷ ss) = symbol_line f known c s.index (record_at s.bytes) ++ symbol_lines f known (option_or (parent_said (record_at s.bytes)) c) ss
+abbrev pub symbol_lines : Finding → (ℕ → Option Qualified) → (ℕ → Option InlineeEntry) → Option Parent → List Entry → List ℕ
+symbol_lines f names known c [] = []
+symbol_lines f names known c (s ∷ ss) = symbol_line f names known c s.index (record_at s.bytes) ++ symbol_lines f names known (option_or (parent_said (record_at s.bytes)) c) ss
 
-abbrev pub symbols_left_text : Finding → (ℕ → Option InlineeEntry) → Option Parent → Left Entry → List ℕ
-symbols_left_text f known c left = symbol_lines f known c left.items ++ fault_line left.fault
+abbrev pub symbols_left_text : Finding → (ℕ → Option Qualified) → (ℕ → Option InlineeEntry) → Option Parent → Left Entry → List ℕ
+symbols_left_text f names known c left = symbol_lines f names known c left.items ++ fault_line left.fault
 
-unfoldable pub find_text : Finding → ModuleBytes → List ℕ
-find_text f m = told (symbols_of m) (symbols_left_text f (inlinee_with (inlinees_in m)) None)
+unfoldable pub find_text : Finding → (ℕ → Option Qualified) → ModuleBytes → List ℕ
+find_text f names m = told (symbols_of m) (symbols_left_text f names (inlinee_with (inlinees_in m)) None)
+
+-- of a module of a file
+abbrev pub find_in : Finding → List ℕ → ModuleBytes → List ℕ
+find_in f file m = find_text f (call_name f.ids f.types file m) m
 
 -- ---- the command
 

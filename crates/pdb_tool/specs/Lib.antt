@@ -6,6 +6,8 @@ pub mod Options
 pub mod Operands
 pub mod Questions
 pub mod Words
+pub mod Work
+pub mod FileKinds
 pub mod ErrorLine
 pub mod Values
 pub mod Depth
@@ -31,3 +33,6 @@ pub mod Checks
 pub mod CheckTexts
 pub mod FileTexts
 pub mod Wanted
+pub mod StreamOrder
+pub mod StreamRoles
+pub mod StreamTexts

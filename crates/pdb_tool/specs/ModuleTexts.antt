@@ -4,25 +4,31 @@ use Rattle.std.specs.Fmt.{decimal}
 use Rattle.pdb.specs.Error.{Error}
 use Rattle.pdb.specs.Refusal.{◌>>=◌}
 use Rattle.pdb.specs.Left.{Left}
+use Rattle.pdb.specs.Items.{ItemEntry}
 use Rattle.pdb.specs.Modules.{ModuleEntry, modules_in}
 use Rattle.pdb.specs.ModuleStream.{ModuleBytes}
-use Rattle.pdb.specs.Answers.{debug_information_in, global_symbols_in, module_info_in, module_listed, string_table_in}
+use Rattle.pdb.specs.Answers.{debug_information_in, global_symbols_in, item_at, module_info_in, string_table_in}
 use Rattle.pdb_resolve.specs.AsIfEmpty.{if_read}
 use Rattle.pdb_resolve.specs.FileParts.{items_listed}
+use Rattle.pdb_resolve.specs.AcrossModules.{call_name, global_id_in}
 use Rattle.pdb_tool.specs.ErrorLine.{error_line, fault_line, told}
 use Rattle.pdb_tool.specs.Values.{behind_blank}
 use Rattle.pdb_tool.specs.LineTexts.{lines_text}
 use Rattle.pdb_tool.specs.ScopeTexts.{scopes_text}
 use Rattle.pdb_tool.specs.SymbolTexts.{global_symbols_text, symbols_text}
 use Rattle.pdb_tool.specs.SourceTexts.{sources_text}
-use Rattle.pdb_tool.specs.FindTexts.{Finding, find_text, finding_in, globals_found}
+use Rattle.pdb_tool.specs.FindTexts.{Finding, find_in, finding_in, globals_found}
 use Rattle.pdb_tool.specs.SourcesAsked.{SourceOf}
-use Rattle.pdb_tool.specs.WhereTexts.{asking_in, where_text}
+use Rattle.pdb_tool.specs.WhereTexts.{asking_in, where_in}
 
 -- the text of a module; another where none is there
 abbrev pub there_text : (ModuleBytes → List ℕ) → List ℕ → Option ModuleBytes → List ℕ
 there_text text missing None = missing
 there_text text missing (Some m) = text m
+
+-- a text that is by the ids that the whole file knows, of a module of a file
+abbrev pub in_file : ((ℕ → Option ℕ) → ModuleBytes → List ℕ) → List ℕ → ModuleBytes → List ℕ
+in_file text file m = text (global_id_in file m) m
 
 -- the line that names a module, by its index in the list
 unfoldable pub module_line : ℕ → ModuleEntry → List ℕ
@@ -37,9 +43,13 @@ abbrev pub entry_text : Bool → (ModuleBytes → List ℕ) → List ℕ → ℕ
 entry_text several text file k None = codes "none\n"
 entry_text several text file k (Some m) = line_if several k m ++ told (module_info_in file m) (there_text text (codes "none\n"))
 
--- of the module of this index in the list
-unfoldable pub place_text : Bool → (ModuleBytes → List ℕ) → List ℕ → ℕ → List ℕ
-place_text several text file k = told (module_listed file k) (entry_text several text file k)
+-- of the module of this index in a list
+abbrev pub place_in : Bool → (ModuleBytes → List ℕ) → List ℕ → Left ModuleEntry → ℕ → List ℕ
+place_in several text file left k = told (item_at k left) (entry_text several text file k)
+
+-- and in that of the file
+abbrev pub place_text : Bool → (ModuleBytes → List ℕ) → List ℕ → ℕ → List ℕ
+place_text several text file k = told (debug_information_in file >>= modules_in) (λ left. place_in several text file left k)
 
 -- behind the line that names a module; nothing where it has no stream
 abbrev pub headed_text : List ℕ → (ModuleBytes → List ℕ) → Result (Option ModuleBytes) Error → List ℕ
@@ -102,8 +112,11 @@ abbrev pub lines_command : List ℕ → List ℕ → List ℕ
 lines_command file ks = modules_text (lines_text (if_read (string_table_in file))) file ks
 
 -- `scopes`: inlined functions have their names from ids and types
+abbrev pub scopes_in : List ItemEntry → List ItemEntry → List ℕ → ModuleBytes → List ℕ
+scopes_in ids types file m = scopes_text (call_name ids types file m) m
+
 abbrev pub scopes_command : List ℕ → List ℕ → List ℕ
-scopes_command file ks = modules_text (scopes_text (items_listed file 4) (items_listed file 2)) file ks
+scopes_command file ks = modules_text (scopes_in (items_listed file 4) (items_listed file 2) file) file ks
 
 -- `symbols`: those of modules, the global ones where there is no number
 abbrev pub symbols_command : List ℕ → List ℕ → List ℕ
@@ -120,11 +133,11 @@ sources_command file ks = modules_text (sources_text (if_read (string_table_in f
 
 -- `find`: those of the global symbols, and then those of all modules
 abbrev pub found_by : List ℕ → Finding → List ℕ
-found_by file f = globals_found file f ++ plain_text (find_text f) file
+found_by file f = globals_found file f ++ plain_text (find_in f file) file
 
 abbrev pub find_command : List ℕ → List (List ℕ) → List ℕ
 find_command file words = found_by file (finding_in file words)
 
 -- `where`: those of all modules
 abbrev pub where_command : List ℕ → List SourceOf → List ℕ
-where_command file asked = plain_text (where_text (asking_in file asked)) file
+where_command file asked = plain_text (where_in (asking_in file asked) file) file

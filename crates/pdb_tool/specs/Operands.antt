@@ -1,27 +1,43 @@
 -- The words of a command that are no options.
-use Rattle.std.specs.Prelude.{ℕ, ◌+◌, List, [], ◌∷◌, Bool, true, false, Option, Some, None, Result, Ok, Err, if◌then◌else◌}
+use Rattle.std.specs.Prelude.{ℕ, ◌+◌, List, [], ◌∷◌, Bool, true, false, not, Option, Some, None, Result, Ok, Err, if◌then◌else◌}
 use Rattle.std.specs.Str.{bytes_eq}
-use Rattle.pdb_tool.specs.Options.{is_option, is_base}
-use Rattle.pdb_tool.specs.declared.operands.Operand.{Operand}
+use Rattle.pdb_tool.specs.Options.{is_option, is_base, is_dashes}
+use Rattle.pdb_tool.specs.declared.options.Next.{Next}
+use Rattle.pdb_tool.specs.declared.options.Next.TheVariants.{Word, Value, Operand}
+use Rattle.pdb_tool.specs.declared.operands.Operand.{Operand as Named}
 
 -- a word, and its place among all
 pub record WordAt : Type 0 where
   pub place : ℕ
   pub word : List ℕ
 
-abbrev pub operand_view : Operand → WordAt
+abbrev pub operand_view : Named → WordAt
 operand_view o = record { place = o.place; word = o.word.now }
 
-abbrev pub word_of : Operand → List ℕ
+abbrev pub word_of : Named → List ℕ
 word_of o = o.word.now
 
--- the words that are neither an option nor its value, of words of which the first stands at p; whether the first is a value
-abbrev pub operands_of : Bool → List (List ℕ) → ℕ → List WordAt
-operands_of is_value [] p = []
-operands_of true (word ∷ words) p = operands_of false words (p + 1)
-operands_of false (word ∷ words) p =
-    if is_option word then operands_of (is_base word) words (p + 1)
-    else record { place = p; word = word } ∷ operands_of false words (p + 1)
+-- a word is an operand by what is expected
+abbrev pub is_operand : Next → List ℕ → Bool
+is_operand Word word = not (is_option word)
+is_operand Value word = false
+is_operand Operand word = true
+
+-- what is expected behind a word that is no value
+abbrev pub behind_plain : List ℕ → Next
+behind_plain word = if is_dashes word then Operand else if is_base word then Value else Word
+
+abbrev pub behind_word : Next → List ℕ → Next
+behind_word Word word = behind_plain word
+behind_word Value word = Word
+behind_word Operand word = Operand
+
+-- the words that are neither an option nor its value, of words of which the first stands at p
+abbrev pub operands_of : Next → List (List ℕ) → ℕ → List WordAt
+operands_of next [] p = []
+operands_of next (word ∷ words) p =
+    if is_operand next word then record { place = p; word = word } ∷ operands_of (behind_word next word) words (p + 1)
+    else operands_of (behind_word next word) words (p + 1)
 
 -- ---- words that are all of one kind
 

@@ -9,6 +9,8 @@ use Rattle.pdb_tool.specs.declared.words.Topic.{Topic}
 use Rattle.pdb_tool.specs.declared.words.Topic.TheVariants.{Resolve, Symbols}
 use Rattle.pdb_tool.specs.declared.options.Options.{Options}
 use Rattle.pdb_tool.specs.declared.options.Given.{Given}
+use Rattle.pdb_tool.specs.declared.options.Next.{Next}
+use Rattle.pdb_tool.specs.declared.options.Next.TheVariants.{Word, Value, Operand}
 use Rattle.pdb_tool.specs.declared.options.Wanted.{Wanted}
 use Rattle.pdb_tool.specs.declared.options.Wanted.TheVariants.{Key, Image}
 
@@ -20,14 +22,18 @@ is_option word = bytes_eq (take 2 word) (codes "--")
 abbrev pub is_base : List ℕ → Bool
 is_base word = bytes_eq word (codes "--base")
 
+-- the word behind which no word is an option
+abbrev pub is_dashes : List ℕ → Bool
+is_dashes word = bytes_eq word (codes "--")
+
 -- with the next word as the base; none where there is a base
 abbrev pub wanting_base : Given → Option Given
-wanting_base g = if is_some g.options.base then None else Some (record g { wants_base = true })
+wanting_base g = if is_some g.options.base then None else Some (record g { next = Value })
 
 -- with this base; none where there is one, or where a word is no number
 abbrev pub base_given : Given → Option ℕ → Option Given
 base_given g None = None
-base_given g (Some base) = Some (record g { options = record g.options { base = Some base }; wants_base = false })
+base_given g (Some base) = Some (record g { options = record g.options { base = Some base }; next = Word })
 
 abbrev pub with_base : Given → Option ℕ → Option Given
 with_base g base = if is_some g.options.base then None else base_given g base
@@ -64,12 +70,18 @@ with_option Resolve g p word = with_resolve_option g p word
 with_option Symbols g p word = with_symbols_option g word
 with_option topic g p word = None
 
--- with one more word, at p; none where it can't stand there
-unfoldable pub with_word : Topic → Given → ℕ → List ℕ → Option Given
-with_word topic g p word =
-    if g.wants_base then with_base g (address_number word)
+-- with one that is no value, at p; none where it can't stand there
+abbrev pub with_plain : Topic → Given → ℕ → List ℕ → Option Given
+with_plain topic g p word =
+    if is_dashes word then Some (record g { next = Operand })
     else if is_option word then with_option topic g p word
     else Some (record g { has_file = true })
+
+-- with one more word, at p
+unfoldable pub with_word : Topic → Given → Next → ℕ → List ℕ → Option Given
+with_word topic g Word p word = with_plain topic g p word
+with_word topic g Value p word = with_base g (address_number word)
+with_word topic g Operand p word = Some (record g { has_file = true })
 
 abbrev pub no_options : Options
 no_options = record { base = None; wanted = None; addresses = false; all = false }
@@ -80,7 +92,12 @@ with_base_of o own = record o { base = Some (unwrap_or o.base own) }
 
 -- what is given before the first word
 abbrev pub nothing_given : Given
-nothing_given = record { options = no_options; wants_base = false; has_file = false }
+nothing_given = record { options = no_options; next = Word; has_file = false }
+
+-- a value is still to come
+abbrev pub is_value : Next → Bool
+is_value Value = true
+is_value next = false
 
 abbrev pub or_bad : {A : Type 0} → Option Given → (Given → Result A ℕ) → ℕ → Result A ℕ
 or_bad None more p = Err p
@@ -89,5 +106,5 @@ or_bad (Some g) more p = more g
 -- the options of words of which the first stands at p, and of which one names a file; or the place of the word that can't
 -- stand there, or is missing at their end
 abbrev pub options_of : Topic → Given → List (List ℕ) → ℕ → Result Options ℕ
-options_of topic g [] p = if g.has_file && not g.wants_base then Ok g.options else Err p
-options_of topic g (word ∷ words) p = or_bad (with_word topic g p word) (λ more. options_of topic more words (p + 1)) p
+options_of topic g [] p = if g.has_file && not (is_value g.next) then Ok g.options else Err p
+options_of topic g (word ∷ words) p = or_bad (with_word topic g g.next p word) (λ more. options_of topic more words (p + 1)) p

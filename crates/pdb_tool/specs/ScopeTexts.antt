@@ -8,8 +8,7 @@ use Rattle.pdb.specs.Data.{Data}
 use Rattle.pdb.specs.Data.Data.{Procedure, Block, Thunk, SeparatedCode, InlineSite, DataItem, ThreadStorage, Label, Local, RegisterVariable, RegisterRelative}
 use Rattle.pdb.specs.Forms.{kind_at, record_at}
 use Rattle.pdb.specs.SymbolList.{Entry}
-use Rattle.pdb.specs.Items.{ItemEntry}
-use Rattle.pdb.specs.Qualified.{Qualified, qualified_of}
+use Rattle.pdb.specs.Qualified.{Qualified}
 use Rattle.pdb.specs.ModuleStream.{ModuleBytes, symbols_of}
 use Rattle.pdb_text.specs.OneLine.{one_line}
 use Rattle.pdb_tool.specs.Depth.{blanks, depth_at, depth_behind}
@@ -37,32 +36,32 @@ abbrev pub behind_qualified : Option Qualified → List ℕ
 behind_qualified None = codes " ??"
 behind_qualified (Some name) = behind_scoped name.scope name.name
 
--- the line of what a record says, at a depth, where it has one; the names of inlined functions are those of ids and types
-abbrev pub scope_line : List ItemEntry → List ItemEntry → ℕ → Result Data Error → List ℕ
-scope_line ids types depth (Ok (Procedure s)) = blanks depth ++ code_text (codes "procedure") s.offset s.len s.name
-scope_line ids types depth (Ok (Block parent end len offset name)) = blanks depth ++ code_text (codes "block") offset len name
-scope_line ids types depth (Ok (Thunk s)) = blanks depth ++ code_text (codes "thunk") s.offset s.len s.name
-scope_line ids types depth (Ok (SeparatedCode s)) = blanks depth ++ code_text (codes "separated") s.offset s.len []
-scope_line ids types depth (Ok (InlineSite s)) = blanks depth ++ (codes "inlined" ++ behind_qualified (qualified_of ids types s.inlinee.0) ++ codes "\n")
-scope_line ids types depth (Ok (DataItem global managed type_index offset name)) = blanks depth ++ placed_text (codes "data") offset name
-scope_line ids types depth (Ok (ThreadStorage global type_index offset name)) = blanks depth ++ placed_text (codes "thread") offset name
-scope_line ids types depth (Ok (Label offset flags name)) = blanks depth ++ placed_text (codes "label") offset name
-scope_line ids types depth (Ok (Local type_index flags name)) = blanks depth ++ named_text (codes "local") name
-scope_line ids types depth (Ok (RegisterVariable type_index register name)) = blanks depth ++ named_text (codes "register") name
-scope_line ids types depth (Ok (RegisterRelative offset type_index register name)) = blanks depth ++ named_text (codes "relative") name
-scope_line ids types depth r = []
+-- the line of what a record says, at a depth, where it has one; names has the name of an inlined function by the id of its call
+abbrev pub scope_line : (ℕ → Option Qualified) → ℕ → Result Data Error → List ℕ
+scope_line names depth (Ok (Procedure s)) = blanks depth ++ code_text (codes "procedure") s.offset s.len s.name
+scope_line names depth (Ok (Block parent end len offset name)) = blanks depth ++ code_text (codes "block") offset len name
+scope_line names depth (Ok (Thunk s)) = blanks depth ++ code_text (codes "thunk") s.offset s.len s.name
+scope_line names depth (Ok (SeparatedCode s)) = blanks depth ++ code_text (codes "separated") s.offset s.len []
+scope_line names depth (Ok (InlineSite s)) = blanks depth ++ (codes "inlined" ++ behind_qualified (names s.inlinee.0) ++ codes "\n")
+scope_line names depth (Ok (DataItem global managed type_index offset name)) = blanks depth ++ placed_text (codes "data") offset name
+scope_line names depth (Ok (ThreadStorage global type_index offset name)) = blanks depth ++ placed_text (codes "thread") offset name
+scope_line names depth (Ok (Label offset flags name)) = blanks depth ++ placed_text (codes "label") offset name
+scope_line names depth (Ok (Local type_index flags name)) = blanks depth ++ named_text (codes "local") name
+scope_line names depth (Ok (RegisterVariable type_index register name)) = blanks depth ++ named_text (codes "register") name
+scope_line names depth (Ok (RegisterRelative offset type_index register name)) = blanks depth ++ named_text (codes "relative") name
+scope_line names depth r = []
 
 -- piece: scope_lines
 -- the lines of symbols behind records that leave this depth
-abbrev pub scope_lines : List ItemEntry → List ItemEntry → ℕ → List Entry → List ℕ
-scope_lines ids types depth [] = []
-scope_lines ids types depth (s ∷ ss) = scope_line ids types (depth_at depth (kind_at s.bytes)) (record_at s.bytes) ++ scope_lines ids types (depth_behind depth (kind_at s.bytes)) ss
+abbrev pub scope_lines : (ℕ → Option Qualified) → ℕ → List Entry → List ℕ
+scope_lines names depth [] = []
+scope_lines names depth (s ∷ ss) = scope_line names (depth_at depth (kind_at s.bytes)) (record_at s.bytes) ++ scope_lines names (depth_behind depth (kind_at s.bytes)) ss
 
 -- end
 
 -- the lines of the symbols that are left, and then that of the fault
-abbrev pub scopes_left : List ItemEntry → List ItemEntry → ℕ → Left Entry → List ℕ
-scopes_left ids types depth left = scope_lines ids types depth left.items ++ fault_line left.fault
+abbrev pub scopes_left : (ℕ → Option Qualified) → ℕ → Left Entry → List ℕ
+scopes_left names depth left = scope_lines names depth left.items ++ fault_line left.fault
 
-unfoldable pub scopes_text : List ItemEntry → List ItemEntry → ModuleBytes → List ℕ
-scopes_text ids types m = told (symbols_of m) (scopes_left ids types 0)
+unfoldable pub scopes_text : (ℕ → Option Qualified) → ModuleBytes → List ℕ
+scopes_text names m = told (symbols_of m) (scopes_left names 0)

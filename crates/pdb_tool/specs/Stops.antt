@@ -5,9 +5,9 @@ use Rattle.pdb.specs.Error.TheVariants as refusal
 use Rattle.pdb_file.specs.declared.reading.FetchError.{FetchError}
 use Rattle.pdb_file.specs.declared.reading.FetchError.TheVariants as fetch
 use Rattle.pdb_tool.specs.declared.stop.Stop.{Stop}
-use Rattle.pdb_tool.specs.declared.stop.Stop.TheVariants.{Read, Open, Image, NoPdb, Memory, Write}
+use Rattle.pdb_tool.specs.declared.stop.Stop.TheVariants.{Unopened, Read, Open, Image, NoPdb, Memory, Write}
 use Rattle.pdb_tool.specs.declared.report.Fault.{Fault}
-use Rattle.pdb_tool.specs.declared.report.Fault.TheVariants.{BadWord, NoText, NoInput, Stopped, OtherKey}
+use Rattle.pdb_tool.specs.declared.report.Fault.TheVariants.{BadWord, NotText, NoInput, Stopped, OtherKey}
 
 -- a read that failed
 abbrev pub stop_of_fetch : FetchError → Stop
@@ -26,6 +26,7 @@ stop_of_opening e = Open e
 
 -- the exit status of a command that stopped
 abbrev pub status_of_stop : Stop → ℕ
+status_of_stop (Unopened why) = 3
 status_of_stop Read = 3
 status_of_stop (Open e) = 4
 status_of_stop (Image e) = 4
@@ -36,7 +37,7 @@ status_of_stop Write = 6
 -- and of a fault of the program
 abbrev pub status_of : Fault → ℕ
 status_of (BadWord place) = 2
-status_of NoText = 2
+status_of (NotText place) = 2
 status_of NoInput = 3
 status_of (Stopped stop place) = status_of_stop stop
 status_of OtherKey = 7

@@ -14,11 +14,12 @@ use Rattle.pdb.specs.LineInfo.{LineInfo}
 use Rattle.pdb.specs.LineProgram.{ProgramOf}
 use Rattle.pdb.specs.Lines.{lines_of}
 use Rattle.pdb.specs.ModuleStream.{ModuleBytes, line_program_of, symbols_of}
-use Rattle.pdb.specs.Qualified.{Qualified, qualified_of}
+use Rattle.pdb.specs.Qualified.{Qualified}
 use Rattle.pdb.specs.Tables.{Addresses}
 use Rattle.pdb.specs.Answers.{address_map_in, string_table_in}
 use Rattle.pdb_resolve.specs.AsIfEmpty.{if_read}
 use Rattle.pdb_resolve.specs.FileParts.{items_listed}
+use Rattle.pdb_resolve.specs.AcrossModules.{call_name}
 use Rattle.pdb_resolve.specs.Frames.{file_in, file_name, file_text, name_text, plain}
 use Rattle.pdb_resolve.specs.ModuleCode.{inlinees_in, name_at, program_in}
 use Rattle.pdb_tool.specs.ErrorLine.{fault_line, told}
@@ -65,30 +66,34 @@ records_text a m program left = flat_map (record_text a m program) left.items ++
 unfoldable pub lines_text : Asking → ModuleBytes → List ℕ
 lines_text a m = told (line_program_of m) (λ program. records_text a m program (lines_of program.subsections))
 
--- ---- records of inlined calls
+-- ---- records of inlined calls; names has the name of an inlined function by the id of its call
 
 abbrev pub call_text : Asking → Option ProgramOf → Option Qualified → LineInfo → List ℕ
 call_text a program name r = if is_wanted a program r then where_line (codes "inlined") a.addresses r (file_of_record a program r) name else []
 
-abbrev pub site_text : Asking → Option ProgramOf → (ℕ → Option InlineeEntry) → Option Parent → ℕ → Result Data Error → List ℕ
-site_text a program known c index (Ok (InlineSite s)) = flat_map (call_text a program (qualified_of a.ids a.types s.inlinee.0)) (site_records known c index s.inlinee.0 s.annotations)
-site_text a program known c index r = []
+abbrev pub site_text : Asking → Option ProgramOf → (ℕ → Option Qualified) → (ℕ → Option InlineeEntry) → Option Parent → ℕ → Result Data Error → List ℕ
+site_text a program names known c index (Ok (InlineSite s)) = flat_map (call_text a program (names s.inlinee.0)) (site_records known c index s.inlinee.0 s.annotations)
+site_text a program names known c index r = []
 
 -- those of symbols, of which the last procedure before is given
-abbrev pub sites_text : Asking → Option ProgramOf → (ℕ → Option InlineeEntry) → Option Parent → List Entry → List ℕ
-sites_text a program known c [] = []
-sites_text a program known c (s ∷ ss) = site_text a program known c s.index (record_at s.bytes) ++ sites_text a program known (option_or (parent_said (record_at s.bytes)) c) ss
+abbrev pub sites_text : Asking → Option ProgramOf → (ℕ → Option Qualified) → (ℕ → Option InlineeEntry) → Option Parent → List Entry → List ℕ
+sites_text a program names known c [] = []
+sites_text a program names known c (s ∷ ss) = site_text a program names known c s.index (record_at s.bytes) ++ sites_text a program names known (option_or (parent_said (record_at s.bytes)) c) ss
 
-abbrev pub sites_left_text : Asking → Option ProgramOf → (ℕ → Option InlineeEntry) → Option Parent → Left Entry → List ℕ
-sites_left_text a program known c left = sites_text a program known c left.items ++ fault_line left.fault
+abbrev pub sites_left_text : Asking → Option ProgramOf → (ℕ → Option Qualified) → (ℕ → Option InlineeEntry) → Option Parent → Left Entry → List ℕ
+sites_left_text a program names known c left = sites_text a program names known c left.items ++ fault_line left.fault
 
-unfoldable pub calls_text : Asking → ModuleBytes → List ℕ
-calls_text a m = told (symbols_of m) (sites_left_text a (program_in m) (inlinee_with (inlinees_in m)) None)
+unfoldable pub calls_text : Asking → (ℕ → Option Qualified) → ModuleBytes → List ℕ
+calls_text a names m = told (symbols_of m) (sites_left_text a (program_in m) names (inlinee_with (inlinees_in m)) None)
 
 -- ---- the command
 
-unfoldable pub where_text : Asking → ModuleBytes → List ℕ
-where_text a m = lines_text a m ++ calls_text a m
+unfoldable pub where_text : Asking → (ℕ → Option Qualified) → ModuleBytes → List ℕ
+where_text a names m = lines_text a m ++ calls_text a names m
+
+-- of a module of a file
+abbrev pub where_in : Asking → List ℕ → ModuleBytes → List ℕ
+where_in a file m = where_text a (call_name a.ids a.types file m) m
 
 abbrev pub asking_in : List ℕ → List SourceOf → Asking
 asking_in file asked = record { asked = asked; strings = if_read (string_table_in file); ids = items_listed file 4; types = items_listed file 2; addresses = if_read (address_map_in file) }

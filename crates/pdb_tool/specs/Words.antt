@@ -1,10 +1,10 @@
 -- What the program's words ask for.
-use Rattle.std.specs.Prelude.{◌≡◌, ℕ, List, [], ◌∷◌, codes, Bool, ◌||◌, Option, Some, None, Result, Ok, Err, if◌then◌else◌}
+use Rattle.std.specs.Prelude.{◌≡◌, ℕ, List, [], ◌∷◌, codes, Bool, true, false, ◌||◌, Option, Some, None, Result, Ok, Err, if◌then◌else◌}
 use Rattle.std.specs.Str.{bytes_eq}
-use Rattle.pdb_tool.specs.Options.{options_of, nothing_given}
+use Rattle.pdb_tool.specs.Options.{is_dashes, options_of, nothing_given}
 use Rattle.pdb_tool.specs.declared.options.Options.{Options}
 use Rattle.pdb_tool.specs.declared.words.Topic.{Topic}
-use Rattle.pdb_tool.specs.declared.words.Topic.TheVariants.{Resolve, Lines, Scopes, Symbols, Key, Check, Find, Where, Sources, Modules, Sections}
+use Rattle.pdb_tool.specs.declared.words.Topic.TheVariants.{Resolve, Lines, Scopes, Symbols, Key, Check, Find, Where, Sources, Modules, Sections, Streams}
 use Rattle.pdb_tool.specs.declared.words.Request.{Request}
 use Rattle.pdb_tool.specs.declared.words.Request.TheVariants.{Help, ListHelp, Version, Run}
 use Rattle.pdb_tool.specs.declared.words.WordsError.{WordsError}
@@ -18,6 +18,7 @@ lookup_in word =
     else if bytes_eq word (codes "sources") then Some Sources
     else if bytes_eq word (codes "modules") then Some Modules
     else if bytes_eq word (codes "sections") then Some Sections
+    else if bytes_eq word (codes "streams") then Some Streams
     else None
 
 -- the command of a word
@@ -34,6 +35,14 @@ topic_in word =
 abbrev pub is_help : List ℕ → Bool
 is_help word = bytes_eq word (codes "-h") || bytes_eq word (codes "--help")
 
+abbrev pub is_version : List ℕ → Bool
+is_version word = bytes_eq word (codes "version") || bytes_eq word (codes "-V") || bytes_eq word (codes "--version")
+
+-- one of these words, before options end, is `--help`
+abbrev pub wants_help : List (List ℕ) → Bool
+wants_help [] = false
+wants_help (word ∷ words) = if is_dashes word then false else if bytes_eq word (codes "--help") then true else wants_help words
+
 -- what is asked for, if no word stands behind; else the word at p is bad
 abbrev pub alone : Request → List (List ℕ) → ℕ → Result Request ℕ
 alone request [] p = Ok request
@@ -46,7 +55,10 @@ help_of (Some topic) rest = alone (Help (Some topic)) rest 2
 
 abbrev pub help_in : List (List ℕ) → Result Request ℕ
 help_in [] = Ok (Help None)
-help_in (word ∷ rest) = if bytes_eq word (codes "list") then alone ListHelp rest 2 else help_of (topic_in word) rest
+help_in (word ∷ rest) =
+    if bytes_eq word (codes "list") then alone ListHelp rest 2
+    else if bytes_eq word (codes "help") then alone (Help None) rest 2
+    else help_of (topic_in word) rest
 
 -- a command with its options
 abbrev pub run_with : Topic → Result Options ℕ → Result Request ℕ
@@ -57,7 +69,7 @@ run_with topic (Err p) = Err p
 abbrev pub front_of : Topic → List (List ℕ) → Result Request ℕ
 front_of topic [] = Err 1
 front_of topic (word ∷ rest) =
-    if is_help word then alone (Help (Some topic)) rest 2
+    if bytes_eq word (codes "-h") || wants_help (word ∷ rest) then Ok (Help (Some topic))
     else run_with topic (options_of topic nothing_given (word ∷ rest) 1)
 
 abbrev pub command_of : Option Topic → List (List ℕ) → Result Request ℕ
@@ -70,7 +82,7 @@ request_in [] = Ok (Help None)
 request_in (word ∷ rest) =
     if bytes_eq word (codes "help") then help_in rest
     else if is_help word then alone (Help None) rest 1
-    else if bytes_eq word (codes "--version") then alone Version rest 1
+    else if is_version word then alone Version rest 1
     else command_of (topic_in word) rest
 
 -- a call answered what the words are, seen by view, or wanted memory

@@ -3,7 +3,7 @@
 ghost use Rattle.std.specs.Prelude.{◌≡◌, ◌++◌, ◌&&◌, OnOk, IfOk, codes, map, option_copied};
 ghost use Rattle.std.specs.Option.{option_map, unwrap_or};
 ghost use Rattle.std.specs.Fmt.{decimal};
-ghost use Rattle.pdb.specs.Qualified.{qualified_of, shown_qualified};
+ghost use Rattle.pdb.specs.Qualified.{shown_qualified};
 ghost use Rattle.pdb.specs.Text.{name_bytes};
 ghost use Rattle.pdb_resolve.specs.Frames.{file_text, name_text};
 ghost use Rattle.pdb_resolve.specs.ModuleCode.{name_at};
@@ -15,8 +15,8 @@ use crate::find_texts::has_bytes;
 use crate::finder::put_stretch;
 use crate::sources_asked::{SourceAsked, asks_for};
 use pdb::{
-    IdIndex, ItemFinder, LineInfo, LineProgram, ModuleInfo, PdbInternalSectionOffset,
-    QualifiedName, RawString, StringTable, qualified_name,
+    ItemFinder, LineInfo, LineProgram, ModuleInfo, PdbInternalSectionOffset, QualifiedName,
+    RawString, StringTable,
 };
 use pdb_resolve::{ModuleCode, PlaceAddresses, put_file, put_name};
 use pdb_text::{put_decimal, put_line_end};
@@ -29,8 +29,8 @@ use std::marker::Model;
 pub struct Asking<'w, 'a> {
     asked: &'w [SourceAsked<'w>],
     strings: Option<&'a StringTable<'a>>,
-    ids: ItemFinder<'a>,
-    types: ItemFinder<'a>,
+    pub ids: ItemFinder<'a>,
+    pub types: ItemFinder<'a>,
     addresses: PlaceAddresses<'a>,
 }
 
@@ -84,13 +84,6 @@ impl<'w, 'a> Asking<'w, 'a> {
             Some(file) => has_bytes(line) && asks_for(self.asked, file.as_bytes(), line.line_start),
             None => false,
         }
-    }
-
-    /// The qualified name of a function that was inlined.
-    pub fn function(&self, id: IdIndex) -> Option<QualifiedName<'_>>
-        ensures { option_map shown_qualified result ≡ qualified_of self.now.ids self.now.types id.0 }
-    {
-        qualified_name(&self.ids, &self.types, id)
     }
 
     /// The line of a record of this file, in the function of this name.

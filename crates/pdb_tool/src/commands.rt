@@ -11,9 +11,8 @@ ghost use Rattle.pdb_resolve.specs.FileParts.{items_listed, items_where};
 ghost use Rattle.pdb_text.specs.Written.{WroteFront};
 ghost use Rattle.pdb_tool.specs.ErrorLine.{told};
 ghost use Rattle.pdb_tool.specs.LineTexts.{lines_text};
-ghost use Rattle.pdb_tool.specs.ScopeTexts.{scopes_text};
 ghost use Rattle.pdb_tool.specs.SymbolTexts.{global_symbols_text, symbols_text};
-ghost use Rattle.pdb_tool.specs.ModuleTexts.{all_symbols_command, lines_command, modules_text, place_text, scopes_command, symbols_command};
+ghost use Rattle.pdb_tool.specs.ModuleTexts.{all_symbols_command, in_file, lines_command, modules_text, place_text, scopes_command, symbols_command};
 ghost use Rattle.pdb_tool.specs.declared.stop.Stop.{Stop};
 
 use crate::line_texts::put_lines;
@@ -25,7 +24,7 @@ use crate::symbol_texts::{put_global_symbols, put_symbols_of};
 use pdb::{
     Error, IdInformation, ItemFinder, ModuleInfo, PDB, Source, StringTable, TypeInformation,
 };
-use pdb_resolve::{ids_of, types_of};
+use pdb_resolve::{CallNames, GlobalIds, ids_of, types_of};
 use pdb_text::write_out;
 use std::alloc::{AllocError, Global};
 use std::io::Write;
@@ -40,13 +39,18 @@ impl<'a> ModuleText for Lines<'a> {
     ghost use Rattle.std.specs.Prelude.{option_copied};
     ghost use Rattle.pdb_tool.specs.LineTexts.{lines_text};
 
-    ghost text = { λ l. lines_text (option_copied l.strings) };
+    ghost text = { λ l ids. lines_text (option_copied l.strings) };
+
+    fn names_calls(&self) -> bool {
+        false
+    }
 
     fn put(
         &self,
         alloc: Global,
         out: &mut Vec<u8>,
         info: &ModuleInfo<'_>,
+        _global: &GlobalIds<'_>,
     ) -> Result<(), AllocError> {
         put_lines(alloc, out, self.strings, info)
     }
@@ -60,17 +64,24 @@ struct Scopes<'a> {
 }
 
 impl<'a> ModuleText for Scopes<'a> {
+    ghost use Rattle.pdb_resolve.specs.AcrossModules.{names_by};
     ghost use Rattle.pdb_tool.specs.ScopeTexts.{scopes_text};
 
-    ghost text = { λ s. scopes_text s.ids s.types };
+    ghost text = { λ s ids. scopes_text (names_by s.ids s.types ids) };
+
+    fn names_calls(&self) -> bool {
+        true
+    }
 
     fn put(
         &self,
         alloc: Global,
         out: &mut Vec<u8>,
         info: &ModuleInfo<'_>,
+        global: &GlobalIds<'_>,
     ) -> Result<(), AllocError> {
-        put_scopes(alloc, out, &self.ids, &self.types, info)
+        let names = CallNames::new(&self.ids, &self.types, global);
+        put_scopes(alloc, out, &names, info)
     }
 }
 
@@ -81,13 +92,18 @@ struct Symbols;
 impl ModuleText for Symbols {
     ghost use Rattle.pdb_tool.specs.SymbolTexts.{symbols_text};
 
-    ghost text = { λ _. symbols_text };
+    ghost text = { λ _ ids. symbols_text };
+
+    fn names_calls(&self) -> bool {
+        false
+    }
 
     fn put(
         &self,
         alloc: Global,
         out: &mut Vec<u8>,
         info: &ModuleInfo<'_>,
+        _global: &GlobalIds<'_>,
     ) -> Result<(), AllocError> {
         put_symbols_of(alloc, out, info)
     }
@@ -102,8 +118,8 @@ pub fn write_modules<'s, S: Source<'s>, T: ModuleText, W: Write>(
     out: &mut W,
 ) -> Result<(), Stop>
     ensures opened { (e : Error) → IsErrOf result (Stop.Open e) → ⊥ }
-    ensures ok { OnOk result (Appends (W.contents out.old) (W.contents out.new) (modules_text (T.text texts.now) pdb.old.file places.now)) }
-    ensures front { OnErr result (WroteFront (W.contents out.old) (W.contents out.new) (modules_text (T.text texts.now) pdb.old.file places.now)) }
+    ensures ok { OnOk result (Appends (W.contents out.old) (W.contents out.new) (modules_text (in_file (T.text texts.now) pdb.old.file) pdb.old.file places.now)) }
+    ensures front { OnErr result (WroteFront (W.contents out.old) (W.contents out.new) (modules_text (in_file (T.text texts.now) pdb.old.file) pdb.old.file places.now)) }
 {
     if places.is_empty() {
         write_all(alloc, pdb, texts, out)

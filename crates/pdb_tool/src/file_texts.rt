@@ -17,6 +17,7 @@ use crate::resolve::resolve_words;
 use crate::section_texts::write_sections;
 use crate::sources_asked::SourceAsked;
 use crate::stop::Stop;
+use crate::stream_texts::write_streams;
 use pdb::Source;
 use std::alloc::Global;
 use std::io::Write;
@@ -45,6 +46,8 @@ pub enum FileText<'a> {
     Modules,
     /// The section headers.
     Sections,
+    /// The streams.
+    Streams,
 }
 
 /// Writes what a command writes of a source's file.
@@ -71,5 +74,6 @@ pub fn write_text<'s, S: Source<'s>, W: Write>(
         FileText::Where(asked) => write_where(alloc, source, asked, out),
         FileText::Modules => write_modules(alloc, source, out),
         FileText::Sections => write_sections(alloc, source, out),
+        FileText::Streams => write_streams(alloc, source, out),
     }
 }

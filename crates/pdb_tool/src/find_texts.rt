@@ -7,10 +7,10 @@ ghost use Rattle.pdb.specs.Forms.{record_at};
 ghost use Rattle.pdb.specs.AnnotationViews.{annotation_bytes};
 ghost use Rattle.pdb.specs.InlinedViews.{inlined_left};
 ghost use Rattle.pdb.specs.Inlinees.{inlinee_with};
-ghost use Rattle.pdb.specs.Qualified.{qualified_of};
 ghost use Rattle.pdb.specs.SymbolList.{symbols_from};
 ghost use Rattle.pdb.specs.Text.{name_bytes};
 ghost use Rattle.pdb.specs.Views.{symbol_of, symbols_left};
+ghost use Rattle.pdb_resolve.specs.CallViews.{names_of_calls};
 ghost use Rattle.pdb_names.specs.Spelling.{spelled, text_of};
 ghost use Rattle.pdb_tool.specs.FindTexts.{find_text, found_line, global_line, global_lines, has_bytes, inlined_at, more_than_none, parent_said, public_line, public_name, site_records, symbol_line, symbols_left_text};
 ghost use Rattle.pdb_tool.specs.Finders.{parent_view};
@@ -20,10 +20,9 @@ use crate::finder::{Finder, put_qualified};
 use pdb::{
     Error, FallibleIterator, InlineSiteSymbol, InlineeFinder, InlineeLineIterator, LineInfo,
     ModuleInfo, PdbInternalSectionOffset, Symbol, SymbolData, SymbolIter, SymbolTable,
-    qualified_name,
 };
 use pdb_names::put_name;
-use pdb_resolve::read_known;
+use pdb_resolve::{CallNames, read_known};
 use std::alloc::{AllocError, Global};
 
 /// The line of a public symbol that was found. `spells` has the name that its name spells.
@@ -212,16 +211,17 @@ fn site_line<'a>(
 fn put_inlined<'a>(
     out: &mut Vec<u8>,
     finder: &Finder<'_, '_>,
+    names: &CallNames<'_, '_>,
     line: Option<LineInfo>,
     site: &InlineSiteSymbol<'a>,
     name: &mut Vec<u8>,
 ) -> Result<(), AllocError>
-    ensures { OnOk result (out.new.items ≡ out.old.items ++ inlined_at finder.now line (qualified_of finder.now.ids finder.now.types site.now.inlinee.0)) }
+    ensures { OnOk result (out.new.items ≡ out.old.items ++ inlined_at finder.now line (names_of_calls names.now site.now.inlinee.0)) }
 {
     let Some(line) = line else {
         return Ok(());
     };
-    match qualified_name(&finder.ids, &finder.types, site.inlinee) {
+    match names.find(site.inlinee) {
         Some(function) => {
             name.clear();
             put_qualified(name, function)?;
@@ -235,13 +235,14 @@ fn put_inlined<'a>(
 fn put_says<'a>(
     out: &mut Vec<u8>,
     finder: &Finder<'_, '_>,
+    names: &CallNames<'_, '_>,
     known: &InlineeFinder<'a>,
     parent: Option<Parent>,
     index: u32,
     parsed: &SymbolData<'a>,
     name: &mut Vec<u8>,
 ) -> Result<(), AllocError>
-    ensures { OnOk result (out.new.items ≡ out.old.items ++ symbol_line finder.now (inlinee_with known.now) (option_map parent_view parent) index (Ok (shown parsed.now))) }
+    ensures { OnOk result (out.new.items ≡ out.old.items ++ symbol_line finder.now (names_of_calls names.now) (inlinee_with known.now) (option_map parent_view parent) index (Ok (shown parsed.now))) }
 {
     match parsed {
         SymbolData::Procedure(s) => {
@@ -261,7 +262,14 @@ fn put_says<'a>(
             finder.put_if_asked(out, b"label", s.offset, None, s.name.as_bytes())
         }
         SymbolData::InlineSite(s) => {
-            put_inlined(out, finder, site_line(known, parent, index, s), s, name)
+            put_inlined(
+                out,
+                finder,
+                names,
+                site_line(known, parent, index, s),
+                s,
+                name,
+            )
         }
         _ => Ok(()),
     }
@@ -285,17 +293,27 @@ fn put_symbol<'a>(
     alloc: Global,
     out: &mut Vec<u8>,
     finder: &Finder<'_, '_>,
+    names: &CallNames<'_, '_>,
     known: &InlineeFinder<'a>,
     parent: &mut Option<Parent>,
     symbol: &Symbol<'a>,
     name: &mut Vec<u8>,
 ) -> Result<(), AllocError>
-    ensures text { OnOk result (out.new.items ≡ out.old.items ++ symbol_line finder.now (inlinee_with known.now) (option_map parent_view parent.old) (symbol_of symbol.now).index (record_at (symbol_of symbol.now).bytes)) }
+    ensures text { OnOk result (out.new.items ≡ out.old.items ++ symbol_line finder.now (names_of_calls names.now) (inlinee_with known.now) (option_map parent_view parent.old) (symbol_of symbol.now).index (record_at (symbol_of symbol.now).bytes)) }
     ensures parent { OnOk result (option_map parent_view parent.new ≡ option_or (parent_said (record_at (symbol_of symbol.now).bytes)) (option_map parent_view parent.old)) }
 {
     match symbol.parse(alloc) {
         Ok(parsed) => {
-            put_says(out, finder, known, *parent, symbol.index().0, &parsed, name)?;
+            put_says(
+                out,
+                finder,
+                names,
+                known,
+                *parent,
+                symbol.index().0,
+                &parsed,
+                name,
+            )?;
             *parent = parent_behind(*parent, &parsed);
             Ok(())
         }
@@ -309,17 +327,27 @@ fn put_symbols<'a>(
     alloc: Global,
     out: &mut Vec<u8>,
     finder: &Finder<'_, '_>,
+    names: &CallNames<'_, '_>,
     known: &InlineeFinder<'a>,
     mut symbols: SymbolIter<'a>,
 ) -> Result<(), AllocError>
-    ensures { OnOk result (out.new.items ≡ out.old.items ++ symbols_left_text finder.now (inlinee_with known.now) None (symbols_left symbols.entry)) }
+    ensures { OnOk result (out.new.items ≡ out.old.items ++ symbols_left_text finder.now (names_of_calls names.now) (inlinee_with known.now) None (symbols_left symbols.entry)) }
 {
     let mut parent = None;
     let mut name = Vec::new(alloc);
     loop {
         match symbols.next() {
             Ok(Some(symbol)) => {
-                put_symbol(alloc, out, finder, known, &mut parent, &symbol, &mut name)?;
+                put_symbol(
+                    alloc,
+                    out,
+                    finder,
+                    names,
+                    known,
+                    &mut parent,
+                    &symbol,
+                    &mut name,
+                )?;
             }
             Ok(None) => return Ok(()),
             Err(e) => return put_error_line(out, e),
@@ -333,13 +361,14 @@ pub fn put_found_symbols(
     alloc: Global,
     out: &mut Vec<u8>,
     finder: &Finder<'_, '_>,
+    names: &CallNames<'_, '_>,
     info: &ModuleInfo<'_>,
 ) -> Result<(), AllocError>
-    ensures { OnOk result (out.new.items ≡ out.old.items ++ find_text finder.now info.now) }
+    ensures { OnOk result (out.new.items ≡ out.old.items ++ find_text finder.now (names_of_calls names.now) info.now) }
 {
     match info.symbols() {
         Ok(symbols) => match read_known(alloc, info) {
-            Ok(known) => put_symbols(alloc, out, finder, &known, symbols),
+            Ok(known) => put_symbols(alloc, out, finder, names, &known, symbols),
             Err(_) => Err(AllocError),
         },
         Err(e) => put_refusal_line(out, e),

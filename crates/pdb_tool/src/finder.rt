@@ -2,7 +2,7 @@
 
 ghost use Rattle.std.specs.Prelude.{◌≡◌, ◌++◌, OnOk, codes, map};
 ghost use Rattle.std.specs.List.{list_any};
-ghost use Rattle.pdb.specs.Qualified.{qualified_of, shown_qualified};
+ghost use Rattle.pdb.specs.Qualified.{shown_qualified};
 ghost use Rattle.pdb.specs.Text.{name_bytes};
 ghost use Rattle.pdb_resolve.specs.Frames.{qualified_text};
 ghost use Rattle.pdb_tool.specs.Operands.{word_of};

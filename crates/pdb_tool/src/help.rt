@@ -5,6 +5,12 @@ use crate::words::Topic;
 /// The program's version.
 pub const VERSION: &str = "pdb_tool 0.1.0\n";
 
+/// The commands, in the order of help.
+pub const COMMANDS: [&str; 14] = [
+    "resolve", "find", "where", "lines", "scopes", "symbols", "sources", "modules", "sections",
+    "streams", "key", "check", "help", "version",
+];
+
 const OVERVIEW: &str = "\
 pdb_tool prints what Microsoft symbol files (PDB) say about a program.
 
@@ -17,12 +23,13 @@ pdb_tool prints what Microsoft symbol files (PDB) say about a program.
   pdb_tool sources FILE [K..]                     source files of modules
   pdb_tool modules FILE                           modules (object files), with their sizes
   pdb_tool sections FILE                          section headers of the image
+  pdb_tool streams FILE                           streams of the file, with their sizes
   pdb_tool key FILE..                             symbol-server keys of PDB files and images
   pdb_tool check FILE..                           damage
 
   pdb_tool help COMMAND                           arguments, output and an example of a command
   pdb_tool help list                              commands of pdb_list, and all errors
-  pdb_tool --version                              the version
+  pdb_tool version                                the version
 
 K is the index of a module, counted from 0: modules lists them.
 
@@ -176,6 +183,18 @@ the file has none.
   0001 0x1000 4096 60000020 .text
 ";
 
+const STREAMS: &str = "\
+pdb_tool streams FILE
+
+Prints the streams of the file: the number, the size in bytes or - if the stream is absent, and what
+the stream is, or -. A stream can be several things: they are separated by commas.
+
+  $ pdb_tool streams app.pdb
+  0 0 old directory
+  1 67 information
+  2 - types
+";
+
 const KEY: &str = "\
 pdb_tool key FILE..
 
@@ -219,6 +238,8 @@ const MODULES_USAGE: &str = "usage: pdb_tool modules FILE\n";
 
 const SECTIONS_USAGE: &str = "usage: pdb_tool sections FILE\n";
 
+const STREAMS_USAGE: &str = "usage: pdb_tool streams FILE\n";
+
 const LINES_USAGE: &str = "usage: pdb_tool lines FILE [K..]\n";
 
 const SCOPES_USAGE: &str = "usage: pdb_tool scopes FILE [K..]\n";
@@ -247,6 +268,7 @@ pub fn help_of(topic: Option<Topic>) -> &'static str {
         Some(Topic::Sources) => SOURCES,
         Some(Topic::Modules) => MODULES,
         Some(Topic::Sections) => SECTIONS,
+        Some(Topic::Streams) => STREAMS,
     }
 }
 
@@ -265,5 +287,6 @@ pub fn usage_of(topic: Option<Topic>) -> &'static str {
         Some(Topic::Sources) => SOURCES_USAGE,
         Some(Topic::Modules) => MODULES_USAGE,
         Some(Topic::Sections) => SECTIONS_USAGE,
+        Some(Topic::Streams) => STREAMS_USAGE,
     }
 }

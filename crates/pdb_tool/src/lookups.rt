@@ -10,7 +10,7 @@ ghost use Rattle.pdb.specs.Source.{Continues};
 ghost use Rattle.pdb_resolve.specs.AsIfEmpty.{if_read};
 ghost use Rattle.pdb_resolve.specs.FileParts.{items_where};
 ghost use Rattle.pdb_text.specs.Written.{WroteFront};
-ghost use Rattle.pdb_tool.specs.FindTexts.{find_text, globals_found, is_x86, x86_in};
+ghost use Rattle.pdb_tool.specs.FindTexts.{globals_found, is_x86, x86_in};
 ghost use Rattle.pdb_tool.specs.SourceTexts.{sources_text};
 ghost use Rattle.pdb_tool.specs.ModuleTexts.{find_command, found_by, plain_text, sources_command, where_command};
 ghost use Rattle.pdb_tool.specs.Operands.{word_of};
@@ -31,7 +31,7 @@ use crate::where_texts::put_where;
 use pdb::{
     AddressMap, Error, IdInformation, ModuleInfo, PDB, Source, StringTable, TypeInformation,
 };
-use pdb_resolve::{PlaceAddresses, ids_of, types_of};
+use pdb_resolve::{CallNames, GlobalIds, PlaceAddresses, ids_of, types_of};
 use pdb_text::write_out;
 use std::alloc::{AllocError, Global};
 use std::io::Write;
@@ -46,13 +46,18 @@ impl<'a> ModuleText for Sources<'a> {
     ghost use Rattle.std.specs.Prelude.{option_copied};
     ghost use Rattle.pdb_tool.specs.SourceTexts.{sources_text};
 
-    ghost text = { λ s. sources_text (option_copied s.strings) };
+    ghost text = { λ s ids. sources_text (option_copied s.strings) };
+
+    fn names_calls(&self) -> bool {
+        false
+    }
 
     fn put(
         &self,
         alloc: Global,
         out: &mut Vec<u8>,
         info: &ModuleInfo<'_>,
+        _global: &GlobalIds<'_>,
     ) -> Result<(), AllocError> {
         put_sources(alloc, out, self.strings, info)
     }
@@ -80,17 +85,24 @@ pub fn write_sources<'s, S: Source<'s>, W: Write>(
 }
 
 impl<'w, 'a> ModuleText for Finder<'w, 'a> {
+    ghost use Rattle.pdb_resolve.specs.AcrossModules.{names_by};
     ghost use Rattle.pdb_tool.specs.FindTexts.{find_text};
 
-    ghost text = { λ f. find_text f };
+    ghost text = { λ f ids. find_text f (names_by f.ids f.types ids) };
+
+    fn names_calls(&self) -> bool {
+        true
+    }
 
     fn put(
         &self,
         alloc: Global,
         out: &mut Vec<u8>,
         info: &ModuleInfo<'_>,
+        global: &GlobalIds<'_>,
     ) -> Result<(), AllocError> {
-        put_found_symbols(alloc, out, self, info)
+        let names = CallNames::new(&self.ids, &self.types, global);
+        put_found_symbols(alloc, out, self, &names, info)
     }
 }
 
@@ -198,17 +210,24 @@ pub fn write_find<'w, 's, S: Source<'s>, W: Write>(
 }
 
 impl<'w, 'a> ModuleText for Asking<'w, 'a> {
+    ghost use Rattle.pdb_resolve.specs.AcrossModules.{names_by};
     ghost use Rattle.pdb_tool.specs.WhereTexts.{where_text};
 
-    ghost text = { λ a. where_text a };
+    ghost text = { λ a ids. where_text a (names_by a.ids a.types ids) };
+
+    fn names_calls(&self) -> bool {
+        true
+    }
 
     fn put(
         &self,
         alloc: Global,
         out: &mut Vec<u8>,
         info: &ModuleInfo<'_>,
+        global: &GlobalIds<'_>,
     ) -> Result<(), AllocError> {
-        put_where(alloc, out, self, info)
+        let names = CallNames::new(&self.ids, &self.types, global);
+        put_where(alloc, out, self, &names, info)
     }
 }
 

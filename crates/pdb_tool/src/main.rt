@@ -1,8 +1,7 @@
 //! Answers of symbol files for people: `pdb_tool COMMAND [OPTION..] FILE [WORD..]`.
 #![tactic(auto)]
 
-ghost use Rattle.std.specs.Prelude.{◌+◌, ◌<◌, ◌^◌, length};
-
+mod arguments;
 mod asked;
 mod asking;
 mod check_file;
@@ -16,12 +15,14 @@ mod fields;
 mod fields_code;
 mod fields_data;
 mod fields_references;
+mod file_kind;
 mod file_texts;
 mod find_texts;
 mod finder;
 mod findings;
 mod flags;
 mod help;
+mod host;
 mod in_parts;
 mod key;
 mod key_line;
@@ -29,6 +30,7 @@ mod kind_names;
 mod line_texts;
 mod list_help;
 mod lookups;
+mod mistakes;
 mod module_lists;
 mod module_sizes;
 mod module_texts;
@@ -44,6 +46,8 @@ mod section_texts;
 mod source_texts;
 mod sources_asked;
 mod stop;
+mod stream_roles;
+mod stream_texts;
 mod symbol_texts;
 mod text_asked;
 mod values;
@@ -52,34 +56,39 @@ mod wanted;
 mod where_texts;
 mod wildcards;
 mod words;
+mod work;
 
+use arguments::arguments_of;
 use checks::write_check;
 use file_texts::FileText;
 use help::{VERSION, help_of};
+use host::{Host, image_wants, size_in_parts};
 use key_line::{key_line, line_in_parts};
 use list_help::LIST;
-use operands::{Operand, all_numbers, all_questions, all_sources, first_empty, operands_in};
+use operands::{Operand, all_questions};
 use options::{Options, Wanted};
 use output::{Noticed, Output};
 use pdb_file::{read_all, size_of};
-use pdb_text::{words_of, write_out};
-use report::{Fault, file_in_word, report, status_of, write_notice, write_other_key, write_stop};
+use pdb_text::write_out;
+use report::{
+    Fault, report, status_of, word_at, write_damage, write_notice, write_other_key, write_stop,
+};
 use std::alloc::Global;
-use std::fs::{self, File};
-use std::io::{self, ErrorKind, Input, IsTerminal, Write};
+use std::fs::File;
+use std::io::{self, Input, IsTerminal, Write};
 use std::os::fd::AsRawFd;
 use std::process::ExitCode;
-use std::rt::{Env, Files};
+use std::rt::Files;
 use stop::Stop;
-use wanted::{
-    ImageWants, answer_wanted, key_in_word, wants_in, write_wanted, write_wanted_in_parts,
-};
-use words::{Request, Topic, WordsError, request_in};
+use wanted::{answer_wanted, key_in_word, write_wanted, write_wanted_in_parts};
+use words::WordsError;
+use work::{Work, work_in};
 
-/// Whether all was told and nothing was wrong: else a file among several wasn't told, or isn't well, and that was said.
-type Told = Result<bool, Fault>;
+/// Whether all was printed and nothing was wrong: else a file among several couldn't be read, or is damaged, and that was
+/// printed.
+type Printed = Result<bool, Fault>;
 
-/// Where a command writes: its texts, and what it says beside them.
+/// Where a command writes: its texts, and its messages.
 #[derive(Drop)]
 struct Streams<'a, W: Write, E: Write> {
     out: &'a mut W,
@@ -88,7 +97,7 @@ struct Streams<'a, W: Write, E: Write> {
     is_asked_by_hand: bool,
 }
 
-/// Why words ask for nothing.
+/// Why arguments ask for nothing.
 fn words_fault(e: WordsError) -> Fault {
     match e {
         WordsError::BadWord(place) => Fault::BadWord(place),
@@ -96,38 +105,7 @@ fn words_fault(e: WordsError) -> Fault {
     }
 }
 
-/// Why the program's words can't be had.
-fn unread_words(e: &io::Error) -> Fault {
-    match e.kind() {
-        ErrorKind::OutOfMemory => Fault::Stopped(Stop::Memory, 0),
-        _ => Fault::NoText,
-    }
-}
-
-/// The words behind the command.
-fn words_behind(words: &[String]) -> &[String]
-    ensures { 1 + length result.now < 2 ^ 64 }
-{
-    words.get(1..).unwrap_or(&[])
-}
-
-/// How many addresses are looked for in a file of which parts are read: more of them ask for most of it.
-const MOST_IN_PARTS: usize = 64;
-
-/// The file that an operand names.
-fn file_named(rt: &impl Files<File = File>, name: &Operand<'_>) -> Result<File, Fault> {
-    fs::open(rt, name.word).map_err(|_| Fault::Stopped(Stop::Read, name.place))
-}
-
-/// How many bytes a file has of which parts are read for a text; none where it is read whole.
-fn size_in_parts(file: &File, text: FileText<'_>) -> Option<u64> {
-    match text {
-        FileText::Code(questions) if questions.len() > MOST_IN_PARTS => None,
-        _ => size_of(file),
-    }
-}
-
-/// Writes the text of an open file, where it is the wanted one; else answers its key.
+/// Writes the text of an open file, where it is the wanted one; else returns its key.
 fn write_text_of<W: Write>(
     alloc: Global,
     file: File,
@@ -143,26 +121,26 @@ fn write_text_of<W: Write>(
     write_wanted(alloc, &bytes, wanted, text, out)
 }
 
-/// Tells the text of the file that an operand names.
-fn tell_text<W: Write, E: Write>(
-    rt: &(impl Files<File = File> + AllocGlobal),
-    name: &Operand<'_>,
+/// Prints the text of the file that an operand names.
+fn print_text<R: Files<File = File> + AllocGlobal, W: Write, E: Write>(
+    host: &Host<'_, R>,
+    name: Operand<'_>,
     wanted: Option<&[u8]>,
     text: FileText<'_>,
     streams: &mut Streams<'_, W, E>,
-) -> Told {
-    let file = file_named(rt, name)?;
-    let written = write_text_of(rt.alloc(), file, wanted, text, streams.out);
-    told_or_other(written, name, wanted, streams.err)
+) -> Printed {
+    let file = host.open(name)?;
+    let written = write_text_of(host.alloc(), file, wanted, text, streams.out);
+    printed_or_other(written, name, wanted, streams.err)
 }
 
-/// Whether a text was told; that the file isn't the wanted one is said.
-fn told_or_other<E: Write>(
+/// Whether a text was printed; that the file isn't the wanted one is printed.
+fn printed_or_other<E: Write>(
     written: Result<Option<Vec<u8>>, Stop>,
-    name: &Operand<'_>,
+    name: Operand<'_>,
     wanted: Option<&[u8]>,
     err: &mut E,
-) -> Told {
+) -> Printed {
     match written {
         Ok(None) => Ok(true),
         Ok(Some(key)) => {
@@ -173,17 +151,17 @@ fn told_or_other<E: Write>(
     }
 }
 
-/// Tells what code stands at the addresses that the lines of standard input are. The file is read whole: which of its
-/// modules the lines will ask for isn't known. Where standard input is closed, the file has its descriptor.
-fn tell_lines_read<W: Write, E: Write>(
-    rt: &(impl Files<File = File> + Input + AllocGlobal),
+/// Prints the code at the addresses that the lines of standard input are. The file is read whole: which of its modules
+/// the lines will ask for isn't known. Where standard input is closed, the file has its descriptor.
+fn print_lines_read<R: Files<File = File> + Input + AllocGlobal, W: Write, E: Write>(
+    host: &Host<'_, R>,
     options: Options,
-    name: &Operand<'_>,
+    name: Operand<'_>,
     wanted: Option<&[u8]>,
     streams: &mut Streams<'_, W, E>,
-) -> Told {
-    let alloc = rt.alloc();
-    let mut file = file_named(rt, name)?;
+) -> Printed {
+    let alloc = host.alloc();
+    let mut file = host.open(name)?;
     if file.as_raw_fd() == 0 {
         return Err(Fault::NoInput);
     }
@@ -191,269 +169,245 @@ fn tell_lines_read<W: Write, E: Write>(
     if streams.is_asked_by_hand {
         let _ = write_notice(streams.err);
     }
-    let input = &mut rt.reader();
+    let input = &mut host.rt().reader();
     let written = answer_wanted(alloc, &bytes, wanted, options, input, streams.out);
-    told_or_other(written, name, wanted, streams.err)
-}
-
-/// The image that the word at a place names, read, and what it wants.
-fn wants_of_named(
-    rt: &(impl Files<File = File> + AllocGlobal),
-    word: &str,
-) -> Result<ImageWants, Stop> {
-    let mut file = fs::open(rt, file_in_word(word)).map_err(|_| Stop::Read)?;
-    let bytes = read_all(rt.alloc(), &mut file)?;
-    wants_in(rt.alloc(), &bytes)
+    printed_or_other(written, name, wanted, streams.err)
 }
 
 /// The wanted key, where one is wanted; and the options, with an image's load address where no other base is given.
-fn wanted_in(
-    rt: &(impl Files<File = File> + AllocGlobal),
+fn wanted_in<R: Files<File = File> + AllocGlobal>(
+    host: &Host<'_, R>,
     options: Options,
     words: &[String],
 ) -> Result<(Option<Vec<u8>>, Options), Fault> {
     match options.wanted {
         None => Ok((None, options)),
         Some(Wanted::Key(place)) => {
-            let word = words.get(place).ok_or(Fault::BadWord(place))?;
-            let key = key_in_word(rt.alloc(), word.as_str()).map_err(Stop::from)?;
+            let key = key_in_word(host.alloc(), word_at(words, place)).map_err(Stop::from)?;
             Ok((Some(key), options))
         }
         Some(Wanted::Image(place)) => {
-            let word = words.get(place).ok_or(Fault::BadWord(place))?;
-            match wants_of_named(rt, word.as_str()) {
-                Ok(wants) => Ok((Some(wants.key), options.with_base_of(wants.base))),
-                Err(stop) => Err(Fault::Stopped(stop, place)),
-            }
+            let wants = image_wants(host, word_at(words, place), place)?;
+            Ok((Some(wants.key), options.with_base_of(wants.base)))
         }
     }
 }
 
-/// Tells what code stands at addresses: those of the operands behind the file's name, or else of the lines of standard
-/// input. The image that is given is read first.
-fn tell_code<W: Write, E: Write>(
-    rt: &(impl Files<File = File> + Input + AllocGlobal),
+/// Prints the code at addresses: those of the operands behind the file, or else of the lines of standard input. The image
+/// that is given is read first.
+fn print_code<R: Files<File = File> + Input + AllocGlobal, W: Write, E: Write>(
+    host: &Host<'_, R>,
     options: Options,
+    name: Operand<'_>,
+    rest: &[Operand<'_>],
     words: &[String],
-    operands: &[Operand<'_>],
     streams: &mut Streams<'_, W, E>,
-) -> Told {
-    let (name, rest) = operands.split_first().ok_or(Fault::BadWord(words.len()))?;
-    let (key, options) = wanted_in(rt, options, words)?;
+) -> Printed {
+    let (key, options) = wanted_in(host, options, words)?;
     let wanted = key.as_deref();
-    let questions = all_questions(rt.alloc(), options, rest).map_err(words_fault)?;
+    let questions = all_questions(host.alloc(), options, rest).map_err(words_fault)?;
     if questions.is_empty() {
-        return tell_lines_read(rt, options, name, wanted, streams);
+        return print_lines_read(host, options, name, wanted, streams);
     }
-    tell_text(rt, name, wanted, FileText::Code(&questions), streams)
+    print_text(host, name, wanted, FileText::Code(&questions), streams)
 }
 
-/// Tells the texts of a file's modules: of those whose numbers stand behind the file's name, or else of all.
-fn tell_modules<W: Write, E: Write>(
-    rt: &(impl Files<File = File> + AllocGlobal),
-    topic: Topic,
-    options: Options,
-    name: &Operand<'_>,
-    rest: &[Operand<'_>],
-    streams: &mut Streams<'_, W, E>,
-) -> Told {
-    let places = all_numbers(rt.alloc(), rest).map_err(words_fault)?;
-    let text = match (topic, rest.first()) {
-        (Topic::Lines, _) => FileText::Lines(&places),
-        (Topic::Scopes, _) => FileText::Scopes(&places),
-        (Topic::Sources, _) => FileText::Sources(&places),
-        (_, Some(number)) if options.all => return Err(Fault::BadWord(number.place)),
-        (_, None) if options.all => FileText::AllSymbols,
-        _ => FileText::Symbols(&places),
-    };
-    tell_text(rt, name, None, text, streams)
-}
-
-/// Tells a list of a file. Nothing stands behind the file's name.
-fn tell_list<W: Write, E: Write>(
-    rt: &(impl Files<File = File> + AllocGlobal),
-    text: FileText<'_>,
-    name: &Operand<'_>,
-    rest: &[Operand<'_>],
-    streams: &mut Streams<'_, W, E>,
-) -> Told {
-    match rest.first() {
-        Some(word) => Err(Fault::BadWord(word.place)),
-        None => tell_text(rt, name, None, text, streams),
-    }
-}
-
-/// Tells a text that may be empty. The result is whether it isn't.
-fn tell_some<W: Write, E: Write>(
-    rt: &(impl Files<File = File> + AllocGlobal),
-    name: &Operand<'_>,
+/// Prints a text of lines. That it has a line of an error is a message. The result is whether anything was printed.
+fn print_listed<R: Files<File = File> + AllocGlobal, W: Write, E: Write>(
+    host: &Host<'_, R>,
+    name: Operand<'_>,
     text: FileText<'_>,
     streams: &mut Streams<'_, W, E>,
-) -> Told {
-    let file = file_named(rt, name)?;
+) -> Printed {
+    let file = host.open(name)?;
     let mut out = Noticed::new(streams.out);
-    let written = write_text_of(rt.alloc(), file, None, text, &mut out);
+    let written = write_text_of(host.alloc(), file, None, text, &mut out);
     let has_written = out.has_written();
-    Ok(told_or_other(written, name, None, streams.err)? && has_written)
+    if out.has_error() {
+        let _ = write_damage(name.word, streams.err);
+    }
+    Ok(printed_or_other(written, name, None, streams.err)? && has_written)
 }
 
-/// Tells where the functions and data stand whose names match one of the words. The result is whether there are any.
-fn tell_found<W: Write, E: Write>(
-    rt: &(impl Files<File = File> + AllocGlobal),
-    count: usize,
-    name: &Operand<'_>,
-    rest: &[Operand<'_>],
+/// The same, where it is well if nothing is printed.
+fn print_all<R: Files<File = File> + AllocGlobal, W: Write, E: Write>(
+    host: &Host<'_, R>,
+    name: Operand<'_>,
+    text: FileText<'_>,
     streams: &mut Streams<'_, W, E>,
-) -> Told {
-    if rest.is_empty() {
-        return Err(Fault::BadWord(count));
-    }
-    match first_empty(rest) {
-        Some(place) => Err(Fault::BadWord(place)),
-        None => tell_some(rt, name, FileText::Find(rest), streams),
-    }
+) -> Printed {
+    print_listed(host, name, text, streams)?;
+    Ok(true)
 }
 
-/// Tells which addresses the lines of source files have that the words ask for. The result is whether there are any.
-fn tell_where<W: Write, E: Write>(
-    rt: &(impl Files<File = File> + AllocGlobal),
-    count: usize,
-    name: &Operand<'_>,
-    rest: &[Operand<'_>],
-    streams: &mut Streams<'_, W, E>,
-) -> Told {
-    let asked = all_sources(rt.alloc(), rest).map_err(words_fault)?;
-    if asked.is_empty() {
-        return Err(Fault::BadWord(count));
-    }
-    tell_some(rt, name, FileText::Where(&asked), streams)
-}
-
-/// The line of the file of a name: its key, and of an image that of its PDB.
-fn key_line_of(rt: &(impl Files<File = File> + AllocGlobal), name: &str) -> Result<Vec<u8>, Stop> {
-    let mut file = fs::open(rt, name).map_err(|_| Stop::Read)?;
+/// The line of a file: its key, and of an image that of its PDB.
+fn key_line_of<R: Files<File = File> + AllocGlobal>(
+    host: &Host<'_, R>,
+    name: Operand<'_>,
+) -> Result<Vec<u8>, Stop> {
+    let mut file = host.opened(name)?;
     if let Some(size) = size_of(&file) {
-        if let Some(line) = line_in_parts(rt.alloc(), &file, size, name.as_bytes())? {
+        if let Some(line) = line_in_parts(host.alloc(), &file, size, name.word.as_bytes())? {
             return Ok(line);
         }
     }
-    let bytes = read_all(rt.alloc(), &mut file)?;
-    key_line(rt.alloc(), &bytes, name.as_bytes())
+    let bytes = read_all(host.alloc(), &mut file)?;
+    key_line(host.alloc(), &bytes, name.word.as_bytes())
 }
 
-/// Tells the keys of files. One that can't be read or opened is told as such, and the next follows.
-fn tell_keys<W: Write, E: Write>(
-    rt: &(impl Files<File = File> + AllocGlobal),
+/// Writes why a file among several isn't read. The next one follows.
+fn pass_over<R: Files<File = File> + AllocGlobal, E: Write>(
+    host: &Host<'_, R>,
+    stop: Stop,
+    name: Operand<'_>,
+    err: &mut E,
+) {
+    let kind = host.kind_of(stop, name.word);
+    let _ = write_stop(host.alloc(), stop, name.word, kind, err);
+}
+
+/// Prints the keys of files. One that can't be read or opened has a message, and the next follows.
+fn print_keys<R: Files<File = File> + AllocGlobal, W: Write, E: Write>(
+    host: &Host<'_, R>,
     names: &[Operand<'_>],
     streams: &mut Streams<'_, W, E>,
-) -> Told {
+) -> Printed {
     let mut all = true;
     for name in names {
-        match key_line_of(rt, name.word) {
+        match key_line_of(host, *name) {
             Ok(line) => write_out(streams.out, &line)?,
             Err(Stop::Memory) => return Err(Fault::Stopped(Stop::Memory, name.place)),
             Err(stop) => {
                 all = false;
-                let _ = write_stop(rt.alloc(), stop, name.word, streams.err);
+                pass_over(host, stop, *name, streams.err);
             }
         }
     }
     Ok(all)
 }
 
-/// Checks the file of a name.
-fn check_named<W: Write>(
-    rt: &(impl Files<File = File> + AllocGlobal),
-    name: &str,
+/// Checks the file that an operand names.
+fn check_named<R: Files<File = File> + AllocGlobal, W: Write>(
+    host: &Host<'_, R>,
+    name: Operand<'_>,
     out: &mut W,
 ) -> Result<bool, Stop> {
-    let mut file = fs::open(rt, name).map_err(|_| Stop::Read)?;
-    let bytes = read_all(rt.alloc(), &mut file)?;
-    write_check(rt.alloc(), &bytes, name.as_bytes(), out)
+    let mut file = host.opened(name)?;
+    let bytes = read_all(host.alloc(), &mut file)?;
+    write_check(host.alloc(), &bytes, name.word.as_bytes(), out)
 }
 
-/// Tells what is wrong with files. One that can't be read or opened is told as such, and the next follows.
-fn tell_checks<W: Write, E: Write>(
-    rt: &(impl Files<File = File> + AllocGlobal),
+/// Prints what is damaged in files. One that can't be read or opened has a message, and the next follows.
+fn print_checks<R: Files<File = File> + AllocGlobal, W: Write, E: Write>(
+    host: &Host<'_, R>,
     names: &[Operand<'_>],
     streams: &mut Streams<'_, W, E>,
-) -> Told {
+) -> Printed {
     let mut all = true;
     for name in names {
-        match check_named(rt, name.word, streams.out) {
+        match check_named(host, *name, streams.out) {
             Ok(well) => all = all && well,
             Err(Stop::Memory) => return Err(Fault::Stopped(Stop::Memory, name.place)),
             Err(Stop::Write) => return Err(Fault::Stopped(Stop::Write, name.place)),
             Err(stop) => {
                 all = false;
-                let _ = write_stop(rt.alloc(), stop, name.word, streams.err);
+                pass_over(host, stop, *name, streams.err);
             }
         }
     }
     Ok(all)
 }
 
-/// Does what a command is asked for.
-fn run_command<W: Write, E: Write>(
-    rt: &(impl Files<File = File> + Input + AllocGlobal),
-    topic: Topic,
-    options: Options,
+/// Prints a text of the program's own.
+fn print_own<W: Write>(text: &str, out: &mut W) -> Printed {
+    write_out(out, text.as_bytes())?;
+    Ok(true)
+}
+
+/// Does the work over several files: the first, and then the others.
+fn run_over_files<R: Files<File = File> + AllocGlobal, W: Write, E: Write>(
+    host: &Host<'_, R>,
+    is_check: bool,
+    first: Operand<'_>,
+    others: &[Operand<'_>],
+    streams: &mut Streams<'_, W, E>,
+) -> Printed {
+    if is_check {
+        let is_well = print_checks(host, &[first], streams)?;
+        return Ok(print_checks(host, others, streams)? && is_well);
+    }
+    let is_well = print_keys(host, &[first], streams)?;
+    Ok(print_keys(host, others, streams)? && is_well)
+}
+
+/// Does the work.
+fn run<R: Files<File = File> + Input + AllocGlobal, W: Write, E: Write>(
+    host: &Host<'_, R>,
     words: &[String],
     streams: &mut Streams<'_, W, E>,
-) -> Told {
-    let operands = operands_in(rt.alloc(), words_behind(words), 1).map_err(Stop::from)?;
-    let (name, rest) = operands.split_first().ok_or(Fault::BadWord(words.len()))?;
-    match topic {
-        Topic::Resolve => tell_code(rt, options, words, &operands, streams),
-        Topic::Key => tell_keys(rt, &operands, streams),
-        Topic::Check => tell_checks(rt, &operands, streams),
-        Topic::Find => tell_found(rt, words.len(), name, rest, streams),
-        Topic::Where => tell_where(rt, words.len(), name, rest, streams),
-        Topic::Modules => tell_list(rt, FileText::Modules, name, rest, streams),
-        Topic::Sections => tell_list(rt, FileText::Sections, name, rest, streams),
-        _ => tell_modules(rt, topic, options, name, rest, streams),
+) -> Printed {
+    match work_in(host.alloc(), words).map_err(words_fault)? {
+        Work::Help(topic) => print_own(help_of(topic), streams.out),
+        Work::ListHelp => print_own(LIST, streams.out),
+        Work::Version => print_own(VERSION, streams.out),
+        Work::Keys(first, others) => run_over_files(host, false, first, &others, streams),
+        Work::Checks(first, others) => run_over_files(host, true, first, &others, streams),
+        Work::Resolve(options, file, rest) => {
+            print_code(host, options, file, &rest, words, streams)
+        }
+        Work::Lines(file, ks) => print_all(host, file, FileText::Lines(&ks), streams),
+        Work::Scopes(file, ks) => print_all(host, file, FileText::Scopes(&ks), streams),
+        Work::Symbols(file, ks) => print_all(host, file, FileText::Symbols(&ks), streams),
+        Work::AllSymbols(file) => print_all(host, file, FileText::AllSymbols, streams),
+        Work::Sources(file, ks) => print_all(host, file, FileText::Sources(&ks), streams),
+        Work::Find(file, names) => {
+            host.all_text(&names)?;
+            print_listed(host, file, FileText::Find(&names), streams)
+        }
+        Work::Where(file, asked) => print_listed(host, file, FileText::Where(&asked), streams),
+        Work::Modules(file) => print_all(host, file, FileText::Modules, streams),
+        Work::Sections(file) => print_all(host, file, FileText::Sections, streams),
+        Work::Streams(file) => print_all(host, file, FileText::Streams, streams),
     }
 }
 
-/// Does what the words ask for.
-fn run<W: Write, E: Write>(
-    rt: &(impl Files<File = File> + Input + AllocGlobal),
+/// The exit status of a fault, which is reported, unless the reader of standard output is gone.
+fn status_told<R: Files<File = File> + AllocGlobal, E: Write>(
+    host: &Host<'_, R>,
+    fault: Fault,
     words: &[String],
-    streams: &mut Streams<'_, W, E>,
-) -> Told {
-    match request_in(words).map_err(words_fault)? {
-        Request::Help(topic) => {
-            write_out(streams.out, help_of(topic).as_bytes())?;
-            Ok(true)
-        }
-        Request::ListHelp => {
-            write_out(streams.out, LIST.as_bytes())?;
-            Ok(true)
-        }
-        Request::Version => {
-            write_out(streams.out, VERSION.as_bytes())?;
-            Ok(true)
-        }
-        Request::Run(topic, options) => run_command(rt, topic, options, words, streams),
+    is_closed: bool,
+    err: &mut E,
+) -> u8 {
+    if is_closed {
+        return status_of(fault);
     }
+    let kind = match fault {
+        Fault::Stopped(stop, place) => host.kind_of(stop, word_at(words, place)),
+        _ => None,
+    };
+    report(host.alloc(), fault, words, kind, err)
 }
 
 fn main(rt: HostRuntime) -> ExitCode {
     let mut err = rt.stderr();
-    let words = match words_of(&rt) {
-        Ok(words) => words,
-        Err(e) => return ExitCode::from(report(rt.alloc(), unread_words(&e), &[], &mut err)),
+    let Ok(arguments) = arguments_of(&rt) else {
+        let fault = Fault::Stopped(Stop::Memory, 0);
+        return ExitCode::from(report(rt.alloc(), fault, &[], None, &mut err));
     };
+    let host = Host::new(&rt, &arguments.not_text);
     let mut out = Output::new(io::writer(&rt));
     let mut streams = Streams {
         out: &mut out,
         err: &mut err,
         is_asked_by_hand: rt.stdin().is_terminal(),
     };
-    match run(&rt, &words, &mut streams) {
+    match run(&host, &arguments.words, &mut streams) {
         Ok(true) => ExitCode::SUCCESS,
         Ok(false) => ExitCode::FAILURE,
-        Err(fault) if out.is_closed() => ExitCode::from(status_of(fault)),
-        Err(fault) => ExitCode::from(report(rt.alloc(), fault, &words, &mut err)),
+        Err(fault) => {
+            let is_closed = out.is_closed();
+            ExitCode::from(status_told(&host, fault, &arguments.words, is_closed, &mut err))
+        }
     }
 }

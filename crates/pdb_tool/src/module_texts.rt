@@ -6,34 +6,49 @@ ghost use Rattle.pdb.specs.Error.{Error};
 ghost use Rattle.pdb.specs.Error.TheVariants.{OutOfMemory, IoError};
 ghost use Rattle.pdb.specs.DbiViews.{modules_left, modules_steps};
 ghost use Rattle.pdb.specs.Modules.{modules_in};
-ghost use Rattle.pdb.specs.Answers.{item_at, module_info_in};
+ghost use Rattle.pdb.specs.Answers.{module_info_in};
+ghost use Rattle.pdb.specs.Listed.{listed};
 ghost use Rattle.pdb.specs.Source.{Continues};
+ghost use Rattle.pdb_resolve.specs.ImportTables.{ids_by};
 ghost use Rattle.pdb_text.specs.Written.{WroteFirst, WroteFront};
 ghost use Rattle.pdb_tool.specs.ErrorLine.{error_line, told};
-ghost use Rattle.pdb_tool.specs.ModuleTexts.{all_text, are_several, entry_text, has_stream, line_if, list_text, listed_text, module_line, place_text, places_text, plain_text, several_in, there_text};
+ghost use Rattle.pdb_tool.specs.ModuleTexts.{all_text, are_several, entry_text, has_stream, in_file, line_if, list_text, listed_text, module_line, place_in, places_text, plain_text, several_in, there_text};
 ghost use Rattle.pdb_tool.specs.declared.stop.Stop.{Stop};
 
 use crate::error_line::put_error_line;
-use crate::stop::Stop;
+use crate::stop::{Stop, stop_of};
 use crate::values::put_behind_blank;
 use pdb::{
-    DebugInformation, Error, FallibleIterator, Module, ModuleInfo, ModuleIter, PDB, Source, item_at,
+    DebugInformation, Error, FallibleIterator, Module, ModuleInfo, ModuleIter, ModuleList, PDB,
+    Source,
 };
+use pdb_resolve::GlobalIds;
 use pdb_text::{put_decimal, put_line_end, write_out};
 use std::alloc::{AllocError, Global};
 use std::io::Write;
 
 /// A text of a module.
 pub trait ModuleText {
-    ghost use Rattle.std.specs.Prelude.{ℕ, List, ◌≡◌, ◌++◌, OnOk};
+    ghost use Rattle.std.specs.Prelude.{ℕ, List, Option, ◌≡◌, ◌++◌, OnOk, false};
     ghost use Rattle.pdb.specs.ModuleStream.{ModuleBytes};
+    ghost use Rattle.pdb_resolve.specs.ImportTables.{ids_by};
 
-    /// That of a module's bytes.
-    ghost text: { Self → ModuleBytes → List ℕ };
+    /// That of a module's bytes, by the ids that the whole file knows.
+    ghost text: { Self → (ℕ → Option ℕ) → ModuleBytes → List ℕ };
+
+    /// Whether it has names of inlined calls; without them it is the same by any ids.
+    fn names_calls(&self) -> bool
+        ensures { result ≡ false → (f g : ℕ → Option ℕ) (m : ModuleBytes) → Self.text self.now f m ≡ Self.text self.now g m };
 
     /// Puts it behind what is there. It is refused for want of memory alone.
-    fn put(&self, alloc: Global, out: &mut Vec<u8>, info: &ModuleInfo<'_>) -> Result<(), AllocError>
-        ensures { OnOk result (out.new.items ≡ out.old.items ++ Self.text self.now info.now) };
+    fn put(
+        &self,
+        alloc: Global,
+        out: &mut Vec<u8>,
+        info: &ModuleInfo<'_>,
+        global: &GlobalIds<'_>,
+    ) -> Result<(), AllocError>
+        ensures { OnOk result (out.new.items ≡ out.old.items ++ Self.text self.now (ids_by global.now) info.now) };
 }
 
 /// The line of a refusal; want of memory, and a source that failed, are passed on.
@@ -75,19 +90,57 @@ fn put_line_if(
     }
 }
 
-/// The text of what was found of a module whose number was given.
-fn put_found<T: ModuleText>(
+/// The ids that the whole file knows by those of a module, if a text has names of inlined calls.
+fn ids_for<'a, 's, S: Source<'s>, T: ModuleText>(
     alloc: Global,
+    pdb: &mut PDB<'s, S>,
+    texts: &T,
+    info: &'a ModuleInfo<'_>,
+) -> Result<GlobalIds<'a>, Stop>
+    ensures continues { Continues pdb.old pdb.new }
+    ensures ids { IfOk result (λ g. T.text texts.now (ids_by g) info.entry.now ≡ in_file (T.text texts.now) pdb.old.file info.entry.now) }
+    ensures unwritten { IfErr result (λ e. (e ≡ Stop.Memory) ⊎ (e ≡ Stop.Read)) }
+{
+    if !texts.names_calls() {
+        return Ok(GlobalIds::empty(alloc));
+    }
+    match GlobalIds::read(alloc, pdb, info) {
+        Ok(global) => Ok(global),
+        Err(e) => Err(stop_of(e)),
+    }
+}
+
+/// The text of a module's stream.
+fn put_info<'s, S: Source<'s>, T: ModuleText>(
+    alloc: Global,
+    pdb: &mut PDB<'s, S>,
+    out: &mut Vec<u8>,
+    texts: &T,
+    info: &ModuleInfo<'_>,
+) -> Result<(), Stop>
+    ensures continues { Continues pdb.old pdb.new }
+    ensures text { OnOk result (out.new.items ≡ out.old.items ++ in_file (T.text texts.now) pdb.old.file info.now) }
+    ensures unwritten { IfErr result (λ e. (e ≡ Stop.Memory) ⊎ (e ≡ Stop.Read)) }
+{
+    let global = ids_for(alloc, pdb, texts, info)?;
+    Ok(texts.put(alloc, out, info, &global)?)
+}
+
+/// The text of what was found of a module whose number was given.
+fn put_found<'s, S: Source<'s>, T: ModuleText>(
+    alloc: Global,
+    pdb: &mut PDB<'s, S>,
     out: &mut Vec<u8>,
     texts: &T,
     found: pdb::Result<Option<ModuleInfo<'_>>>,
 ) -> Result<(), Stop>
-    ensures found { IfOk found.entry (λ m. OnOk result (out.new.items ≡ out.old.items ++ there_text (T.text texts.now) (codes "none\n") m)) }
+    ensures continues { Continues pdb.old pdb.new }
+    ensures found { IfOk found.entry (λ m. OnOk result (out.new.items ≡ out.old.items ++ there_text (in_file (T.text texts.now) pdb.old.file) (codes "none\n") m)) }
     ensures refused { IfErr found.entry (λ e. OnOk result ((e ≢ Error.OutOfMemory) × (e ≢ Error.IoError) × (out.new.items ≡ out.old.items ++ error_line e))) }
     ensures unwritten { IfErr result (λ e. (e ≡ Stop.Memory) ⊎ (e ≡ Stop.Read)) }
 {
     match found {
-        Ok(Some(info)) => Ok(texts.put(alloc, out, &info)?),
+        Ok(Some(info)) => put_info(alloc, pdb, out, texts, &info),
         Ok(None) => Ok(out.extend_from_slice(b"none\n")?),
         Err(e) => put_refused(out, e),
     }
@@ -104,56 +157,34 @@ fn put_entry<'s, S: Source<'s>, T: ModuleText>(
     out: &mut Vec<u8>,
 ) -> Result<(), Stop>
     ensures continues { Continues pdb.old pdb.new }
-    ensures text { OnOk result (out.new.items ≡ out.old.items ++ entry_text several (T.text texts.now) pdb.old.file k (Some «module».now)) }
+    ensures text { OnOk result (out.new.items ≡ out.old.items ++ entry_text several (in_file (T.text texts.now) pdb.old.file) pdb.old.file k (Some «module».now)) }
     ensures unwritten { IfErr result (λ e. (e ≡ Stop.Memory) ⊎ (e ≡ Stop.Read)) }
 {
     put_line_if(out, several, u64::from(k), module)?;
     let found = pdb.module_info(module);
-    put_found(alloc, out, texts, found)
-}
-
-/// The text of the module of an index, of those that an iterator has left.
-fn put_item<'s, S: Source<'s>, T: ModuleText>(
-    alloc: Global,
-    pdb: &mut PDB<'s, S>,
-    texts: &T,
-    several: bool,
-    k: u32,
-    modules: ModuleIter<'_>,
-    out: &mut Vec<u8>,
-) -> Result<(), Stop>
-    ensures continues { Continues pdb.old pdb.new }
-    ensures text { OnOk result (out.new.items ≡ out.old.items ++ told (item_at k (modules_left modules.entry)) (entry_text several (T.text texts.now) pdb.old.file k)) }
-    ensures unwritten { IfErr result (λ e. (e ≡ Stop.Memory) ⊎ (e ≡ Stop.Read)) }
-{
-    match item_at(modules, k as usize) {
-        Ok(Some(module)) => put_entry(alloc, pdb, texts, several, k, &module, out),
-        Ok(None) => Ok(out.extend_from_slice(b"none\n")?),
-        Err(e) => put_refused(out, e),
-    }
+    put_found(alloc, pdb, out, texts, found)
 }
 
 // piece: put_place
-/// The text of the module of an index in the list, behind the line that names it where several are told.
-#[tactic(auto, unfolding(crate::specs::ModuleTexts::place_text, pdb::specs::Answers::module_listed))]
+/// The text of the module of an index in a list, behind the line that names it where several are told.
 fn put_place<'s, S: Source<'s>, T: ModuleText>(
     alloc: Global,
     pdb: &mut PDB<'s, S>,
+    list: &mut ModuleList<'_>,
     texts: &T,
     several: bool,
     k: u32,
     out: &mut Vec<u8>,
 ) -> Result<(), Stop>
     ensures continues { Continues pdb.old pdb.new }
-    ensures text { OnOk result (out.new.items ≡ out.old.items ++ place_text several (T.text texts.now) pdb.old.file k) }
+    ensures kept { OnOk result (listed list.new ≡ listed list.old) }
+    ensures text { OnOk result (out.new.items ≡ out.old.items ++ place_in several (in_file (T.text texts.now) pdb.old.file) pdb.old.file (listed list.old) k) }
     ensures unwritten { IfErr result (λ e. (e ≡ Stop.Memory) ⊎ (e ≡ Stop.Read)) }
 {
-    let information = match pdb.debug_information() {
-        Ok(information) => information,
-        Err(e) => return put_refused(out, e),
-    };
-    match information.modules() {
-        Ok(modules) => put_item(alloc, pdb, texts, several, k, modules, out),
+    list.read_to(k)?;
+    match list.get(k) {
+        Ok(Some(module)) => put_entry(alloc, pdb, texts, several, k, module, out),
+        Ok(None) => Ok(out.extend_from_slice(b"none\n")?),
         Err(e) => put_refused(out, e),
     }
 }
@@ -171,13 +202,13 @@ fn put_listed<'s, S: Source<'s>, T: ModuleText>(
     out: &mut Vec<u8>,
 ) -> Result<(), Stop>
     ensures continues { Continues pdb.old pdb.new }
-    ensures text { OnOk result (out.new.items ≡ out.old.items ++ listed_text several (T.text texts.now) pdb.old.file k «module».now) }
+    ensures text { OnOk result (out.new.items ≡ out.old.items ++ listed_text several (in_file (T.text texts.now) pdb.old.file) pdb.old.file k «module».now) }
     ensures unwritten { IfErr result (λ e. (e ≡ Stop.Memory) ⊎ (e ≡ Stop.Read)) }
 {
     match pdb.module_info(module) {
         Ok(Some(info)) => {
             put_line_if(out, several, k, module)?;
-            Ok(texts.put(alloc, out, &info)?)
+            put_info(alloc, pdb, out, texts, &info)
         }
         Ok(None) => Ok(()),
         Err(e) => {
@@ -194,10 +225,11 @@ fn are_several(places: &[u32]) -> bool
     places.len() > 1
 }
 
-/// Writes the texts of the modules of these numbers. Each is composed and then written.
+/// Writes the texts of the modules of these indices in a list. Each is composed and then written.
 fn write_each<'s, S: Source<'s>, T: ModuleText, W: Write>(
     alloc: Global,
     pdb: &mut PDB<'s, S>,
+    list: &mut ModuleList<'_>,
     texts: &T,
     several: bool,
     places: &[u32],
@@ -205,20 +237,55 @@ fn write_each<'s, S: Source<'s>, T: ModuleText, W: Write>(
 ) -> Result<(), Stop>
     ensures opened { (e : Error) → IsErrOf result (Stop.Open e) → ⊥ }
     // All texts were written.
-    ensures ok { OnOk result (Appends (W.contents out.old) (W.contents out.new) (flat_map (place_text several (T.text texts.now) pdb.old.file) places.now)) }
+    ensures ok { OnOk result (Appends (W.contents out.old) (W.contents out.new) (flat_map (place_in several (in_file (T.text texts.now) pdb.old.file) pdb.old.file (listed list.old)) places.now)) }
     // A beginning of the texts was written.
-    ensures front { OnErr result (WroteFront (W.contents out.old) (W.contents out.new) (flat_map (place_text several (T.text texts.now) pdb.old.file) places.now)) }
+    ensures front { OnErr result (WroteFront (W.contents out.old) (W.contents out.new) (flat_map (place_in several (in_file (T.text texts.now) pdb.old.file) pdb.old.file (listed list.old)) places.now)) }
 {
     let mut text = Vec::new(alloc);
     for k in places {
         text.clear();
-        put_place(alloc, pdb, texts, several, *k, &mut text)?;
+        put_place(alloc, pdb, list, texts, several, *k, &mut text)?;
         write_out(out, &text)?;
     }
     Ok(())
 }
 
-/// Writes the texts of the modules of these numbers, each behind the line that names it where there are several.
+/// The error of a list, unless it is that memory or the source failed.
+fn list_error(e: Error) -> Result<Error, Stop>
+    ensures same { IfOk result (λ x. (x ≡ e) × (e ≢ Error.OutOfMemory) × (e ≢ Error.IoError)) }
+    ensures unwritten { IfErr result (λ e. (e ≡ Stop.Memory) ⊎ (e ≡ Stop.Read)) }
+{
+    match e {
+        Error::OutOfMemory => Err(Stop::Memory),
+        Error::IoError => Err(Stop::Read),
+        e => Ok(e),
+    }
+}
+
+/// Writes an error of the list in place of the text of each module that is asked for.
+#[tactic(auto, using(pdb_text::proofs::Written::any_err, crate::proofs::AnsweredLines::front_none))]
+fn write_each_refused<W: Write>(
+    alloc: Global,
+    e: Error,
+    places: &[u32],
+    out: &mut W,
+) -> Result<(), Stop>
+    ensures opened { (x : Error) → IsErrOf result (Stop.Open x) → ⊥ }
+    ensures ok { OnOk result (Appends (W.contents out.old) (W.contents out.new) (flat_map (λ k. error_line e) places.now)) }
+    ensures front { OnErr result (WroteFront (W.contents out.old) (W.contents out.new) (flat_map (λ k. error_line e) places.now)) }
+{
+    let mut lines = Vec::new(alloc);
+    for k in places {
+        let _ = k;
+        put_error_line(&mut lines, e)?;
+    }
+    write_out(out, &lines)?;
+    Ok(())
+}
+
+/// Writes the texts of the modules of these indices, each behind the line that names it where there are several. The list
+/// is read once.
+#[tactic(auto, using(crate::proofs::PlacesTexts::places_listed, crate::proofs::PlacesTexts::places_refused, pdb_text::proofs::Written::any_err, crate::proofs::AnsweredLines::front_none))]
 pub fn write_places<'s, S: Source<'s>, T: ModuleText, W: Write>(
     alloc: Global,
     pdb: &mut PDB<'s, S>,
@@ -228,11 +295,29 @@ pub fn write_places<'s, S: Source<'s>, T: ModuleText, W: Write>(
 ) -> Result<(), Stop>
     ensures opened { (e : Error) → IsErrOf result (Stop.Open e) → ⊥ }
     // All texts were written.
-    ensures ok { OnOk result (Appends (W.contents out.old) (W.contents out.new) (places_text (T.text texts.now) pdb.old.file places.now)) }
+    ensures ok { OnOk result (Appends (W.contents out.old) (W.contents out.new) (places_text (in_file (T.text texts.now) pdb.old.file) pdb.old.file places.now)) }
     // A beginning of the texts was written.
-    ensures front { OnErr result (WroteFront (W.contents out.old) (W.contents out.new) (places_text (T.text texts.now) pdb.old.file places.now)) }
+    ensures front { OnErr result (WroteFront (W.contents out.old) (W.contents out.new) (places_text (in_file (T.text texts.now) pdb.old.file) pdb.old.file places.now)) }
 {
-    write_each(alloc, pdb, texts, are_several(places), places, out)
+    let information = match pdb.debug_information() {
+        Ok(information) => information,
+        Err(e) => return write_each_refused(alloc, list_error(e)?, places, out),
+    };
+    match information.modules() {
+        Ok(modules) => {
+            let mut list = ModuleList::new(alloc, modules);
+            write_each(
+                alloc,
+                pdb,
+                &mut list,
+                texts,
+                are_several(places),
+                places,
+                out,
+            )
+        }
+        Err(e) => write_each_refused(alloc, list_error(e)?, places, out),
+    }
 }
 
 /// Writes the line of a refusal.
@@ -259,8 +344,8 @@ fn write_left<'s, S: Source<'s>, T: ModuleText, W: Write>(
 ) -> Result<(), Stop>
     requires { modules_steps modules ≡ 0 }
     ensures opened { (e : Error) → IsErrOf result (Stop.Open e) → ⊥ }
-    ensures ok { OnOk result (Appends (W.contents out.old) (W.contents out.new) (list_text several (T.text texts.now) pdb.old.file 0 (modules_left modules.entry))) }
-    ensures front { OnErr result (WroteFront (W.contents out.old) (W.contents out.new) (list_text several (T.text texts.now) pdb.old.file 0 (modules_left modules.entry))) }
+    ensures ok { OnOk result (Appends (W.contents out.old) (W.contents out.new) (list_text several (in_file (T.text texts.now) pdb.old.file) pdb.old.file 0 (modules_left modules.entry))) }
+    ensures front { OnErr result (WroteFront (W.contents out.old) (W.contents out.new) (list_text several (in_file (T.text texts.now) pdb.old.file) pdb.old.file 0 (modules_left modules.entry))) }
 {
     let mut text = Vec::new(alloc);
     let mut k = 0;
@@ -321,8 +406,8 @@ pub fn write_all<'s, S: Source<'s>, T: ModuleText, W: Write>(
     out: &mut W,
 ) -> Result<(), Stop>
     ensures opened { (e : Error) → IsErrOf result (Stop.Open e) → ⊥ }
-    ensures ok { OnOk result (Appends (W.contents out.old) (W.contents out.new) (all_text (T.text texts.now) pdb.old.file)) }
-    ensures front { OnErr result (WroteFront (W.contents out.old) (W.contents out.new) (all_text (T.text texts.now) pdb.old.file)) }
+    ensures ok { OnOk result (Appends (W.contents out.old) (W.contents out.new) (all_text (in_file (T.text texts.now) pdb.old.file) pdb.old.file)) }
+    ensures front { OnErr result (WroteFront (W.contents out.old) (W.contents out.new) (all_text (in_file (T.text texts.now) pdb.old.file) pdb.old.file)) }
 {
     let information = match pdb.debug_information() {
         Ok(information) => information,
@@ -344,8 +429,8 @@ pub fn write_plain<'s, S: Source<'s>, T: ModuleText, W: Write>(
     out: &mut W,
 ) -> Result<(), Stop>
     ensures opened { (e : Error) → IsErrOf result (Stop.Open e) → ⊥ }
-    ensures ok { OnOk result (Appends (W.contents out.old) (W.contents out.new) (plain_text (T.text texts.now) pdb.old.file)) }
-    ensures front { OnErr result (WroteFront (W.contents out.old) (W.contents out.new) (plain_text (T.text texts.now) pdb.old.file)) }
+    ensures ok { OnOk result (Appends (W.contents out.old) (W.contents out.new) (plain_text (in_file (T.text texts.now) pdb.old.file) pdb.old.file)) }
+    ensures front { OnErr result (WroteFront (W.contents out.old) (W.contents out.new) (plain_text (in_file (T.text texts.now) pdb.old.file) pdb.old.file)) }
 {
     let information = match pdb.debug_information() {
         Ok(information) => information,

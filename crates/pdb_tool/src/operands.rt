@@ -1,14 +1,15 @@
 //! The words of a command that are no options.
 
-ghost use Rattle.std.specs.Prelude.{◌≡◌, ◌+◌, ◌<◌, ◌^◌, false, map, string_bytes, length, IfOk};
+ghost use Rattle.std.specs.Prelude.{◌≡◌, ◌+◌, ◌<◌, ◌^◌, map, string_bytes, length, IfOk};
 ghost use Rattle.pdb_text.specs.Numbers.{number_in};
-ghost use Rattle.pdb_tool.specs.Operands.{all_in, first_empty, operand_view, operands_of};
+ghost use Rattle.pdb_tool.specs.Operands.{all_in, behind_plain, behind_word, first_empty, is_operand, operand_view, operands_of};
 ghost use Rattle.pdb_tool.specs.SourcesAsked.{source_of};
 ghost use Rattle.pdb_tool.specs.SourceViews.{source_view};
 ghost use Rattle.pdb_tool.specs.Questions.{question_of, question_view};
 ghost use Rattle.pdb_tool.specs.Words.{Tells};
+ghost use Rattle.pdb_tool.specs.declared.options.Next.{Next};
 
-use crate::options::{Options, is_base, is_option};
+use crate::options::{Next, Options, is_base, is_dashes, is_option};
 use crate::question::{Question, question_of};
 use crate::sources_asked::{SourceAsked, source_of};
 use crate::words::WordsError;
@@ -24,29 +25,61 @@ pub struct Operand<'w> {
     pub word: &'w str,
 }
 
-/// The words that are neither an option nor its value, of words of which the first stands at `place`.
-#[tactic(auto, using(crate::proofs::OperandWords::begins, crate::proofs::OperandWords::ends, crate::proofs::OperandWords::option_there, crate::proofs::OperandWords::value_there, crate::proofs::OperandWords::operand_there))]
+/// Whether an argument is an operand, by what is expected.
+fn is_operand(next: Next, word: &[u8]) -> bool
+    ensures { result ≡ is_operand next word.now }
+{
+    match next {
+        Next::Word => !is_option(word),
+        Next::Value => false,
+        Next::Operand => true,
+    }
+}
+
+/// What is expected behind an argument that is no value.
+fn behind_plain(word: &[u8]) -> Next
+    ensures { result ≡ behind_plain word.now }
+{
+    if is_dashes(word) {
+        Next::Operand
+    } else if is_base(word) {
+        Next::Value
+    } else {
+        Next::Word
+    }
+}
+
+/// What is expected behind an argument.
+fn behind_word(next: Next, word: &[u8]) -> Next
+    ensures { result ≡ behind_word next word.now }
+{
+    match next {
+        Next::Word => behind_plain(word),
+        Next::Value => Next::Word,
+        Next::Operand => Next::Operand,
+    }
+}
+
+/// The arguments that are neither an option nor its value, of arguments of which the first stands at `place`.
+#[tactic(auto, using(crate::proofs::OperandWords::begins, crate::proofs::OperandWords::ends, crate::proofs::OperandWords::other_there, crate::proofs::OperandWords::operand_there))]
 pub fn operands_in<'w>(
     alloc: Global,
     words: &'w [String],
     place: usize,
 ) -> Result<Vec<Operand<'w>>, AllocError>
     requires { place + length words.now < 2 ^ 64 }
-    ensures { IfOk result (λ v. map operand_view v.items ≡ operands_of false (map string_bytes words.now) place) }
+    ensures { IfOk result (λ v. map operand_view v.items ≡ operands_of Next.Word (map string_bytes words.now) place) }
 {
     let mut all = Vec::new(alloc);
-    let mut is_value = false;
+    let mut next = Next::Word;
     for (index, word) in words.iter().enumerate() {
-        if is_value {
-            is_value = false;
-        } else if is_option(word.as_bytes()) {
-            is_value = is_base(word.as_bytes());
-        } else {
+        if is_operand(next, word.as_bytes()) {
             all.push(Operand {
                 place: place + index,
                 word: word.as_str(),
             })?;
         }
+        next = behind_word(next, word.as_bytes());
     }
     Ok(all)
 }

@@ -1,7 +1,7 @@
 //! What the options of a command say.
 
 ghost use Rattle.std.specs.Prelude.{◌≡◌, ◌+◌, ◌<◌, ◌^◌, map, string_bytes, length};
-ghost use Rattle.pdb_tool.specs.Options.{is_base, is_option, is_key, nothing_given, options_of, wanting_base, with_base, with_base_of, with_option, with_resolve_option, with_symbols_option, with_wanted, with_wanted_option, with_word};
+ghost use Rattle.pdb_tool.specs.Options.{is_base, is_dashes, is_option, is_key, is_value, nothing_given, options_of, wanting_base, with_base, with_base_of, with_option, with_plain, with_resolve_option, with_symbols_option, with_wanted, with_wanted_option, with_word};
 ghost use Rattle.std.specs.Char.{is_ascii_hexdigit};
 ghost use Rattle.pdb_tool.specs.Words.{Tells};
 
@@ -42,12 +42,23 @@ impl Options {
     }
 }
 
-/// What the words so far give.
+/// What the next argument is.
+#[derive(Clone, Copy, Debug, Default, PartialEq, Eq)]
+pub enum Next {
+    /// An option or an operand.
+    #[default]
+    Word,
+    /// The value of `--base`.
+    Value,
+    /// An operand: it stands behind `--`.
+    Operand,
+}
+
+/// What the arguments so far give.
 #[derive(Clone, Copy, Debug, Default, PartialEq, Eq)]
 pub struct Given {
     options: Options,
-    /// Whether the next word is the base.
-    wants_base: bool,
+    next: Next,
     /// Whether one of them names a file.
     has_file: bool,
 }
@@ -66,6 +77,13 @@ pub fn is_base(word: &[u8]) -> bool
     word == b"--base".as_slice()
 }
 
+/// Whether an argument ends the options.
+pub fn is_dashes(word: &[u8]) -> bool
+    ensures { result ≡ is_dashes word.now }
+{
+    word == b"--".as_slice()
+}
+
 /// With the next word as the base; none where there is a base.
 fn wanting_base(given: Given) -> Option<Given>
     ensures { result ≡ wanting_base given }
@@ -74,7 +92,7 @@ fn wanting_base(given: Given) -> Option<Given>
         return None;
     }
     Some(Given {
-        wants_base: true,
+        next: Next::Value,
         ..given
     })
 }
@@ -92,7 +110,7 @@ fn with_base(given: Given, base: Option<u64>) -> Option<Given>
     };
     Some(Given {
         options,
-        wants_base: false,
+        next: Next::Word,
         ..given
     })
 }
@@ -179,13 +197,15 @@ fn with_option(topic: Topic, given: Given, place: usize, word: &[u8]) -> Option<
     }
 }
 
-/// With one more word; none where it can't stand there.
-#[tactic(auto, unfolding(crate::specs::Options::with_word))]
-fn with_word(topic: Topic, given: Given, place: usize, word: &[u8]) -> Option<Given>
-    ensures { result ≡ with_word topic given place word.now }
+/// With an argument that is no value; none where it can't stand there.
+fn with_plain(topic: Topic, given: Given, place: usize, word: &[u8]) -> Option<Given>
+    ensures { result ≡ with_plain topic given place word.now }
 {
-    if given.wants_base {
-        return with_base(given, address_number(word));
+    if is_dashes(word) {
+        return Some(Given {
+            next: Next::Operand,
+            ..given
+        });
     }
     if is_option(word) {
         return with_option(topic, given, place, word);
@@ -194,6 +214,31 @@ fn with_word(topic: Topic, given: Given, place: usize, word: &[u8]) -> Option<Gi
         has_file: true,
         ..given
     })
+}
+
+/// With one more argument; none where it can't stand there.
+#[tactic(auto, unfolding(crate::specs::Options::with_word))]
+fn with_word(topic: Topic, given: Given, place: usize, word: &[u8]) -> Option<Given>
+    ensures { result ≡ with_word topic given given.next place word.now }
+{
+    match given.next {
+        Next::Word => with_plain(topic, given, place, word),
+        Next::Value => with_base(given, address_number(word)),
+        Next::Operand => Some(Given {
+            has_file: true,
+            ..given
+        }),
+    }
+}
+
+/// Whether a value is still to come.
+fn is_value(next: Next) -> bool
+    ensures { result ≡ is_value next }
+{
+    match next {
+        Next::Value => true,
+        Next::Word | Next::Operand => false,
+    }
 }
 
 /// The options of a command, of whose words the first stands at `place` among the program's words. One of the words has
@@ -210,7 +255,7 @@ pub fn options_in(topic: Topic, words: &[String], place: usize) -> Result<Option
             None => return Err(WordsError::BadWord(place + index)),
         }
     }
-    if given.has_file && !given.wants_base {
+    if given.has_file && !is_value(given.next) {
         Ok(given.options)
     } else {
         Err(WordsError::BadWord(place + words.len()))

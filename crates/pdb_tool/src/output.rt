@@ -1,5 +1,6 @@
 //! Standard output, whose reader may close it.
 
+use bstr::ByteSlice;
 use std::io::{self, ErrorKind, Write};
 
 /// A writer that remembers whether its reader has closed it, which is no fault to speak of.
@@ -42,11 +43,20 @@ impl<W: Write + Drop> Write for Output<W> {
     }
 }
 
-/// A writer that remembers whether anything was written.
+/// What the line of an error begins with.
+const ERROR_LINE: &[u8] = b"error ";
+
+/// What stands before such a line inside a text.
+const NEXT_ERROR_LINE: &[u8] = b"\nerror ";
+
+/// A writer that remembers whether anything was written, and whether a line of an error was.
 #[derive(Drop)]
 pub struct Noticed<'a, W: Write> {
     inner: &'a mut W,
     has_written: bool,
+    has_error: bool,
+    /// Whether the next byte begins a line.
+    at_line_start: bool,
 }
 
 impl<'a, W: Write> Noticed<'a, W> {
@@ -55,12 +65,32 @@ impl<'a, W: Write> Noticed<'a, W> {
         Noticed {
             inner,
             has_written: false,
+            has_error: false,
+            at_line_start: true,
         }
     }
 
     /// Whether anything was written.
     pub fn has_written(&self) -> bool {
         self.has_written
+    }
+
+    /// Whether a line of an error was written.
+    pub fn has_error(&self) -> bool {
+        self.has_error
+    }
+}
+
+/// Whether a line of an error is in bytes, of which the first may begin a line.
+fn has_error_line(at_line_start: bool, bytes: &[u8]) -> bool {
+    at_line_start && bytes.starts_with(ERROR_LINE) || bytes.find(NEXT_ERROR_LINE).is_some()
+}
+
+/// Whether a line begins behind bytes.
+fn ends_line(at_line_start: bool, bytes: &[u8]) -> bool {
+    match bytes.last() {
+        Some(last) => *last == b'\n',
+        None => at_line_start,
     }
 }
 
@@ -69,6 +99,9 @@ impl<'a, W: Write> Write for Noticed<'a, W> {
 
     fn write(&mut self, bytes: &[u8]) -> io::Result<usize> {
         let count = self.inner.write(bytes)?;
+        let written = bytes.get(..count).unwrap_or(&[]);
+        self.has_error = self.has_error || has_error_line(self.at_line_start, written);
+        self.at_line_start = ends_line(self.at_line_start, written);
         self.has_written = true;
         Ok(count)
     }

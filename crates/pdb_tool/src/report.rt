@@ -3,21 +3,24 @@
 ghost use Rattle.std.specs.Prelude.{◌≡◌};
 ghost use Rattle.pdb_tool.specs.Stops.{status_of, status_of_stop};
 
-use crate::asked::address_number;
-use crate::help::usage_of;
-use crate::stop::Stop;
-use crate::words::{Topic, topic_in};
+use crate::file_kind::{FileKind, put_kind};
+use crate::mistakes::write_mistake;
+use crate::stop::{Stop, Unopened};
+use pdb::Error;
 use pdb_text::{WriteFailed, write_out};
-use std::alloc::Global;
+use std::alloc::{AllocError, Global};
 use std::io::Write;
+
+/// What a file is that can't be opened as a PDB, and its size.
+pub type Kind = Option<(FileKind, u64)>;
 
 /// Why the program failed.
 #[derive(Clone, Copy, Debug, PartialEq, Eq)]
 pub enum Fault {
     /// The word at this place is none that can stand there; their number where one is missing.
     BadWord(usize),
-    /// A word isn't text.
-    NoText,
+    /// The argument of this index isn't UTF-8.
+    NotText(usize),
     /// Standard input, which is to be read, is closed.
     NoInput,
     /// A command stopped over the file that the word at this place names.
@@ -43,7 +46,7 @@ fn status_of_stop(stop: Stop) -> u8
     ensures { result ≡ status_of_stop stop }
 {
     match stop {
-        Stop::Read => 3,
+        Stop::Unopened(_) | Stop::Read => 3,
         Stop::Open(_) | Stop::Image(_) | Stop::NoPdb => 4,
         Stop::Memory => 5,
         Stop::Write => 6,
@@ -55,19 +58,41 @@ pub fn status_of(fault: Fault) -> u8
     ensures { result ≡ status_of fault }
 {
     match fault {
-        Fault::BadWord(_) | Fault::NoText => 2,
+        Fault::BadWord(_) | Fault::NotText(_) => 2,
         Fault::NoInput => 3,
         Fault::Stopped(stop, _) => status_of_stop(stop),
         Fault::OtherKey => 7,
     }
 }
 
-/// Writes why a file is refused.
-fn write_refusal<W: Write>(name: &str, text: &[u8], err: &mut W) -> Result<(), WriteFailed> {
+/// Why a file can't be read.
+fn reason_of(why: Unopened) -> &'static str {
+    match why {
+        Unopened::Missing => "cannot read file: no such file",
+        Unopened::Directory => "cannot read file: it is a directory",
+        Unopened::Denied => "cannot read file: permission denied",
+        Unopened::NotText => "cannot read file: its name is not UTF-8",
+        Unopened::Other => "cannot read file",
+    }
+}
+
+/// Writes a line on a file.
+fn write_about<W: Write>(name: &str, text: &[u8], err: &mut W) -> Result<(), WriteFailed> {
+    write_out(err, b"pdb_tool: ")?;
     write_out(err, name.as_bytes())?;
     write_out(err, b": ")?;
     write_out(err, text)?;
     write_out(err, b"\n")
+}
+
+/// The error of a file that can't be opened as a PDB, and what it is instead.
+fn opening_text(alloc: Global, e: Error, kind: Kind) -> Result<Vec<u8>, AllocError> {
+    let mut text = format!(in alloc; "{e}")?.into_bytes();
+    if let Some((kind, size)) = kind {
+        text.extend_from_slice(b": ")?;
+        put_kind(&mut text, kind, size)?;
+    }
+    Ok(text)
 }
 
 /// Writes what stopped a command over a file.
@@ -75,30 +100,23 @@ pub fn write_stop<W: Write>(
     alloc: Global,
     stop: Stop,
     name: &str,
+    kind: Kind,
     err: &mut W,
 ) -> Result<(), WriteFailed> {
-    write_out(err, b"pdb_tool: ")?;
     match stop {
-        Stop::Read => write_refusal(name, b"cannot read file", err),
-        Stop::Open(e) => match format!(in alloc; "{e}") {
-            Ok(text) => write_refusal(name, text.as_bytes(), err),
-            Err(_) => write_refusal(name, b"", err),
+        Stop::Unopened(why) => write_about(name, reason_of(why).as_bytes(), err),
+        Stop::Read => write_about(name, b"cannot read file", err),
+        Stop::Open(e) => match opening_text(alloc, e, kind) {
+            Ok(text) => write_about(name, &text, err),
+            Err(_) => write_about(name, b"", err),
         },
         Stop::Image(e) => match format!(in alloc; "{e}") {
-            Ok(text) => write_refusal(name, text.as_bytes(), err),
-            Err(_) => write_refusal(name, b"", err),
+            Ok(text) => write_about(name, text.as_bytes(), err),
+            Err(_) => write_about(name, b"", err),
         },
-        Stop::NoPdb => write_refusal(name, b"names no PDB", err),
-        Stop::Memory => write_out(err, b"out of memory\n"),
-        Stop::Write => write_out(err, b"cannot write\n"),
-    }
-}
-
-/// Whether a word is an address that an image has only where it was loaded: it wants a base.
-fn wants_base(topic: Option<Topic>, word: &str) -> bool {
-    match (topic, address_number(word.as_bytes())) {
-        (Some(Topic::Resolve), Some(address)) => address > 0xffff_ffff,
-        _ => false,
+        Stop::NoPdb => write_about(name, b"names no PDB", err),
+        Stop::Memory => write_out(err, b"pdb_tool: out of memory\n"),
+        Stop::Write => write_out(err, b"pdb_tool: cannot write\n"),
     }
 }
 
@@ -110,38 +128,13 @@ pub fn write_notice<W: Write>(err: &mut W) -> Result<(), WriteFailed> {
     )
 }
 
-/// Writes what to write in place of an address that wants a base.
-fn write_wants_base<W: Write>(word: &str, err: &mut W) -> Result<(), WriteFailed> {
-    write_out(err, b"pdb_tool: address ")?;
-    write_out(err, word.as_bytes())?;
-    write_out(err, b" needs the load address of the image: --base=HEX\n")
-}
-
-/// Writes which word is bad.
-fn write_word<W: Write>(topic: Option<Topic>, word: &str, err: &mut W) -> Result<(), WriteFailed> {
-    if wants_base(topic, word) {
-        return write_wants_base(word, err);
-    }
-    write_out(err, b"pdb_tool: bad word: ")?;
-    write_out(err, word.as_bytes())?;
-    write_out(err, b"\n")
-}
-
-/// Writes which word is bad, and the words that can be given.
-fn write_bad_word<W: Write>(
-    words: &[String],
-    place: usize,
-    err: &mut W,
-) -> Result<(), WriteFailed> {
-    let topic = match words.first() {
-        Some(word) => topic_in(word.as_str()),
-        None => None,
-    };
-    match words.get(place) {
-        Some(word) => write_word(topic, word.as_str(), err)?,
-        None => write_out(err, b"pdb_tool: a word is missing\n")?,
-    }
-    write_out(err, usage_of(topic).as_bytes())
+/// Writes that a text has the line of an error, and where to look.
+pub fn write_damage<W: Write>(name: &str, err: &mut W) -> Result<(), WriteFailed> {
+    write_about(
+        name,
+        b"a part of the file is damaged: see pdb_tool check",
+        err,
+    )
 }
 
 /// The file that a word names: an image behind its option, or else the word itself.
@@ -170,33 +163,43 @@ fn write_fault<W: Write>(
     alloc: Global,
     fault: Fault,
     words: &[String],
+    kind: Kind,
     err: &mut W,
 ) -> Result<(), WriteFailed> {
     match fault {
-        Fault::BadWord(place) => write_bad_word(words, place, err),
-        Fault::NoText => {
-            write_out(err, b"pdb_tool: a word is not UTF-8\n")?;
-            write_out(err, usage_of(None).as_bytes())
+        Fault::BadWord(place) => write_mistake(words, place, err),
+        Fault::NotText(place) => {
+            write_about(word_at(words, place), b"the argument is not UTF-8", err)
         }
         Fault::NoInput => write_out(
             err,
             b"pdb_tool: standard input is closed: no addresses can be read from it\n",
         ),
         Fault::Stopped(stop, place) => {
-            let name = match words.get(place) {
-                Some(word) => file_in_word(word.as_str()),
-                None => "",
-            };
-            write_stop(alloc, stop, name, err)
+            write_stop(alloc, stop, file_in_word(word_at(words, place)), kind, err)
         }
         Fault::OtherKey => Ok(()),
     }
 }
 
-/// Tells a fault and answers the exit status. Where standard error fails, the status is the same.
-pub fn report<W: Write>(alloc: Global, fault: Fault, words: &[String], err: &mut W) -> u8
+/// The argument of an index; nothing where there is none.
+pub fn word_at(words: &[String], place: usize) -> &str {
+    match words.get(place) {
+        Some(word) => word.as_str(),
+        None => "",
+    }
+}
+
+/// Writes a fault and returns the exit status. Where standard error fails, the status is the same.
+pub fn report<W: Write>(
+    alloc: Global,
+    fault: Fault,
+    words: &[String],
+    kind: Kind,
+    err: &mut W,
+) -> u8
     ensures { result ≡ status_of fault }
 {
-    let _ = write_fault(alloc, fault, words, err);
+    let _ = write_fault(alloc, fault, words, kind, err);
     status_of(fault)
 }

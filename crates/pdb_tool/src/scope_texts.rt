@@ -5,9 +5,10 @@ ghost use Rattle.std.specs.Option.{option_map};
 ghost use Rattle.std.specs.Fmt.{decimal};
 ghost use Rattle.pdb.specs.Data.{shown};
 ghost use Rattle.pdb.specs.Forms.{kind_at, record_at};
-ghost use Rattle.pdb.specs.Qualified.{qualified_of, shown_qualified};
+ghost use Rattle.pdb.specs.Qualified.{shown_qualified};
 ghost use Rattle.pdb.specs.Text.{name_bytes};
 ghost use Rattle.pdb.specs.Views.{symbol_of, symbols_left};
+ghost use Rattle.pdb_resolve.specs.CallViews.{names_of_calls};
 ghost use Rattle.pdb_tool.specs.Depth.{blanks, depth_at};
 ghost use Rattle.pdb_tool.specs.ScopeTexts.{behind_qualified, behind_scoped, code_text, named_text, placed_text, scope_line, scopes_left, scopes_text};
 ghost use Rattle.pdb_tool.specs.Values.{behind_blank, place_text};
@@ -16,9 +17,10 @@ use crate::depth::{depth_of, put_blanks};
 use crate::error_line::{put_error_line, put_refusal_line};
 use crate::values::{put_behind_blank, put_place};
 use pdb::{
-    Error, FallibleIterator, IdIndex, ItemFinder, ModuleInfo, PdbInternalSectionOffset,
-    QualifiedName, RawString, Symbol, SymbolData, SymbolIter, qualified_name,
+    Error, FallibleIterator, IdIndex, ModuleInfo, PdbInternalSectionOffset, QualifiedName,
+    RawString, Symbol, SymbolData, SymbolIter,
 };
+use pdb_resolve::CallNames;
 use pdb_text::{put_field, put_line_end, put_one_line};
 use std::alloc::{AllocError, Global};
 
@@ -122,28 +124,26 @@ fn put_behind_qualified(
 /// The line of an inlined call: the name of the function of its id.
 fn put_inlined(
     out: &mut Vec<u8>,
-    ids: &ItemFinder<'_>,
-    types: &ItemFinder<'_>,
+    names: &CallNames<'_, '_>,
     depth: usize,
     id: IdIndex,
 ) -> Result<(), AllocError>
-    ensures { OnOk result (out.new.items ≡ out.old.items ++ (blanks depth ++ (codes "inlined" ++ behind_qualified (qualified_of ids.now types.now id.0) ++ codes "\n"))) }
+    ensures { OnOk result (out.new.items ≡ out.old.items ++ (blanks depth ++ (codes "inlined" ++ behind_qualified (names_of_calls names.now id.0) ++ codes "\n"))) }
 {
     put_blanks(out, depth)?;
     out.extend_from_slice(b"inlined")?;
-    put_behind_qualified(out, qualified_name(ids, types, id))?;
+    put_behind_qualified(out, names.find(id))?;
     put_line_end(out)
 }
 
 /// The line of what a record says, where it has one.
 fn put_says(
     out: &mut Vec<u8>,
-    ids: &ItemFinder<'_>,
-    types: &ItemFinder<'_>,
+    names: &CallNames<'_, '_>,
     depth: usize,
     parsed: &SymbolData<'_>,
 ) -> Result<(), AllocError>
-    ensures { OnOk result (out.new.items ≡ out.old.items ++ scope_line ids.now types.now depth (Ok (shown parsed.now))) }
+    ensures { OnOk result (out.new.items ≡ out.old.items ++ scope_line (names_of_calls names.now) depth (Ok (shown parsed.now))) }
 {
     match parsed {
         SymbolData::Procedure(s) => {
@@ -161,7 +161,7 @@ fn put_says(
             )
         }
         SymbolData::SeparatedCode(s) => put_code(out, depth, b"separated", s.offset, s.len, b""),
-        SymbolData::InlineSite(s) => put_inlined(out, ids, types, depth, s.inlinee),
+        SymbolData::InlineSite(s) => put_inlined(out, names, depth, s.inlinee),
         SymbolData::Data(s) => put_placed(out, depth, b"data", s.offset, s.name),
         SymbolData::ThreadStorage(s) => put_placed(out, depth, b"thread", s.offset, s.name),
         SymbolData::Label(s) => put_placed(out, depth, b"label", s.offset, s.name),
@@ -176,15 +176,14 @@ fn put_says(
 fn put_symbol(
     alloc: Global,
     out: &mut Vec<u8>,
-    ids: &ItemFinder<'_>,
-    types: &ItemFinder<'_>,
+    names: &CallNames<'_, '_>,
     depth: usize,
     symbol: &Symbol<'_>,
 ) -> Result<(), AllocError>
-    ensures { OnOk result (out.new.items ≡ out.old.items ++ scope_line ids.now types.now depth (record_at (symbol_of symbol.now).bytes)) }
+    ensures { OnOk result (out.new.items ≡ out.old.items ++ scope_line (names_of_calls names.now) depth (record_at (symbol_of symbol.now).bytes)) }
 {
     match symbol.parse(alloc) {
-        Ok(parsed) => put_says(out, ids, types, depth, &parsed),
+        Ok(parsed) => put_says(out, names, depth, &parsed),
         Err(Error::OutOfMemory) => Err(AllocError),
         Err(_) => Ok(()),
     }
@@ -195,18 +194,17 @@ fn put_symbol(
 fn put_symbols(
     alloc: Global,
     out: &mut Vec<u8>,
-    ids: &ItemFinder<'_>,
-    types: &ItemFinder<'_>,
+    names: &CallNames<'_, '_>,
     mut symbols: SymbolIter<'_>,
 ) -> Result<(), AllocError>
-    ensures { OnOk result (out.new.items ≡ out.old.items ++ scopes_left ids.now types.now 0 (symbols_left symbols.entry)) }
+    ensures { OnOk result (out.new.items ≡ out.old.items ++ scopes_left (names_of_calls names.now) 0 (symbols_left symbols.entry)) }
 {
     let mut depth = 0usize;
     loop {
         match symbols.next() {
             Ok(Some(symbol)) => {
                 depth = depth_of(depth, &symbol);
-                put_symbol(alloc, out, ids, types, depth, &symbol)?;
+                put_symbol(alloc, out, names, depth, &symbol)?;
                 if symbol.starts_scope() {
                     depth += 1;
                 }
@@ -219,19 +217,18 @@ fn put_symbols(
 // end
 
 /// The text of `scopes` of a module: its symbols by their scopes, or their refusal. The names of inlined functions are
-/// those of the tables of ids and types.
+/// found by the ids of their calls.
 #[tactic(auto, unfolding(crate::specs::ScopeTexts::scopes_text))]
 pub fn put_scopes(
     alloc: Global,
     out: &mut Vec<u8>,
-    ids: &ItemFinder<'_>,
-    types: &ItemFinder<'_>,
+    names: &CallNames<'_, '_>,
     info: &ModuleInfo<'_>,
 ) -> Result<(), AllocError>
-    ensures { OnOk result (out.new.items ≡ out.old.items ++ scopes_text ids.now types.now info.now) }
+    ensures { OnOk result (out.new.items ≡ out.old.items ++ scopes_text (names_of_calls names.now) info.now) }
 {
     match info.symbols() {
-        Ok(symbols) => put_symbols(alloc, out, ids, types, symbols),
+        Ok(symbols) => put_symbols(alloc, out, names, symbols),
         Err(e) => put_refusal_line(out, e),
     }
 }

@@ -11,9 +11,26 @@ use pdb_image::ImageError;
 use pdb_text::WriteFailed;
 use std::alloc::AllocError;
 
+/// Why a file can't be opened.
+#[derive(Clone, Copy, Debug, PartialEq, Eq)]
+pub enum Unopened {
+    /// There is no file of this name.
+    Missing,
+    /// It is a directory.
+    Directory,
+    /// Permission is denied.
+    Denied,
+    /// Its name isn't UTF-8.
+    NotText,
+    /// Any other reason.
+    Other,
+}
+
 /// Why a command stopped before its text was written whole.
 #[derive(Clone, Copy, Debug, PartialEq, Eq)]
 pub enum Stop {
+    /// The file can't be opened.
+    Unopened(Unopened),
     /// The file, or standard input, can't be read.
     Read,
     /// The file can't be opened as a container.

@@ -3,9 +3,9 @@
 use crate::file_texts::FileText;
 use crate::question::Question;
 use crate::resolve::{put_question, resolver_over};
-use pdb::{Error, FallibleIterator, PDB, Result, Source};
+use pdb::{Error, FallibleIterator, ModuleInfo, ModuleList, PDB, Result, Source};
 use pdb_file::{AnyFile, Asks, HeldSource};
-use pdb_resolve::Streams;
+use pdb_resolve::{GlobalIds, Streams};
 use std::alloc::Global;
 
 /// What is still to be asked for of what a text is made of.
@@ -46,8 +46,31 @@ fn ask_code<'s, S: Source<'s>>(alloc: Global, source: S, questions: &[Question<'
     }
 }
 
-/// Asks for the streams of all modules, and answers whether it is known which these are.
-fn ask_all<'s, S: Source<'s>>(pdb: &mut PDB<'s, S>) -> bool {
+/// Asks for what the names of a module's inlined calls are found by, and answers whether all of that is held: the streams
+/// of other modules, where the module imports ids from them.
+fn ask_calls<'s, S: Source<'s>>(
+    alloc: Global,
+    pdb: &mut PDB<'s, S>,
+    info: &Result<Option<ModuleInfo<'s>>>,
+) -> bool {
+    match info {
+        Ok(Some(info)) => !is_missed(&GlobalIds::read(alloc, pdb, info)),
+        _ => !is_missed(info),
+    }
+}
+
+/// Asks for the stream of a module, and answers whether nothing will be left to ask for of it then.
+fn ask_module<'s, S: Source<'s>>(
+    alloc: Global,
+    pdb: &mut PDB<'s, S>,
+    names_calls: bool,
+    info: &Result<Option<ModuleInfo<'s>>>,
+) -> bool {
+    !names_calls || ask_calls(alloc, pdb, info)
+}
+
+/// Asks for the streams of all modules, and answers whether nothing will be left to ask for of them then.
+fn ask_all<'s, S: Source<'s>>(alloc: Global, pdb: &mut PDB<'s, S>, names_calls: bool) -> bool {
     let information = match pdb.debug_information() {
         Ok(information) => information,
         Err(e) => return e != Error::OutOfMemory,
@@ -55,32 +78,73 @@ fn ask_all<'s, S: Source<'s>>(pdb: &mut PDB<'s, S>) -> bool {
     let Ok(mut modules) = information.modules() else {
         return true;
     };
+    let mut is_last = true;
     for _ in 0..u64::MAX {
         let Ok(Some(module)) = modules.next() else {
-            return true;
+            return is_last;
         };
-        let _ = pdb.module_info(&module);
+        let info = pdb.module_info(&module);
+        is_last = ask_module(alloc, pdb, names_calls, &info) && is_last;
     }
-    true
+    is_last
 }
 
-/// Asks for the streams of the modules of these numbers, and answers whether it is known which these are.
-fn ask_places<'s, S: Source<'s>>(pdb: &mut PDB<'s, S>, places: &[u32]) -> bool {
-    if is_missed(&pdb.debug_information()) {
-        return false;
+/// Asks for the stream of the module with this place in a list, and answers whether nothing will be left to ask for of it
+/// then.
+fn ask_place<'s, S: Source<'s>>(
+    alloc: Global,
+    pdb: &mut PDB<'s, S>,
+    list: &mut ModuleList<'_>,
+    names_calls: bool,
+    k: u32,
+) -> bool {
+    if list.read_to(k).is_err() {
+        return true;
     }
+    match list.get(k) {
+        Ok(Some(module)) => {
+            let info = pdb.module_info(module);
+            ask_module(alloc, pdb, names_calls, &info)
+        }
+        _ => true,
+    }
+}
+
+/// Asks for the streams of the modules of these numbers, and answers whether nothing will be left to ask for of them
+/// then. The list of modules is read once.
+fn ask_places<'s, S: Source<'s>>(
+    alloc: Global,
+    pdb: &mut PDB<'s, S>,
+    names_calls: bool,
+    places: &[u32],
+) -> bool {
+    let information = match pdb.debug_information() {
+        Ok(information) => information,
+        Err(e) => return e != Error::OutOfMemory,
+    };
+    let Ok(modules) = information.modules() else {
+        return true;
+    };
+    let mut list = ModuleList::new(alloc, modules);
+    let mut is_last = true;
     for k in places {
-        let _ = pdb.module_at(*k as usize);
+        is_last = ask_place(alloc, pdb, &mut list, names_calls, *k) && is_last;
     }
-    true
+    is_last
 }
 
-/// Asks for the streams of the modules of these numbers, or of all, and answers whether it is known which these are.
-fn ask_modules<'s, S: Source<'s>>(pdb: &mut PDB<'s, S>, places: &[u32]) -> bool {
+/// Asks for the streams of the modules of these numbers, or of all, and answers whether nothing will be left to ask for
+/// of them then.
+fn ask_modules<'s, S: Source<'s>>(
+    alloc: Global,
+    pdb: &mut PDB<'s, S>,
+    names_calls: bool,
+    places: &[u32],
+) -> bool {
     if places.is_empty() {
-        ask_all(pdb)
+        ask_all(alloc, pdb, names_calls)
     } else {
-        ask_places(pdb, places)
+        ask_places(alloc, pdb, names_calls, places)
     }
 }
 
@@ -112,6 +176,11 @@ impl TextAsked<'_> {
             }
             FileText::Modules => self.shared = is_missed(&pdb.debug_information()),
             FileText::Sections => self.shared = is_missed(&pdb.sections()),
+            FileText::Streams => {
+                let names = is_missed(&pdb.pdb_information()) | is_missed(&pdb.debug_information());
+                let items = is_missed(&pdb.type_information()) | is_missed(&pdb.id_information());
+                self.shared = names | items;
+            }
             FileText::AllSymbols => self.shared = false,
         }
     }
@@ -125,22 +194,26 @@ impl TextAsked<'_> {
             self.ask_shared(&mut pdb);
         }
         if self.modules {
-            self.ask_modules(&mut pdb);
+            self.ask_modules(alloc, &mut pdb);
         }
         !self.shared && !self.modules
     }
 
     /// Asks for the streams of modules.
-    fn ask_modules<'s, S: Source<'s>>(&mut self, pdb: &mut PDB<'s, S>) {
+    fn ask_modules<'s, S: Source<'s>>(&mut self, alloc: Global, pdb: &mut PDB<'s, S>) {
         let text = self.text;
         self.modules = match text {
             FileText::Code(_) => false,
-            FileText::Lines(places) | FileText::Scopes(places) | FileText::Sources(places) => {
-                !ask_modules(pdb, places)
+            FileText::Lines(places) | FileText::Sources(places) => {
+                !ask_modules(alloc, pdb, false, places)
             }
-            FileText::Symbols(places) => !places.is_empty() && !ask_modules(pdb, places),
-            FileText::AllSymbols | FileText::Find(_) | FileText::Where(_) => !ask_all(pdb),
-            FileText::Modules | FileText::Sections => false,
+            FileText::Scopes(places) => !ask_modules(alloc, pdb, true, places),
+            FileText::Symbols(places) => {
+                !places.is_empty() && !ask_modules(alloc, pdb, false, places)
+            }
+            FileText::AllSymbols => !ask_all(alloc, pdb, false),
+            FileText::Find(_) | FileText::Where(_) => !ask_all(alloc, pdb, true),
+            FileText::Modules | FileText::Sections | FileText::Streams => false,
         };
     }
 }

@@ -8,9 +8,10 @@ ghost use Rattle.pdb.specs.Forms.{record_at};
 ghost use Rattle.pdb.specs.InlinedViews.{inlined_left};
 ghost use Rattle.pdb.specs.Inlinees.{inlinee_with};
 ghost use Rattle.pdb.specs.LineViews.{lines_left};
-ghost use Rattle.pdb.specs.Qualified.{qualified_of, shown_qualified};
+ghost use Rattle.pdb.specs.Qualified.{shown_qualified};
 ghost use Rattle.pdb.specs.Text.{name_bytes};
 ghost use Rattle.pdb.specs.Views.{symbol_of, symbols_left};
+ghost use Rattle.pdb_resolve.specs.CallViews.{names_of_calls};
 ghost use Rattle.pdb_resolve.specs.Frames.{file_in, file_name, name_text, plain};
 ghost use Rattle.pdb_resolve.specs.ModuleCode.{name_at, program_in};
 ghost use Rattle.pdb_tool.specs.FindTexts.{parent_said};
@@ -23,9 +24,8 @@ use crate::find_texts::{Parent, has_bytes, parent_behind, site_records};
 use pdb::{
     Error, FallibleIterator, InlineeFinder, InlineeLineIterator, LineInfo, LineIterator,
     LineProgram, ModuleInfo, QualifiedName, RawString, Symbol, SymbolData, SymbolIter,
-    qualified_name,
 };
-use pdb_resolve::{plain_name, read_known};
+use pdb_resolve::{CallNames, plain_name, read_known};
 use std::alloc::{AllocError, Global};
 
 /// The line of a record, where it has bytes and is asked for; by the name of the function at its place.
@@ -111,18 +111,19 @@ fn put_says<'a>(
     out: &mut Vec<u8>,
     asking: &Asking<'_, '_>,
     program: Option<&LineProgram<'_>>,
+    names: &CallNames<'_, '_>,
     known: &InlineeFinder<'a>,
     parent: Option<Parent>,
     index: u32,
     parsed: &SymbolData<'a>,
 ) -> Result<(), AllocError>
-    ensures { OnOk result (out.new.items ≡ out.old.items ++ site_text asking.now (option_copied program.entry) (inlinee_with known.now) (option_map parent_view parent) index (Ok (shown parsed.now))) }
+    ensures { OnOk result (out.new.items ≡ out.old.items ++ site_text asking.now (option_copied program.entry) (names_of_calls names.now) (inlinee_with known.now) (option_map parent_view parent) index (Ok (shown parsed.now))) }
 {
     let SymbolData::InlineSite(site) = parsed else {
         return Ok(());
     };
     match site_records(known, parent, index, site) {
-        Some(lines) => put_calls(out, asking, program, asking.function(site.inlinee), lines),
+        Some(lines) => put_calls(out, asking, program, names.find(site.inlinee), lines),
         None => Ok(()),
     }
 }
@@ -133,11 +134,12 @@ fn put_symbol<'a>(
     out: &mut Vec<u8>,
     asking: &Asking<'_, '_>,
     program: Option<&LineProgram<'_>>,
+    names: &CallNames<'_, '_>,
     known: &InlineeFinder<'a>,
     parent: &mut Option<Parent>,
     symbol: &Symbol<'a>,
 ) -> Result<(), AllocError>
-    ensures text { OnOk result (out.new.items ≡ out.old.items ++ site_text asking.now (option_copied program.entry) (inlinee_with known.now) (option_map parent_view parent.old) (symbol_of symbol.now).index (record_at (symbol_of symbol.now).bytes)) }
+    ensures text { OnOk result (out.new.items ≡ out.old.items ++ site_text asking.now (option_copied program.entry) (names_of_calls names.now) (inlinee_with known.now) (option_map parent_view parent.old) (symbol_of symbol.now).index (record_at (symbol_of symbol.now).bytes)) }
     ensures parent { OnOk result (option_map parent_view parent.new ≡ option_or (parent_said (record_at (symbol_of symbol.now).bytes)) (option_map parent_view parent.old)) }
 {
     match symbol.parse(alloc) {
@@ -146,6 +148,7 @@ fn put_symbol<'a>(
                 out,
                 asking,
                 program,
+                names,
                 known,
                 *parent,
                 symbol.index().0,
@@ -165,16 +168,26 @@ fn put_symbols<'a>(
     out: &mut Vec<u8>,
     asking: &Asking<'_, '_>,
     program: Option<&LineProgram<'_>>,
+    names: &CallNames<'_, '_>,
     known: &InlineeFinder<'a>,
     mut symbols: SymbolIter<'a>,
 ) -> Result<(), AllocError>
-    ensures { OnOk result (out.new.items ≡ out.old.items ++ sites_left_text asking.now (option_copied program.entry) (inlinee_with known.now) None (symbols_left symbols.entry)) }
+    ensures { OnOk result (out.new.items ≡ out.old.items ++ sites_left_text asking.now (option_copied program.entry) (names_of_calls names.now) (inlinee_with known.now) None (symbols_left symbols.entry)) }
 {
     let mut parent = None;
     loop {
         match symbols.next() {
             Ok(Some(symbol)) => {
-                put_symbol(alloc, out, asking, program, known, &mut parent, &symbol)?;
+                put_symbol(
+                    alloc,
+                    out,
+                    asking,
+                    program,
+                    names,
+                    known,
+                    &mut parent,
+                    &symbol,
+                )?;
             }
             Ok(None) => return Ok(()),
             Err(e) => return put_error_line(out, e),
@@ -189,13 +202,14 @@ fn put_sites(
     out: &mut Vec<u8>,
     asking: &Asking<'_, '_>,
     program: Option<&LineProgram<'_>>,
+    names: &CallNames<'_, '_>,
     info: &ModuleInfo<'_>,
 ) -> Result<(), AllocError>
-    ensures { option_copied program.entry ≡ program_in info.now → OnOk result (out.new.items ≡ out.old.items ++ calls_text asking.now info.now) }
+    ensures { option_copied program.entry ≡ program_in info.now → OnOk result (out.new.items ≡ out.old.items ++ calls_text asking.now (names_of_calls names.now) info.now) }
 {
     match info.symbols() {
         Ok(symbols) => match read_known(alloc, info) {
-            Ok(known) => put_symbols(alloc, out, asking, program, &known, symbols),
+            Ok(known) => put_symbols(alloc, out, asking, program, names, &known, symbols),
             Err(_) => Err(AllocError),
         },
         Err(e) => put_refusal_line(out, e),
@@ -208,9 +222,10 @@ pub fn put_where<'a>(
     alloc: Global,
     out: &mut Vec<u8>,
     asking: &Asking<'_, '_>,
+    names: &CallNames<'_, '_>,
     info: &'a ModuleInfo<'a>,
 ) -> Result<(), AllocError>
-    ensures { OnOk result (out.new.items ≡ out.old.items ++ where_text asking.now info.entry.now) }
+    ensures { OnOk result (out.new.items ≡ out.old.items ++ where_text asking.now (names_of_calls names.now) info.entry.now) }
 {
     match info.line_program(alloc) {
         Ok(program) => {
@@ -223,11 +238,11 @@ pub fn put_where<'a>(
                 &program,
                 program.lines(),
             )?;
-            put_sites(alloc, out, asking, Some(&program), info)
+            put_sites(alloc, out, asking, Some(&program), names, info)
         }
         Err(e) => {
             put_refusal_line(out, e)?;
-            put_sites(alloc, out, asking, None, info)
+            put_sites(alloc, out, asking, None, names, info)
         }
     }
 }

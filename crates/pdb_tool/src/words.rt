@@ -1,9 +1,9 @@
 //! What the program's words ask for.
 
 ghost use Rattle.std.specs.Prelude.{◌≡◌, ◌+◌, ◌<◌, ◌^◌, map, string_bytes, length};
-ghost use Rattle.pdb_tool.specs.Words.{Tells, alone, front_of, help_in, is_help, lookup_in, request_in, topic_in};
+ghost use Rattle.pdb_tool.specs.Words.{Tells, alone, front_of, help_in, is_help, is_version, lookup_in, request_in, topic_in, wants_help};
 
-use crate::options::{Options, options_in};
+use crate::options::{Options, is_dashes, options_in};
 use std::alloc::{AllocError, AllocFailed};
 
 /// A command.
@@ -31,6 +31,8 @@ pub enum Topic {
     Modules,
     /// The section headers of the image.
     Sections,
+    /// The streams of the file.
+    Streams,
 }
 
 /// What the words ask for.
@@ -86,6 +88,7 @@ fn lookup_in(word: &str) -> Option<Topic>
         "sources" => Some(Topic::Sources),
         "modules" => Some(Topic::Modules),
         "sections" => Some(Topic::Sections),
+        "streams" => Some(Topic::Streams),
         _ => None,
     }
 }
@@ -111,6 +114,27 @@ fn is_help(word: &str) -> bool
     word == "-h" || word == "--help"
 }
 
+fn is_version(word: &str) -> bool
+    ensures { result ≡ is_version word.now }
+{
+    word == "version" || word == "-V" || word == "--version"
+}
+
+/// Whether one of these arguments, before options end, is `--help`.
+fn wants_help(words: &[String]) -> bool
+    ensures { result ≡ wants_help (map string_bytes words.now) }
+{
+    for word in words {
+        if is_dashes(word.as_bytes()) {
+            return false;
+        }
+        if word.as_str() == "--help" {
+            return true;
+        }
+    }
+    false
+}
+
 /// What is asked for, if no word stands at this place or behind it.
 fn alone(request: Request, words: &[String], place: usize) -> Result<Request, WordsError>
     ensures { Tells (λ r. r) result (alone request (map string_bytes words.now) place) }
@@ -132,6 +156,9 @@ fn help_in(words: &[String]) -> Result<Request, WordsError>
     if word.as_str() == "list" {
         return alone(Request::ListHelp, rest, 2);
     }
+    if word.as_str() == "help" {
+        return alone(Request::Help(None), rest, 2);
+    }
     match topic_in(word.as_str()) {
         Some(topic) => alone(Request::Help(Some(topic)), rest, 2),
         None => Err(WordsError::BadWord(1)),
@@ -143,11 +170,11 @@ fn front_of(topic: Topic, words: &[String]) -> Result<Request, WordsError>
     requires { 1 + length words.now < 2 ^ 64 }
     ensures { Tells (λ r. r) result (front_of topic (map string_bytes words.now)) }
 {
-    let Some((word, rest)) = words.split_first() else {
+    let Some(word) = words.first() else {
         return Err(WordsError::BadWord(1));
     };
-    if is_help(word.as_str()) {
-        return alone(Request::Help(Some(topic)), rest, 2);
+    if word.as_str() == "-h" || wants_help(words) {
+        return Ok(Request::Help(Some(topic)));
     }
     Ok(Request::Run(topic, options_in(topic, words, 1)?))
 }
@@ -161,8 +188,8 @@ pub fn request_in(words: &[String]) -> Result<Request, WordsError>
     };
     match word.as_str() {
         "help" => help_in(rest),
-        "-h" | "--help" => alone(Request::Help(None), rest, 1),
-        "--version" => alone(Request::Version, rest, 1),
+        name if is_help(name) => alone(Request::Help(None), rest, 1),
+        name if is_version(name) => alone(Request::Version, rest, 1),
         name => match topic_in(name) {
             Some(topic) => front_of(topic, rest),
             None => Err(WordsError::BadWord(0)),

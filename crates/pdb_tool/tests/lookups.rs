@@ -12,12 +12,13 @@ use crate::section_texts::write_sections;
 use crate::source_texts::put_sources;
 use crate::sources_asked::{asks_for, source_of};
 use crate::stop::Stop;
+use crate::stream_texts::write_streams;
 use crate::tests::fakes::is;
 use crate::where_texts::put_where;
 use crate::wildcards::matches;
 use crate::words::WordsError;
 use pdb::{ItemFinder, MemorySource, Stream, StringTable};
-use pdb_resolve::PlaceAddresses;
+use pdb_resolve::{CallNames, GlobalIds, PlaceAddresses};
 use std::alloc::{AllocError, Global};
 use std::test::Fail;
 
@@ -191,7 +192,9 @@ fn symbols_of_a_module_by_name(rt: HostRuntime) -> Result<(), Fail> {
     let types = ItemFinder::empty(rt.alloc());
     let finder = Finder::new(&words, ids, types, PlaceAddresses::new(None));
     let mut out = Vec::new(rt.alloc());
-    put_found_symbols(rt.alloc(), &mut out, &finder, &info)?;
+    let global = GlobalIds::empty(rt.alloc());
+    let names = CallNames::new(&finder.ids, &finder.types, &global);
+    put_found_symbols(rt.alloc(), &mut out, &finder, &names, &info)?;
     let wanted: &[u8] = b"procedure 0002:00000040 - 33 fab\n\
         data 0003:00000010 - - gab\n\
         label 0002:00000048 - - lab\n\
@@ -224,7 +227,9 @@ fn records_of_requested_lines(rt: HostRuntime) -> Result<(), Fail> {
         PlaceAddresses::new(None),
     );
     let mut out = Vec::new(rt.alloc());
-    put_where(rt.alloc(), &mut out, &asking, &info)?;
+    let global = GlobalIds::empty(rt.alloc());
+    let names = CallNames::new(&asking.ids, &asking.types, &global);
+    put_where(rt.alloc(), &mut out, &asking, &names, &info)?;
     let wanted: &[u8] = b"line 0002:00000040 - 8 a.c:7:0 fab\n\
         line 0002:00000048 - 4 Src\\bc.h:9:0 fab\n";
     is(&rt, "out", &out.as_slice(), &wanted);
@@ -266,6 +271,17 @@ fn file(alloc: Global) -> Result<Vec<u8>, AllocError> {
     file_of(alloc, &streams)
 }
 
+/// The streams of that file. The numbers of the two indices in its DBI stream are 0.
+static STREAMS: &[u8] = b"0 0 old directory, index of global symbols, index of publics\n\
+    1 48 information\n\
+    2 - types\n\
+    3 288 debug information\n\
+    4 - ids\n\
+    5 42 global symbols\n\
+    6 48 module 0\n\
+    7 - -\n\
+    8 - -\n";
+
 #[test]
 fn commands_over_a_file(rt: HostRuntime) -> Result<(), Fail> {
     let file = file(rt.alloc())?;
@@ -278,6 +294,9 @@ fn commands_over_a_file(rt: HostRuntime) -> Result<(), Fail> {
     write_sections(rt.alloc(), MemorySource::new(bytes), &mut out)?;
     let wanted: &[u8] = b"none\n";
     is(&rt, "sections", &out.as_slice(), &wanted);
+    let mut out = Vec::new(rt.alloc());
+    write_streams(rt.alloc(), MemorySource::new(bytes), &mut out)?;
+    is(&rt, "streams", &out.as_slice(), &STREAMS);
     let mut out = Vec::new(rt.alloc());
     write_sources(rt.alloc(), MemorySource::new(bytes), &[1, 0, 2], &mut out)?;
     let wanted: &[u8] = b"module 1 a\nnone\nmodule 0 a\nnone\n";

@@ -6,6 +6,7 @@ use crate::scope_texts::put_scopes;
 use crate::symbol_texts::put_symbols_of;
 use crate::tests::fakes::is;
 use pdb::{ItemFinder, Stream, StringTable};
+use pdb_resolve::{CallNames, GlobalIds};
 use std::test::Fail;
 
 /// Two files, four records with columns, and one without.
@@ -134,8 +135,10 @@ fn scopes_as_a_tree(rt: HostRuntime) -> Result<(), Fail> {
     let info = module_of(&rt, bytes.as_slice(), &sizes)?;
     let ids = ItemFinder::new(rt.alloc(), &IDS)?;
     let types = ItemFinder::empty(rt.alloc());
+    let global = GlobalIds::empty(rt.alloc());
+    let names = CallNames::new(&ids, &types, &global);
     let mut out = Vec::new(rt.alloc());
-    put_scopes(rt.alloc(), &mut out, &ids, &types, &info)?;
+    put_scopes(rt.alloc(), &mut out, &names, &info)?;
     let wanted: &[u8] = b"procedure 0001:00000050 33 f\n\
         \x20 block 0001:00000070 18\n\
         \x20   inlined ns::ab\n\
@@ -193,7 +196,9 @@ fn refused_symbols(rt: HostRuntime) -> Result<(), Fail> {
     let ids = ItemFinder::empty(rt.alloc());
     let mut out = Vec::new(rt.alloc());
     put_symbols_of(rt.alloc(), &mut out, &info)?;
-    put_scopes(rt.alloc(), &mut out, &ids, &ids, &info)?;
+    let global = GlobalIds::empty(rt.alloc());
+    let names = CallNames::new(&ids, &ids, &global);
+    put_scopes(rt.alloc(), &mut out, &names, &info)?;
     let wanted: &[u8] = b"error 2 not supported: Unsupported symbol data format\n\
         error 2 not supported: Unsupported symbol data format\n";
     is(&rt, "out.as_slice()", &out.as_slice(), &wanted);

@@ -42,7 +42,7 @@ fn small(alloc: Global) -> Result<Vec<u8>, AllocError> {
 }
 
 // The text is the wanted one, of the file read whole and in parts.
-fn both(rt: &(impl Abort + AllocGlobal), bytes: &Vec<u8>, text: FileText<'_>, wanted: &[u8]) {
+pub fn both(rt: &(impl Abort + AllocGlobal), bytes: &Vec<u8>, text: FileText<'_>, wanted: &[u8]) {
     let alloc = rt.alloc();
     let mut whole = Narrow::new(alloc, 4096);
     let written = write_text(alloc, MemorySource::new(bytes), text, &mut whole);

@@ -1,9 +1,10 @@
-use Rattle.std.proofs.Common.{◌≡◌, ◌+◌, ◌++◌, false, map, drop, string_bytes}
+use Rattle.std.proofs.Common.{◌≡◌, ◌+◌, ◌++◌, map, drop, string_bytes}
 use Rattle.pdb_tool.specs.Operands.{operand_view, operands_of}
+use Rattle.pdb_tool.specs.declared.options.Next.TheVariants.{Word}
 use Rattle.pdb_tool.proofs.operands.operands_in.Given as goal
 
 -- all operands are those so far, and then those of the other words
 abbrev pub invariant-loop-index : goal.invariant-loop-index
 invariant-loop-index l = record {
-  told : operands_of false (map string_bytes l.words) l.place ≡ map operand_view l.all.items ++ operands_of l.is_value (map string_bytes (drop l.index l.words)) (l.place + l.index);
+  told : operands_of Word (map string_bytes l.words) l.place ≡ map operand_view l.all.items ++ operands_of l.next (map string_bytes (drop l.index l.words)) (l.place + l.index);
 }

@@ -16,5 +16,7 @@ returns-clause-kept g c =
       made = (
         c.in_ok-ids.ensures.made ∙ ap items_where c.in_ok-ids_asked.ensures.is,
         c.in_ok-types.ensures.made ∙ (ap items_where c.in_ok-types_asked.ensures.is ∙ ap (λ (file : List ℕ). items_where (if_read (stream_of file 2 None))) same),
+        c.requires.information,
       );
+      information = c.requires.information;
     }

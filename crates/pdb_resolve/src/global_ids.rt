@@ -1,0 +1,225 @@
+//! The ids that the whole file knows, by those of one module, and the names of its inlined calls.
+
+ghost use Rattle.std.specs.Prelude.{◌≡◌, [], ℕ, List, Result, IfOk, IfErr, map, take, option_copied, true};
+ghost use Rattle.std.specs.Option.{option_map};
+ghost use Rattle.pdb.specs.Error.{Error};
+ghost use Rattle.pdb.specs.Answers.{debug_information_in, string_table_in};
+ghost use Rattle.pdb.specs.CrossModule.{ImportedModule};
+ghost use Rattle.pdb.specs.Refusal.{Gives};
+ghost use Rattle.pdb.specs.Qualified.{shown_qualified};
+ghost use Rattle.pdb.specs.Source.{Continues, MayFail};
+ghost use Rattle.pdb_modules.specs.ImportViews.{module_of};
+ghost use Rattle.pdb_resolve.specs.AsIfEmpty.{if_read, OnlyFails};
+ghost use Rattle.pdb_resolve.specs.FileParts.{modules_where};
+ghost use Rattle.pdb_resolve.specs.AcrossModules.{global_id_in, is_imported, names_by};
+ghost use Rattle.pdb_resolve.specs.ImportTables.{exports_for, ids_by, imports_or_none};
+
+use crate::across_modules::{exports_named, name_of};
+use pdb::{
+    CrossModuleExports, CrossModuleImports, DebugInformation, Error, IdIndex, ItemFinder,
+    ModuleInfo, PDB, QualifiedName, Result, Source, StringTable, qualified_name,
+};
+use pdb_modules::Imported;
+use std::alloc::Global;
+use std::marker::Model;
+
+/// How many modules an id can name.
+const MOST_MODULES: usize = 2048;
+
+/// The ids that the whole file knows, by those of one module. A contract sees the
+/// imports of the module, and what each of the modules exports from which they are.
+#[derive(Drop)]
+pub struct GlobalIds<'a> {
+    imports: CrossModuleImports<'a>,
+    // What each of the modules exports from which is imported.
+    exports: Vec<CrossModuleExports>,
+}
+
+impl<'a> Model for GlobalIds<'a> {
+    ghost use Rattle.pdb_resolve.specs.ImportTables.{ImportTable};
+
+    ghost Value = { ImportTable };
+
+    ghost view = { λ g. record { imports = g.imports; exports = g.exports.items } };
+}
+
+/// What was read of imports; none where they have an error. Out of memory is passed on.
+fn or_empty<'a>(
+    alloc: Global,
+    imports: Result<CrossModuleImports<'a>>,
+) -> Result<CrossModuleImports<'a>>
+    ensures imports { (modules : Result (List ImportedModule) Error) → Gives (λ x. x) ⊥ imports.entry modules → IfOk result (λ x. x ≡ imports_or_none modules) }
+    ensures refused { IfErr result (λ e. e ≡ Error.OutOfMemory) }
+{
+    match imports {
+        Ok(imports) => Ok(imports),
+        Err(Error::OutOfMemory) => Err(Error::OutOfMemory),
+        Err(_) => Ok(CrossModuleImports::empty(alloc)),
+    }
+}
+
+/// The string table; none where it has an error.
+fn strings_of<'s, S: Source<'s>>(pdb: &mut PDB<'s, S>) -> Result<Option<StringTable<'s>>>
+    ensures continues { Continues pdb.old pdb.new }
+    ensures is { IfOk result (λ o. o ≡ if_read (string_table_in pdb.old.file)) }
+    ensures refused { IfErr result (λ e. OnlyFails (MayFail pdb.old pdb.new) e) }
+{
+    match pdb.string_table() {
+        Ok(strings) => Ok(Some(strings)),
+        Err(Error::OutOfMemory) => Err(Error::OutOfMemory),
+        Err(Error::IoError) => Err(Error::IoError),
+        Err(_) => Ok(None),
+    }
+}
+
+/// The DBI stream; none where it has an error.
+fn information_of<'s, S: Source<'s>>(pdb: &mut PDB<'s, S>) -> Result<Option<DebugInformation<'s>>>
+    ensures continues { Continues pdb.old pdb.new }
+    ensures is { IfOk result (λ o. o ≡ if_read (debug_information_in pdb.old.file)) }
+    ensures refused { IfErr result (λ e. OnlyFails (MayFail pdb.old pdb.new) e) }
+{
+    match pdb.debug_information() {
+        Ok(information) => Ok(Some(information)),
+        Err(Error::OutOfMemory) => Err(Error::OutOfMemory),
+        Err(Error::IoError) => Err(Error::IoError),
+        Err(_) => Ok(None),
+    }
+}
+
+/// What these modules export, from which is imported.
+fn exports_of<'s, S: Source<'s>>(
+    alloc: Global,
+    pdb: &mut PDB<'s, S>,
+    strings: Option<&StringTable<'_>>,
+    information: Option<&DebugInformation<'_>>,
+    modules: &[Imported<'_>],
+) -> Result<Vec<CrossModuleExports>>
+    ensures continues { Continues pdb.old pdb.new }
+    ensures exports { IfOk result (λ x. x.items ≡ map (exports_for pdb.old.file (option_copied strings.entry) (modules_where (option_copied information.entry))) (map module_of modules.now)) }
+    ensures refused { IfErr result (λ e. OnlyFails (MayFail pdb.old pdb.new) e) }
+{
+    let mut exports = Vec::new(alloc);
+    for imported in modules {
+        let name = name_of(strings, imported.name());
+        exports.push(exports_named(alloc, pdb, information, name)?)?;
+    }
+    Ok(exports)
+}
+
+/// The first modules from which is imported, as many as an id can name.
+fn named_modules<'x, 'a>(imports: &'x CrossModuleImports<'a>) -> &'x [Imported<'a>]
+    ensures { map module_of result.now ≡ take 2048 imports.entry.now }
+{
+    let modules = imports.modules();
+    if modules.len() <= MOST_MODULES {
+        return modules;
+    }
+    let (first, _) = modules.split_at(MOST_MODULES);
+    first
+}
+
+/// What the modules export from which these imports are; where nothing is imported, no stream is read.
+fn exports_for<'s, S: Source<'s>>(
+    alloc: Global,
+    pdb: &mut PDB<'s, S>,
+    imports: &CrossModuleImports<'_>,
+) -> Result<Vec<CrossModuleExports>>
+    ensures continues { Continues pdb.old pdb.new }
+    ensures exports { IfOk result (λ x. x.items ≡ map (exports_for pdb.old.file (if_read (string_table_in pdb.old.file)) (modules_where (if_read (debug_information_in pdb.old.file)))) (take 2048 imports.now)) }
+    ensures refused { IfErr result (λ e. OnlyFails (MayFail pdb.old pdb.new) e) }
+{
+    let modules = named_modules(imports);
+    if modules.is_empty() {
+        return Ok(Vec::new(alloc));
+    }
+    let strings = strings_of(pdb)?;
+    let information = information_of(pdb)?;
+    exports_of(alloc, pdb, strings.as_ref(), information.as_ref(), modules)
+}
+
+impl<'a> GlobalIds<'a> {
+    /// Reads the imports of a module, and the exports of each module from which it imports. A part that has an error
+    /// counts as not present. `OutOfMemory`, and `IoError` where the source failed, are passed on.
+    #[tactic(auto, unfolding(crate::specs::FileParts::modules_listed))]
+    pub fn read<'s, S: Source<'s>>(
+        alloc: Global,
+        pdb: &mut PDB<'s, S>,
+        info: &'a ModuleInfo<'_>,
+    ) -> Result<Self>
+        ensures continues { Continues pdb.old pdb.new }
+        ensures ids { IfOk result (λ g. ids_by g ≡ global_id_in pdb.old.file info.entry.now) }
+        ensures refused { IfErr result (λ e. OnlyFails (MayFail pdb.old pdb.new) e) }
+    {
+        let imports = or_empty(alloc, info.imports(alloc))?;
+        let exports = exports_for(alloc, pdb, &imports)?;
+        Ok(GlobalIds { imports, exports })
+    }
+
+    /// No ids of other modules. It takes no memory.
+    pub fn empty(alloc: Global) -> Self
+        ensures { result ≡ record { imports = []; exports = [] } }
+    {
+        GlobalIds {
+            imports: CrossModuleImports::empty(alloc),
+            exports: Vec::new(alloc),
+        }
+    }
+
+    // The id of another module that is meant.
+    fn find_imported(&self, id: IdIndex) -> Option<IdIndex>
+        requires { is_imported id.0 ≡ true }
+        ensures { option_map (λ i. i.0) result ≡ ids_by self.now id.0 }
+    {
+        let Ok(reference) = self.imports.resolve_import(id) else {
+            return None;
+        };
+        let place = (id.0 / 0x10_0000 % 0x800) as usize;
+        let exports = self.exports.get(place)?;
+        exports.resolve_import(reference.1).unwrap_or(None)
+    }
+
+    /// The id that the whole file knows by an id of the module; none where that is an id of another module, and isn't
+    /// imported and exported. It takes no memory.
+    pub fn find(&self, id: IdIndex) -> Option<IdIndex>
+        ensures { option_map (λ i. i.0) result ≡ ids_by self.now id.0 }
+    {
+        if id.0 < 0x8000_0000 {
+            return Some(id);
+        }
+        self.find_imported(id)
+    }
+}
+
+/// What the names of a module's inlined calls are found by. A contract sees it as a function of the id of a call.
+#[derive(Clone, Copy)]
+pub struct CallNames<'x, 'a> {
+    ids: &'x ItemFinder<'a>,
+    types: &'x ItemFinder<'a>,
+    global: &'x GlobalIds<'x>,
+}
+
+impl<'x, 'a> CallNames<'x, 'a> {
+    ghost use Rattle.pdb_resolve.specs.CallViews.{names_of_calls};
+
+    /// The names by ids, types, and the ids that the whole file knows.
+    pub fn new(
+        ids: &'x ItemFinder<'a>,
+        types: &'x ItemFinder<'a>,
+        global: &'x GlobalIds<'x>,
+    ) -> Self
+        ensures { names_of_calls result ≡ names_by ids.entry.now types.entry.now (ids_by global.entry.now) }
+    {
+        CallNames { ids, types, global }
+    }
+
+    /// The name of the function of a call, by the id that the call has; none where the function or its name isn't there.
+    #[tactic(auto, unfolding(crate::specs::AcrossModules::names_by))]
+    pub fn find(&self, id: IdIndex) -> Option<QualifiedName<'a>>
+        ensures { option_map shown_qualified result ≡ names_of_calls self.now id.0 }
+    {
+        match self.global.find(id) {
+            Some(id) => qualified_name(self.ids, self.types, id),
+            None => None,
+        }
+    }
+}

@@ -1,0 +1,202 @@
+//! Names of inlined calls whose ids are those of another module.
+
+use crate::tests::files::{file_of_streams, numbers, put, put_numbers};
+use crate::tests::modules::SAMPLE;
+use crate::tests::resolver::{DBI, INFORMATION, texts_are};
+use pdb::Result;
+use std::alloc::Global;
+use std::process::Abort;
+
+/// Ids: 0x1000 is the string `ns`, 0x1001 the function `ab` of that scope, and 0x1002 the function `g`.
+static IDS: [u8; 100] = [
+    0x0b, 0xca, 0x31, 0x01, 0x38, 0x00, 0x00, 0x00, 0x00, 0x10, 0x00, 0x00, 0x03, 0x10, 0x00, 0x00,
+    0x2c, 0x00, 0x00, 0x00, 0x00, 0x00, 0x00, 0x00, 0x00, 0x00, 0x00, 0x00, 0x00, 0x00, 0x00, 0x00,
+    0x00, 0x00, 0x00, 0x00, 0x00, 0x00, 0x00, 0x00, 0x00, 0x00, 0x00, 0x00, 0x00, 0x00, 0x00, 0x00,
+    0x00, 0x00, 0x00, 0x00, 0x00, 0x00, 0x00, 0x00, 0x0a, 0x00, 0x05, 0x16, 0x00, 0x00, 0x00, 0x00,
+    0x6e, 0x73, 0x00, 0xf1, 0x0e, 0x00, 0x01, 0x16, 0x00, 0x10, 0x00, 0x00, 0x74, 0x00, 0x00, 0x00,
+    0x61, 0x62, 0x00, 0xf1, 0x0e, 0x00, 0x01, 0x16, 0x00, 0x00, 0x00, 0x00, 0x75, 0x00, 0x00, 0x00,
+    0x67, 0x00, 0xf2, 0xf1,
+];
+
+/// The string table, in which `a.c` stands at 1, `b.obj` at 5, and `c.obj` at 11; what stands at 17 has no end.
+static STRINGS: &[u8] = b"\xfe\xef\xfe\xef\x01\0\0\0\x12\0\0\0\0a.c\0b.obj\0c.obj\0d";
+
+/// A file whose module `a.obj` calls an inlined function by an id, and imports numbers from a module of another name.
+#[derive(Clone, Copy)]
+struct Made {
+    // The id of the call, and that of the inlined function.
+    site: u32,
+    inlinee: u32,
+    // Where the name of the other module stands.
+    name: u32,
+    // What the first module `b.obj` exports, and what the second one does: a local id and its global one.
+    first: (u32, u32),
+    second: (u32, u32),
+}
+
+/// The call has the second number of the first module that is imported from, which the first `b.obj` exports as 0x1001.
+const FOUND: Made = Made {
+    site: 0x8000_0001,
+    inlinee: 0x8000_0001,
+    name: 5,
+    first: (0x8000_0022, 0x1001),
+    second: (0x8000_0022, 0x1002),
+};
+
+/// The stream of `a.obj`: 84 bytes of symbols, and 180 of subsections. It exports the numbers that it imports, as 0x1002.
+fn caller(alloc: Global, made: Made) -> Result<Vec<u8>> {
+    let mut bytes = Vec::new(alloc);
+    bytes.extend_from_slice(SAMPLE.split_at(216).0)?;
+    put_numbers(&mut bytes, 60, &[made.site]);
+    put_numbers(&mut bytes, 204, &[made.inlinee]);
+    let imports = numbers(alloc, &[0xf7, 16, made.name, 2, 0x8000_0011, 0x8000_0022])?;
+    bytes.extend_from_slice(imports.as_slice())?;
+    let exports = numbers(alloc, &[0xf8, 16, 0x8000_0011, 0x1002, 0x8000_0022, 0x1002])?;
+    bytes.extend_from_slice(exports.as_slice())?;
+    Ok(bytes)
+}
+
+/// The stream of a module without symbols, which exports this.
+fn exporter(alloc: Global, export: (u32, u32)) -> Result<Vec<u8>> {
+    numbers(alloc, &[0xf8, 8, export.0, export.1])
+}
+
+/// The record of a module: its stream, the sizes of its symbols and its subsections, and its name.
+fn put_module(
+    alloc: Global,
+    list: &mut Vec<u8>,
+    stream: u32,
+    sizes: (u32, u32),
+    name: &[u8],
+) -> Result<()> {
+    let mut record = vec![in alloc; 0u8; 76]?;
+    // The stream is a number of two bytes; the two before it are zeros.
+    put_numbers(&mut record, 32, &[stream * 0x1_0000, sizes.0, 0, sizes.1]);
+    put(&mut record, 64, name);
+    put(&mut record, 70, name);
+    list.extend_from_slice(record.as_slice())?;
+    Ok(())
+}
+
+/// The DBI stream: `a.obj`, and twice `b.obj`.
+fn debug_stream(alloc: Global) -> Result<Vec<u8>> {
+    let mut bytes = Vec::new(alloc);
+    bytes.extend_from_slice(DBI.split_at(64).0)?;
+    // No global symbols, and three records of modules.
+    put(&mut bytes, 20, &[0xff, 0xff]);
+    put_numbers(&mut bytes, 24, &[3 * 76]);
+    put_module(alloc, &mut bytes, 6, (84, 180), b"a.obj")?;
+    put_module(alloc, &mut bytes, 8, (0, 16), b"b.obj")?;
+    put_module(alloc, &mut bytes, 5, (0, 16), b"b.obj")?;
+    bytes.extend_from_slice(DBI.split_at(140).1)?;
+    Ok(bytes)
+}
+
+fn file_made(alloc: Global, made: Made) -> Result<Vec<u8>> {
+    let debug = debug_stream(alloc)?;
+    let first = exporter(alloc, made.first)?;
+    let second = exporter(alloc, made.second)?;
+    let caller = caller(alloc, made)?;
+    let streams: [&[u8]; 9] = [
+        b"",
+        &INFORMATION,
+        b"",
+        debug.as_slice(),
+        &IDS,
+        second.as_slice(),
+        caller.as_slice(),
+        STRINGS,
+        first.as_slice(),
+    ];
+    file_of_streams(alloc, streams)
+}
+
+/// At 1:108 stands this text.
+fn has_text(rt: &impl Abort, alloc: Global, made: Made, wanted: &str) -> Result<()> {
+    let file = file_made(alloc, made)?;
+    texts_are(rt, alloc, &file, &[Some((1, 0x108))], wanted.as_bytes())
+}
+
+const NAMED: &str = "ns::ab\na.c:10:0\nmain\na.c:2:0\n\n";
+
+const OTHER: &str = "g\na.c:10:0\nmain\na.c:2:0\n\n";
+
+const UNNAMED: &str = "??\na.c:10:0\nmain\na.c:2:0\n\n";
+
+#[test]
+fn a_call_has_the_name_of_the_id_that_is_exported(rt: HostRuntime) -> Result<()> {
+    has_text(&rt, rt.alloc(), FOUND, NAMED)?;
+    // The second module has that name too, and the first exports something else.
+    let made = Made {
+        first: (0x8000_0011, 0x1001),
+        ..FOUND
+    };
+    has_text(&rt, rt.alloc(), made, UNNAMED)?;
+    let made = Made {
+        first: (0x8000_0022, 0x1002),
+        second: (0x8000_0022, 0x1001),
+        ..FOUND
+    };
+    has_text(&rt, rt.alloc(), made, OTHER)?;
+    // An id is what is exported, though it is that of no function.
+    let made = Made {
+        first: (0x8000_0022, 0x1000),
+        ..FOUND
+    };
+    has_text(&rt, rt.alloc(), made, UNNAMED)?;
+    let made = Made {
+        first: (0x8000_0022, 0x8000_0022),
+        ..FOUND
+    };
+    has_text(&rt, rt.alloc(), made, UNNAMED)
+}
+
+/// A call of another id, of which there is an inlined function too.
+fn with_id(id: u32) -> Made {
+    Made {
+        site: id,
+        inlinee: id,
+        ..FOUND
+    }
+}
+
+#[test]
+fn a_call_whose_id_is_not_imported_has_no_name(rt: HostRuntime) -> Result<()> {
+    // The first number, which `b.obj` doesn't export; no third number; no second module.
+    has_text(&rt, rt.alloc(), with_id(0x8000_0000), UNNAMED)?;
+    has_text(&rt, rt.alloc(), with_id(0x8000_0002), UNNAMED)?;
+    has_text(&rt, rt.alloc(), with_id(0x8010_0001), UNNAMED)?;
+    has_text(&rt, rt.alloc(), with_id(0xffff_ffff), UNNAMED)
+}
+
+#[test]
+fn a_call_of_a_module_that_is_not_listed_has_no_name(rt: HostRuntime) -> Result<()> {
+    // The other module would be `c.obj`, `a.c`, one without a name, or one whose name can't be read.
+    for name in [11, 1, 0, 17, 18, 0xffff_ffff] {
+        has_text(&rt, rt.alloc(), Made { name, ..FOUND }, UNNAMED)?;
+    }
+    // A part of the name.
+    has_text(&rt, rt.alloc(), Made { name: 6, ..FOUND }, UNNAMED)
+}
+
+#[test]
+fn an_id_without_the_top_bit_is_that_of_the_file(rt: HostRuntime) -> Result<()> {
+    has_text(&rt, rt.alloc(), with_id(0x1001), NAMED)?;
+    has_text(&rt, rt.alloc(), with_id(0x1002), OTHER)?;
+    has_text(&rt, rt.alloc(), with_id(0x4000_0001), UNNAMED)
+}
+
+#[test]
+fn an_inlined_function_has_the_id_of_the_call(rt: HostRuntime) -> Result<()> {
+    // The id that is meant isn't the one by which the line is found.
+    let made = Made {
+        inlinee: 0x1001,
+        ..FOUND
+    };
+    has_text(&rt, rt.alloc(), made, "main\na.c:2:0\n\n")?;
+    let made = Made {
+        inlinee: 0x8000_0022,
+        ..FOUND
+    };
+    has_text(&rt, rt.alloc(), made, "main\na.c:2:0\n\n")
+}

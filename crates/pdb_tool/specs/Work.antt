@@ -1,0 +1,131 @@
+-- What the program has to do, by its arguments alone.
+use Rattle.std.specs.Prelude.{ℕ, List, [], ◌∷◌, drop, length, map, Option, Some, None, Result, Ok, Err, if◌then◌else◌}
+use Rattle.pdb_text.specs.Numbers.{number_in}
+use Rattle.pdb_tool.specs.Operands.{WordAt, all_in, first_empty, operand_view, operands_of}
+use Rattle.pdb_tool.specs.Options.{with_base_of}
+use Rattle.pdb_tool.specs.Questions.{question_of}
+use Rattle.pdb_tool.specs.SourcesAsked.{SourceOf, source_of}
+use Rattle.pdb_tool.specs.SourceViews.{source_view}
+use Rattle.pdb_tool.specs.Words.{request_in}
+use Rattle.pdb_tool.specs.declared.options.Next.TheVariants.{Word}
+use Rattle.pdb_tool.specs.declared.options.Options.{Options}
+use Rattle.pdb_tool.specs.declared.options.Wanted.{Wanted}
+use Rattle.pdb_tool.specs.declared.options.Wanted.TheVariants.{Key as wanted_key, Image as wanted_image}
+use Rattle.pdb_tool.specs.declared.words.Topic.{Topic}
+use Rattle.pdb_tool.specs.declared.words.Topic.TheVariants as topic
+use Rattle.pdb_tool.specs.declared.words.Request.{Request}
+use Rattle.pdb_tool.specs.declared.words.Request.TheVariants as request
+use Rattle.pdb_tool.specs.declared.work.Work.{Work}
+use Rattle.pdb_tool.specs.declared.work.Work.TheVariants as work
+
+-- the work, over the file of an argument
+pub data Task : Type 0 where
+  help : Option Topic → Task
+  list_help : Task
+  version : Task
+  keys : WordAt → List WordAt → Task
+  checks : WordAt → List WordAt → Task
+  resolve : Options → WordAt → List WordAt → Task
+  lines : WordAt → List ℕ → Task
+  scopes : WordAt → List ℕ → Task
+  symbols : WordAt → List ℕ → Task
+  all_symbols : WordAt → Task
+  sources : WordAt → List ℕ → Task
+  finds : WordAt → List WordAt → Task
+  wheres : WordAt → List SourceOf → Task
+  modules : WordAt → Task
+  sections : WordAt → Task
+  streams : WordAt → Task
+
+abbrev pub task_of : Work → Task
+task_of (work.Help t) = help t
+task_of work.ListHelp = list_help
+task_of work.Version = version
+task_of (work.Keys f more) = keys (operand_view f) (map operand_view more.items)
+task_of (work.Checks f more) = checks (operand_view f) (map operand_view more.items)
+task_of (work.Resolve options f rest) = resolve options (operand_view f) (map operand_view rest.items)
+task_of (work.Lines f ks) = lines (operand_view f) ks.items
+task_of (work.Scopes f ks) = scopes (operand_view f) ks.items
+task_of (work.Symbols f ks) = symbols (operand_view f) ks.items
+task_of (work.AllSymbols f) = all_symbols (operand_view f)
+task_of (work.Sources f ks) = sources (operand_view f) ks.items
+task_of (work.Find f names) = finds (operand_view f) (map operand_view names.items)
+task_of (work.Where f asked) = wheres (operand_view f) (map source_view asked.items)
+task_of (work.Modules f) = modules (operand_view f)
+task_of (work.Sections f) = sections (operand_view f)
+task_of (work.Streams f) = streams (operand_view f)
+
+-- a task with what operands are, or the place of the first that is none
+abbrev pub given : {A : Type 0} → (List A → Task) → Result (List A) ℕ → Result Task ℕ
+given make (Ok xs) = Ok (make xs)
+given make (Err p) = Err p
+
+-- a task behind whose file no operand stands
+abbrev pub ending : Task → List WordAt → Result Task ℕ
+ending t [] = Ok t
+ending t (w ∷ ws) = Err w.place
+
+-- the options by which addresses are judged: an image that is still to be read has a load address
+abbrev pub with_image : Options → Option Wanted → Options
+with_image o None = o
+with_image o (Some (wanted_key p)) = o
+with_image o (Some (wanted_image p)) = with_base_of o 0
+
+abbrev pub judging : Options → Options
+judging o = with_image o o.wanted
+
+-- a task behind whose addresses all is well
+abbrev pub judged : {A : Type 0} → Task → Result (List A) ℕ → Result Task ℕ
+judged t (Ok xs) = Ok t
+judged t (Err p) = Err p
+
+-- names, of which none may be empty; n is where one is missing
+abbrev pub unless_empty : Task → Option ℕ → Result Task ℕ
+unless_empty t None = Ok t
+unless_empty t (Some p) = Err p
+
+abbrev pub named : WordAt → List WordAt → ℕ → Result Task ℕ
+named f [] n = Err n
+named f (w ∷ ws) n = unless_empty (finds f (w ∷ ws)) (first_empty (w ∷ ws))
+
+abbrev pub sourced : WordAt → List WordAt → ℕ → Result Task ℕ
+sourced f [] n = Err n
+sourced f (w ∷ ws) n = given (wheres f) (all_in source_of (w ∷ ws))
+
+-- a command of a file and further operands; n is the number of words
+abbrev pub over_file : Topic → Options → WordAt → List WordAt → ℕ → Result Task ℕ
+over_file topic.Resolve o f rest n = judged (resolve o f rest) (all_in (question_of (judging o)) rest)
+over_file topic.Lines o f rest n = given (lines f) (all_in number_in rest)
+over_file topic.Scopes o f rest n = given (scopes f) (all_in number_in rest)
+over_file topic.Symbols o f rest n = if o.all then ending (all_symbols f) rest else given (symbols f) (all_in number_in rest)
+over_file topic.Sources o f rest n = given (sources f) (all_in number_in rest)
+over_file topic.Key o f rest n = Ok (keys f rest)
+over_file topic.Check o f rest n = Ok (checks f rest)
+over_file topic.Find o f rest n = named f rest n
+over_file topic.Where o f rest n = sourced f rest n
+over_file topic.Modules o f rest n = ending (modules f) rest
+over_file topic.Sections o f rest n = ending (sections f) rest
+over_file topic.Streams o f rest n = ending (streams f) rest
+
+-- the first operand, and those behind it
+abbrev pub split_first : List WordAt → Option (WordAt × List WordAt)
+split_first [] = None
+split_first (w ∷ ws) = Some (w, ws)
+
+abbrev pub over_split : Topic → Options → Option (WordAt × List WordAt) → ℕ → Result Task ℕ
+over_split t o None n = Err n
+over_split t o (Some x) n = over_file t o x.0 x.1 n
+
+abbrev pub over_operands : Topic → Options → List WordAt → ℕ → Result Task ℕ
+over_operands t o operands n = over_split t o (split_first operands) n
+
+abbrev pub task_for : List (List ℕ) → Result Request ℕ → Result Task ℕ
+task_for words (Err p) = Err p
+task_for words (Ok (request.Help t)) = Ok (help t)
+task_for words (Ok request.ListHelp) = Ok list_help
+task_for words (Ok request.Version) = Ok version
+task_for words (Ok (request.Run t o)) = over_operands t o (operands_of Word (drop 1 words) 1) (length words)
+
+-- the work that arguments ask for, or the place of the one that is wrong: their number where one is missing
+unfoldable pub work_of : List (List ℕ) → Result Task ℕ
+work_of words = task_for words (request_in words)

@@ -1,0 +1,56 @@
+//! The arguments with which the program was called.
+
+use std::alloc::AllocError;
+use std::env::FillError;
+use std::rt::Env;
+
+/// The program's arguments, without its own name.
+#[derive(Drop)]
+pub struct Arguments {
+    /// Each as text. One that isn't UTF-8 has U+FFFD for each maximal piece that is no character.
+    pub words: Vec<String>,
+    /// The indices of those that aren't UTF-8, counted from 0.
+    pub not_text: Vec<usize>,
+}
+
+/// How many bytes are asked for at first.
+const FIRST_SIZE: usize = 4096;
+
+/// How often the buffer is doubled at most: the system's longest argument has 128 KB.
+const MOST_TRIES: usize = 32;
+
+/// The bytes of an argument, `index` counted with the program's name; none behind the last one.
+fn bytes_of(rt: &(impl Env + AllocGlobal), index: usize) -> Result<Option<Vec<u8>>, AllocError> {
+    let mut buffer: Vec<u8> = Vec::new(rt.alloc());
+    buffer.resize(FIRST_SIZE, 0)?;
+    for _ in 0..MOST_TRIES {
+        match rt.arg(index, &mut buffer) {
+            Ok(count) => {
+                buffer.truncate(count);
+                return Ok(Some(buffer));
+            }
+            Err(FillError::NotPresent) => return Ok(None),
+            Err(FillError::TooLong) => {
+                let size = buffer.len().saturating_mul(2);
+                buffer.resize(size, 0)?;
+            }
+        }
+    }
+    Err(AllocError)
+}
+
+/// The program's arguments. One that isn't UTF-8 spoils no other.
+pub fn arguments_of(rt: &(impl Env + AllocGlobal)) -> Result<Arguments, AllocError> {
+    let mut words = Vec::new(rt.alloc());
+    let mut not_text = Vec::new(rt.alloc());
+    for index in 0..usize::MAX {
+        let Some(bytes) = bytes_of(rt, index.saturating_add(1))? else {
+            break;
+        };
+        if std::str::from_utf8(&bytes).is_err() {
+            not_text.push(index)?;
+        }
+        words.push(String::from_utf8_lossy(rt.alloc(), &bytes)?)?;
+    }
+    Ok(Arguments { words, not_text })
+}

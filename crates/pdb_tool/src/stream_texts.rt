@@ -1,0 +1,312 @@
+//! The text of `streams`.
+
+ghost use Rattle.std.specs.Prelude.{◌≡◌, ◌≢◌, ◌≤◌, ◌<◌, ◌+◌, ◌++◌, ◌⊎◌, ℕ, List, Some, None, option_copied, true, codes, drop, flat_map, length, map, take, OnOk, OnErr, Ok, Err, IfOk, IfErr, IsErrOf};
+ghost use Rattle.std.specs.List.{filter, prefix_len, range_with_len};
+ghost use Rattle.std.specs.Io.KnownBytes.{Appends};
+ghost use Rattle.std.specs.Option.{option_map};
+ghost use Rattle.pdb.specs.Container.{opens, stream_of, stream_size};
+ghost use Rattle.pdb.specs.Answers.{information_in};
+ghost use Rattle.pdb.specs.DbiViews.{information as information_said};
+ghost use Rattle.pdb_resolve.specs.AsIfEmpty.{if_read};
+ghost use Rattle.pdb_tool.specs.Checks.{names_in};
+ghost use Rattle.pdb.specs.Error.{Error};
+ghost use Rattle.pdb.specs.Source.{Continues};
+ghost use Rattle.pdb_text.specs.Written.{WroteFront};
+ghost use Rattle.pdb_tool.specs.StreamOrder.{is_of, rises};
+ghost use Rattle.pdb_tool.specs.StreamRoles.{hash_roles, known_text, role_view, stream_number};
+ghost use Rattle.pdb_tool.specs.StreamTexts.{debug_roles, information_roles, line_of, read_or_none, role_line, roles_by, roles_of, size_text, stream_line, streams_command, what_list};
+ghost use Rattle.pdb_tool.specs.declared.stop.Stop.{Stop};
+
+use crate::module_texts::put_refused;
+use crate::opening::opened;
+use crate::stop::Stop;
+use crate::stream_roles::{
+    Known, Role, put_extra, put_fixed, put_hashes, put_header, put_modules, put_names, put_what,
+    sort,
+};
+use pdb::{
+    DBIExtraStreams, DebugInformation, Error, PDB, PDBInformation, Source, StreamIndex, StreamNames,
+};
+use pdb_text::{put_decimal, put_line_end, write_out};
+use std::alloc::{AllocError, Global};
+use std::io::Write;
+
+/// The size of a stream in decimal digits, or `-` of one that is absent.
+fn put_size(out: &mut Vec<u8>, size: Option<u32>) -> Result<(), AllocError>
+    ensures { OnOk result (out.new.items ≡ out.old.items ++ size_text size) }
+{
+    match size {
+        Some(size) => put_decimal(out, u64::from(size)),
+        None => out.extend_from_slice(b"-"),
+    }
+}
+
+/// All that a stream is, behind the first.
+fn put_more(out: &mut Vec<u8>, roles: &[Role<'_>]) -> Result<(), AllocError>
+    ensures { OnOk result (out.new.items ≡ out.old.items ++ flat_map (λ x. codes ", " ++ x.what) (map role_view roles.now)) }
+{
+    for role in roles {
+        out.extend_from_slice(b", ")?;
+        put_what(out, role.what)?;
+    }
+    Ok(())
+}
+
+/// All that a stream is, or `-`.
+fn put_roles(out: &mut Vec<u8>, roles: &[Role<'_>]) -> Result<(), AllocError>
+    ensures { OnOk result (out.new.items ≡ out.old.items ++ what_list (map role_view roles.now)) }
+{
+    match roles.split_first() {
+        Some((first, more)) => {
+            put_what(out, first.what)?;
+            put_more(out, more)
+        }
+        None => out.extend_from_slice(b"-"),
+    }
+}
+
+/// The line of a stream.
+#[tactic(auto, unfolding(crate::specs::StreamTexts::line_of))]
+fn put_line(
+    out: &mut Vec<u8>,
+    number: u32,
+    size: Option<u32>,
+    roles: &[Role<'_>],
+) -> Result<(), AllocError>
+    ensures { OnOk result (out.new.items ≡ out.old.items ++ line_of number size (map role_view roles.now)) }
+{
+    put_decimal(out, u64::from(number))?;
+    out.push(b' ')?;
+    put_size(out, size)?;
+    out.push(b' ')?;
+    put_roles(out, roles)?;
+    put_line_end(out)
+}
+
+/// How many of the first roles are those of a stream.
+fn count_of(roles: &[Role<'_>], number: u32) -> usize
+    ensures count { result ≡ prefix_len (is_of stream_number number) roles.now }
+    ensures most { result ≤ length roles.now }
+{
+    let mut count = 0;
+    for role in roles {
+        if role.stream != number {
+            return count;
+        }
+        count += 1;
+    }
+    count
+}
+
+/// The line of a stream of a file.
+#[tactic(auto, using(crate::proofs::Refused::refused_is))]
+fn put_stream<'s, S: Source<'s>>(
+    out: &mut Vec<u8>,
+    pdb: &PDB<'s, S>,
+    number: u32,
+    roles: &[Role<'_>],
+) -> Result<(), AllocError>
+    ensures { OnOk result (out.new.items ≡ out.old.items ++ line_of number (if_read (stream_size pdb.now.file number)) (map role_view roles.now)) }
+{
+    match pdb.stream_size(number) {
+        Ok(size) => put_line(out, number, Some(size), roles),
+        Err(_) => put_line(out, number, None, roles),
+    }
+}
+
+/// The first of some sorted roles that are those of a stream, from a place on.
+fn here<'r, 'a>(roles: &'r [Role<'a>], at: usize, number: u32) -> &'r [Role<'a>]
+    requires { at ≤ length roles.now }
+    ensures here { result.now ≡ take (prefix_len (is_of stream_number number) (drop at roles.now)) (drop at roles.now) }
+    ensures count { length result.now ≡ prefix_len (is_of stream_number number) (drop at roles.now) }
+    ensures within { at + length result.now ≤ length roles.now }
+{
+    let rest = &roles[at..];
+    &rest[..count_of(rest, number)]
+}
+
+/// The lines of so many streams, by roles in the order of their streams.
+fn put_lines<'s, S: Source<'s>>(
+    out: &mut Vec<u8>,
+    pdb: &PDB<'s, S>,
+    roles: &[Role<'_>],
+    count: u32,
+) -> Result<(), AllocError>
+    requires { rises stream_number 0 roles.now ≡ true }
+    ensures { OnOk result (out.new.items ≡ out.old.items ++ flat_map (role_line pdb.now.file roles.now) (range_with_len 0 count)) }
+{
+    let mut at = 0;
+    for number in 0..count {
+        let here = here(roles, at, number);
+        put_stream(out, pdb, number, here)?;
+        at += here.len();
+    }
+    Ok(())
+}
+
+/// An answer, if it isn't refused; out of memory, and a source that failed, are passed on.
+fn if_read<T: Drop>(answer: pdb::Result<T>) -> Result<Option<T>, Stop>
+    ensures some { IfOk answer (λ x. result ≡ Ok (Some x)) }
+    ensures none { IfErr answer (λ e. IfOk result (λ o. (o ≡ None) × (e ≢ Error.OutOfMemory) × (e ≢ Error.IoError))) }
+    ensures unwritten { IfErr result (λ e. (e ≡ Stop.Memory) ⊎ (e ≡ Stop.Read)) }
+{
+    match answer {
+        Ok(it) => Ok(Some(it)),
+        Err(Error::OutOfMemory) => Err(Stop::Memory),
+        Err(Error::IoError) => Err(Stop::Read),
+        Err(_) => Ok(None),
+    }
+}
+
+/// What a DBI stream says that streams are.
+#[tactic(auto, unfolding(crate::specs::StreamTexts::information_roles))]
+fn put_information(
+    roles: &mut Vec<Role<'_>>,
+    information: &DebugInformation<'_>,
+) -> Result<(), AllocError>
+    ensures { OnOk result (map role_view roles.new.items ≡ map role_view roles.old.items ++ information_roles information.now) }
+{
+    put_header(roles, information.header())?;
+    if let Ok(extra) = DBIExtraStreams::new(information) {
+        put_extra(roles, &extra)?;
+    }
+    match information.modules() {
+        Ok(modules) => put_modules(roles, modules),
+        Err(_) => Ok(()),
+    }
+}
+
+/// What the DBI stream of a file says that streams are.
+fn put_debug<'s, S: Source<'s>>(pdb: &mut PDB<'s, S>, roles: &mut Vec<Role<'_>>) -> Result<(), Stop>
+    ensures continues { Continues pdb.old pdb.new }
+    ensures roles { OnOk result (map role_view roles.new.items ≡ map role_view roles.old.items ++ debug_roles pdb.old.file) }
+    ensures unwritten { IfErr result (λ e. (e ≡ Stop.Memory) ⊎ (e ≡ Stop.Read)) }
+{
+    match if_read(pdb.debug_information())? {
+        Some(information) => Ok(put_information(roles, &information)?),
+        None => Ok(()),
+    }
+}
+
+/// What the header of a stream of types or ids says that streams are.
+#[tactic(auto, unfolding(pdb::specs::Answers::raw_stream_in))]
+fn put_items<'s, S: Source<'s>>(
+    pdb: &mut PDB<'s, S>,
+    roles: &mut Vec<Role<'_>>,
+    number: u16,
+    hashes: Known,
+    further: Known,
+) -> Result<(), Stop>
+    requires { number < 5 }
+    ensures continues { Continues pdb.old pdb.new }
+    ensures roles { OnOk result (map role_view roles.new.items ≡ map role_view roles.old.items ++ read_or_none (stream_of pdb.old.file number None) (hash_roles (known_text hashes) (known_text further))) }
+    ensures unwritten { IfErr result (λ e. (e ≡ Stop.Memory) ⊎ (e ≡ Stop.Read)) }
+{
+    match if_read(pdb.raw_stream(StreamIndex(number)))? {
+        Some(Some(stream)) => Ok(put_hashes(roles, stream.as_slice(), hashes, further)?),
+        Some(None) | None => Ok(()),
+    }
+}
+
+/// What all streams are, by the names of streams and the rest of a file.
+#[tactic(auto, unfolding(crate::specs::StreamTexts::roles_by))]
+fn put_all<'a, 's, S: Source<'s>>(
+    pdb: &mut PDB<'s, S>,
+    names: Option<&StreamNames<'a>>,
+    roles: &mut Vec<Role<'a>>,
+) -> Result<(), Stop>
+    ensures continues { Continues pdb.old pdb.new }
+    ensures roles { OnOk result (map role_view roles.new.items ≡ map role_view roles.old.items ++ roles_by pdb.old.file (option_copied names.entry)) }
+    ensures unwritten { IfErr result (λ e. (e ≡ Stop.Memory) ⊎ (e ≡ Stop.Read)) }
+{
+    put_fixed(roles)?;
+    if let Some(names) = names {
+        put_names(roles, names)?;
+    }
+    put_debug(pdb, roles)?;
+    put_items(pdb, roles, 2, Known::TypeHashes, Known::FurtherTypeHashes)?;
+    put_items(pdb, roles, 4, Known::IdHashes, Known::FurtherIdHashes)
+}
+
+/// The names of streams, if they can be read.
+#[tactic(auto, using(crate::proofs::StreamNames::names_by, crate::proofs::StreamNames::names_none))]
+fn names_of<'a>(
+    alloc: Global,
+    information: Option<&'a PDBInformation<'_>>,
+) -> Result<Option<StreamNames<'a>>, Stop>
+    ensures names { (file : List ℕ) → option_map information_said (option_copied information.entry) ≡ if_read (information_in file) → IfOk result (λ o. o ≡ if_read (names_in file)) }
+    ensures unwritten { IfErr result (λ e. (e ≡ Stop.Memory) ⊎ (e ≡ Stop.Read)) }
+{
+    match information {
+        Some(information) => if_read(information.stream_names(alloc)),
+        None => Ok(None),
+    }
+}
+
+/// The lines of all streams, by the names of streams.
+#[tactic(auto, using(crate::proofs::StreamFilters::lines_sorted, crate::proofs::StreamFilters::rises_sorted_roles))]
+fn put_streams<'a, 's, S: Source<'s>>(
+    alloc: Global,
+    pdb: &mut PDB<'s, S>,
+    names: Option<&StreamNames<'a>>,
+    count: u32,
+    out: &mut Vec<u8>,
+) -> Result<(), Stop>
+    ensures text { OnOk result (out.new.items ≡ out.old.items ++ flat_map (stream_line pdb.old.file (roles_by pdb.old.file (option_copied names.entry))) (range_with_len 0 count)) }
+    ensures unwritten { IfErr result (λ e. (e ≡ Stop.Memory) ⊎ (e ≡ Stop.Read)) }
+{
+    let mut roles = Vec::new(alloc);
+    put_all(pdb, names, &mut roles)?;
+    sort(&mut roles)?;
+    Ok(put_lines(out, pdb, &roles, count)?)
+}
+
+/// The lines of so many streams of a file.
+fn put_counted<'s, S: Source<'s>>(
+    alloc: Global,
+    pdb: &mut PDB<'s, S>,
+    count: u32,
+    out: &mut Vec<u8>,
+) -> Result<(), Stop>
+    ensures text { OnOk result (out.new.items ≡ out.old.items ++ flat_map (stream_line pdb.old.file (roles_of pdb.old.file)) (range_with_len 0 count)) }
+    ensures unwritten { IfErr result (λ e. (e ≡ Stop.Memory) ⊎ (e ≡ Stop.Read)) }
+{
+    let information = if_read(pdb.pdb_information())?;
+    let names = names_of(alloc, information.as_ref())?;
+    put_streams(alloc, pdb, names.as_ref(), count, out)
+}
+
+/// The lines of all streams of a file, or the line of the error of its directory.
+#[tactic(auto, unfolding(crate::specs::StreamTexts::streams_command))]
+fn put_command<'s, S: Source<'s>>(
+    alloc: Global,
+    pdb: &mut PDB<'s, S>,
+    out: &mut Vec<u8>,
+) -> Result<(), Stop>
+    ensures text { OnOk result (out.new.items ≡ out.old.items ++ streams_command pdb.old.file) }
+    ensures unwritten { IfErr result (λ e. (e ≡ Stop.Memory) ⊎ (e ≡ Stop.Read)) }
+{
+    match pdb.stream_count() {
+        Ok(count) => put_counted(alloc, pdb, count, out),
+        Err(e) => put_refused(out, e),
+    }
+}
+
+/// Writes the size of each stream of a source's file, and what it is.
+#[tactic(auto, using(pdb_text::proofs::Written::any_err, crate::proofs::AnsweredLines::front_none))]
+pub fn write_streams<'s, S: Source<'s>, W: Write>(
+    alloc: Global,
+    source: S,
+    out: &mut W,
+) -> Result<(), Stop>
+    ensures opened { OnOk result (opens (S.state source).file ≡ Ok tt) }
+    ensures ok { OnOk result (Appends (W.contents out.old) (W.contents out.new) (streams_command (S.state source).file)) }
+    ensures refused { (S.state source).steady ≡ true → (e : Error) → IsErrOf result (Stop.Open e) → opens (S.state source).file ≡ Err e }
+    ensures front { OnErr result (WroteFront (W.contents out.old) (W.contents out.new) (streams_command (S.state source).file)) }
+{
+    let mut pdb = opened(alloc, source)?;
+    let mut text = Vec::new(alloc);
+    put_command(alloc, &mut pdb, &mut text)?;
+    write_out(out, &text)?;
+    Ok(())
+}

@@ -1,0 +1,213 @@
+//! What the program has to do, by its arguments alone.
+
+ghost use Rattle.std.specs.Prelude.{◌≡◌, ◌+◌, ◌<◌, ◌^◌, drop, length, map, string_bytes};
+ghost use Rattle.std.specs.Option.{option_map};
+ghost use Rattle.pdb_tool.specs.Operands.{operand_view};
+ghost use Rattle.pdb_tool.specs.Work.{ending, judging, named, over_file, over_operands, sourced, split_first, task_of, work_of};
+ghost use Rattle.pdb_tool.specs.Words.{Tells};
+ghost use Rattle.pdb_tool.specs.declared.words.Topic.{Topic};
+
+use crate::operands::{Operand, all_numbers, all_questions, all_sources, first_empty, operands_in};
+use crate::options::{Options, Wanted};
+use crate::sources_asked::SourceAsked;
+use crate::words::{Request, Topic, WordsError, request_in};
+use std::alloc::Global;
+
+/// What the program has to do. A file is the operand that names it.
+#[derive(Drop)]
+pub enum Work<'w> {
+    /// Print what the program can do, or a command.
+    Help(Option<Topic>),
+    /// Print what `pdb_list` can do.
+    ListHelp,
+    /// Print the program's version.
+    Version,
+    /// Print the keys of a file and of others.
+    Keys(Operand<'w>, Vec<Operand<'w>>),
+    /// Print what is damaged in a file and in others.
+    Checks(Operand<'w>, Vec<Operand<'w>>),
+    /// Print the code at the addresses that operands are, or else the lines of standard input.
+    Resolve(Options, Operand<'w>, Vec<Operand<'w>>),
+    /// Print the line records of the modules of these numbers.
+    Lines(Operand<'w>, Vec<u32>),
+    /// Print the scopes of the modules of these numbers.
+    Scopes(Operand<'w>, Vec<u32>),
+    /// Print the symbols of the modules of these numbers.
+    Symbols(Operand<'w>, Vec<u32>),
+    /// Print the symbols of all modules.
+    AllSymbols(Operand<'w>),
+    /// Print the source files of the modules of these numbers.
+    Sources(Operand<'w>, Vec<u32>),
+    /// Print where the functions and data stand whose names match one of the operands.
+    Find(Operand<'w>, Vec<Operand<'w>>),
+    /// Print which addresses lines of source files have.
+    Where(Operand<'w>, Vec<SourceAsked<'w>>),
+    /// Print the list of modules.
+    Modules(Operand<'w>),
+    /// Print the section headers.
+    Sections(Operand<'w>),
+    /// Print the streams.
+    Streams(Operand<'w>),
+}
+
+/// The options by which addresses are judged before an image is read: any load address will do.
+fn judging(options: Options) -> Options
+    ensures { result ≡ judging options }
+{
+    match options.wanted {
+        Some(Wanted::Image(_)) => options.with_base_of(0),
+        Some(Wanted::Key(_)) | None => options,
+    }
+}
+
+/// `resolve`, where each operand behind the file is an address.
+fn resolve_work<'w>(
+    alloc: Global,
+    options: Options,
+    file: Operand<'w>,
+    rest: Vec<Operand<'w>>,
+) -> Result<Work<'w>, WordsError>
+    ensures { Tells task_of result (over_file Topic.Resolve options (operand_view file.entry) (map operand_view rest.entry.items) 0) }
+{
+    all_questions(alloc, judging(options), &rest)?;
+    Ok(Work::Resolve(options, file, rest))
+}
+
+/// `find`, where no name is empty; `count` is the number of arguments.
+fn find_work<'w>(
+    file: Operand<'w>,
+    rest: Vec<Operand<'w>>,
+    count: usize,
+) -> Result<Work<'w>, WordsError>
+    ensures { Tells task_of result (named (operand_view file.entry) (map operand_view rest.entry.items) count) }
+{
+    if rest.is_empty() {
+        return Err(WordsError::BadWord(count));
+    }
+    match first_empty(&rest) {
+        Some(place) => Err(WordsError::BadWord(place)),
+        None => Ok(Work::Find(file, rest)),
+    }
+}
+
+/// `where`; `count` is the number of arguments.
+fn where_work<'w>(
+    alloc: Global,
+    file: Operand<'w>,
+    rest: &[Operand<'w>],
+    count: usize,
+) -> Result<Work<'w>, WordsError>
+    ensures { Tells task_of result (sourced (operand_view file.entry) (map operand_view rest.now) count) }
+{
+    if rest.is_empty() {
+        return Err(WordsError::BadWord(count));
+    }
+    Ok(Work::Where(file, all_sources(alloc, rest)?))
+}
+
+/// A command, behind whose file no operand stands.
+fn ending<'w>(work: Work<'w>, rest: &[Operand<'w>]) -> Result<Work<'w>, WordsError>
+    ensures { Tells task_of result (ending (task_of work.entry) (map operand_view rest.now)) }
+{
+    match rest.first() {
+        Some(operand) => Err(WordsError::BadWord(operand.place)),
+        None => Ok(work),
+    }
+}
+
+/// `symbols`: of all modules, or of those of these numbers.
+fn symbols_work<'w>(
+    alloc: Global,
+    options: Options,
+    file: Operand<'w>,
+    rest: &[Operand<'w>],
+) -> Result<Work<'w>, WordsError>
+    ensures { Tells task_of result (over_file Topic.Symbols options (operand_view file.entry) (map operand_view rest.now) 0) }
+{
+    if options.all {
+        return ending(Work::AllSymbols(file), rest);
+    }
+    Ok(Work::Symbols(file, all_numbers(alloc, rest)?))
+}
+
+/// The first operand, and those behind it.
+fn split_first<'w>(operands: Vec<Operand<'w>>) -> Option<(Operand<'w>, Vec<Operand<'w>>)>
+    ensures { option_map (λ x. (operand_view x.0, map operand_view x.1.items)) result ≡ split_first (map operand_view operands.entry.items) }
+{
+    let mut rest = operands;
+    if rest.is_empty() {
+        return None;
+    }
+    let first = rest.remove(0);
+    Some((first, rest))
+}
+
+/// A command that reads one file, with the operands behind it; `count` is the number of arguments.
+fn over_file<'w>(
+    alloc: Global,
+    topic: Topic,
+    options: Options,
+    file: Operand<'w>,
+    rest: Vec<Operand<'w>>,
+    count: usize,
+) -> Result<Work<'w>, WordsError>
+    ensures { Tells task_of result (over_file topic options (operand_view file.entry) (map operand_view rest.entry.items) count) }
+{
+    match topic {
+        Topic::Resolve => resolve_work(alloc, options, file, rest),
+        Topic::Lines => Ok(Work::Lines(file, all_numbers(alloc, &rest)?)),
+        Topic::Scopes => Ok(Work::Scopes(file, all_numbers(alloc, &rest)?)),
+        Topic::Symbols => symbols_work(alloc, options, file, &rest),
+        Topic::Sources => Ok(Work::Sources(file, all_numbers(alloc, &rest)?)),
+        Topic::Key => Ok(Work::Keys(file, rest)),
+        Topic::Check => Ok(Work::Checks(file, rest)),
+        Topic::Find => find_work(file, rest, count),
+        Topic::Where => where_work(alloc, file, &rest, count),
+        Topic::Modules => ending(Work::Modules(file), &rest),
+        Topic::Sections => ending(Work::Sections(file), &rest),
+        Topic::Streams => ending(Work::Streams(file), &rest),
+    }
+}
+
+/// A command with these options, over all its operands; `count` is the number of arguments.
+fn over_operands<'w>(
+    alloc: Global,
+    topic: Topic,
+    options: Options,
+    operands: Vec<Operand<'w>>,
+    count: usize,
+) -> Result<Work<'w>, WordsError>
+    ensures { Tells task_of result (over_operands topic options (map operand_view operands.entry.items) count) }
+{
+    match split_first(operands) {
+        Some((file, rest)) => over_file(alloc, topic, options, file, rest, count),
+        None => Err(WordsError::BadWord(count)),
+    }
+}
+
+/// The arguments behind the command.
+fn words_behind(words: &[String]) -> &[String]
+    ensures small { 1 + length result.now < 2 ^ 64 }
+    ensures behind { result.now ≡ drop 1 words.now }
+{
+    match words.split_first() {
+        Some((_, rest)) => rest,
+        None => &[],
+    }
+}
+
+/// What the program has to do, by its arguments alone: no file is read.
+#[tactic(auto, unfolding(crate::specs::Work::work_of))]
+pub fn work_in<'w>(alloc: Global, words: &'w [String]) -> Result<Work<'w>, WordsError>
+    ensures { Tells task_of result (work_of (map string_bytes words.now)) }
+{
+    match request_in(words)? {
+        Request::Help(topic) => Ok(Work::Help(topic)),
+        Request::ListHelp => Ok(Work::ListHelp),
+        Request::Version => Ok(Work::Version),
+        Request::Run(topic, options) => {
+            let operands = operands_in(alloc, words_behind(words), 1)?;
+            over_operands(alloc, topic, options, operands, words.len())
+        }
+    }
+}
