@@ -1,4 +1,4 @@
-//! What an image, an EXE or a DLL, says of itself and of its PDB file.
+//! What an image (an EXE or a DLL) has about itself and about its PDB file.
 
 ghost use Rattle.std.specs.Prelude.{◌≡◌};
 ghost use Rattle.std.specs.Option.{option_map, unwrap_or};
@@ -8,7 +8,7 @@ ghost use Rattle.pdb_c.specs.ImageRows.{image_code, image_row, image_seen, no_re
 use crate::answers::DONE;
 use pdb_image::{Image, ImageError, PdbReference};
 
-/// What an image says. Its path is bytes of the image.
+/// An image's headers and the entry of its debug directory. The path is bytes of the image.
 #[repr(C)]
 #[derive(Clone, Copy)]
 pub struct PdbImage<'a> {
@@ -84,7 +84,8 @@ fn shown<'a>(image: &Image<'a>) -> PdbImage<'a>
     }
 }
 
-/// What the image of these bytes says. After an error `out` stays as it was.
+/// Reads the headers of the image of these bytes and the entry of its debug directory. After an error `out` stays as it
+/// was.
 #[unsafe(no_mangle)]
 pub extern "C" fn pdb_image<'a>(image: &'a [u8], out: &mut PdbImage<'a>) -> u32
     ensures { ImageTold result (image_seen out.old) (image_seen out.new) (image_of image.now) }

@@ -20,7 +20,7 @@ use Rattle.pdb_tool.specs.declared.stream_roles.Known.TheVariants.{TypeHashes, F
 
 -- ---- what all streams are
 
--- by what was read; what is refused names nothing
+-- of what could be read; none where there is an error
 abbrev pub read_or_none : {A : Type 0} → Result A Error → (A → List StreamRole) → List StreamRole
 read_or_none (Ok x) roles = roles x
 read_or_none (Err e) roles = []

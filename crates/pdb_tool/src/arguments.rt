@@ -13,7 +13,7 @@ pub struct Arguments {
     pub not_text: Vec<usize>,
 }
 
-/// How many bytes are asked for at first.
+/// The buffer's size at first, in bytes.
 const FIRST_SIZE: usize = 4096;
 
 /// How often the buffer is doubled at most: the system's longest argument has 128 KB.

@@ -24,7 +24,7 @@ pub enum FileKind {
     Short(u64),
 }
 
-/// How many first bytes of a file tell what it is.
+/// How many first bytes of a file show what kind of file it is.
 pub const FRONT_SIZE: usize = 52;
 
 const OLD_MAGIC: &[u8; 37] = b"Microsoft C/C++ program database 2.00";

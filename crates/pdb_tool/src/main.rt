@@ -97,7 +97,7 @@ struct Streams<'a, W: Write, E: Write> {
     is_asked_by_hand: bool,
 }
 
-/// Why arguments ask for nothing.
+/// The fault of arguments that name no work.
 fn words_fault(e: WordsError) -> Fault {
     match e {
         WordsError::BadWord(place) => Fault::BadWord(place),
@@ -266,22 +266,35 @@ fn pass_over<R: Files<File = File> + AllocGlobal, E: Write>(
     let _ = write_stop(host.alloc(), stop, name.word, kind, err);
 }
 
-/// Prints the keys of files. One that can't be read or opened has a message, and the next follows.
-fn print_keys<R: Files<File = File> + AllocGlobal, W: Write, E: Write>(
+/// Prints the key of a file. One that can't be read or opened has a message.
+fn print_key<R: Files<File = File> + AllocGlobal, W: Write, E: Write>(
     host: &Host<'_, R>,
-    names: &[Operand<'_>],
+    name: Operand<'_>,
     streams: &mut Streams<'_, W, E>,
 ) -> Printed {
-    let mut all = true;
-    for name in names {
-        match key_line_of(host, *name) {
-            Ok(line) => write_out(streams.out, &line)?,
-            Err(Stop::Memory) => return Err(Fault::Stopped(Stop::Memory, name.place)),
-            Err(stop) => {
-                all = false;
-                pass_over(host, stop, *name, streams.err);
-            }
+    match key_line_of(host, name) {
+        Ok(line) => {
+            write_out(streams.out, &line)?;
+            Ok(true)
         }
+        Err(Stop::Memory) => Err(Fault::Stopped(Stop::Memory, name.place)),
+        Err(stop) => {
+            pass_over(host, stop, name, streams.err);
+            Ok(false)
+        }
+    }
+}
+
+/// Prints the keys of files, one after another.
+fn print_keys<R: Files<File = File> + AllocGlobal, W: Write, E: Write>(
+    host: &Host<'_, R>,
+    first: Operand<'_>,
+    others: &[Operand<'_>],
+    streams: &mut Streams<'_, W, E>,
+) -> Printed {
+    let mut all = print_key(host, first, streams)?;
+    for name in others {
+        all = print_key(host, *name, streams)? && all;
     }
     Ok(all)
 }
@@ -297,23 +310,33 @@ fn check_named<R: Files<File = File> + AllocGlobal, W: Write>(
     write_check(host.alloc(), &bytes, name.word.as_bytes(), out)
 }
 
-/// Prints what is damaged in files. One that can't be read or opened has a message, and the next follows.
-fn print_checks<R: Files<File = File> + AllocGlobal, W: Write, E: Write>(
+/// Prints what is damaged in a file. One that can't be read or opened has a message.
+fn print_check<R: Files<File = File> + AllocGlobal, W: Write, E: Write>(
     host: &Host<'_, R>,
-    names: &[Operand<'_>],
+    name: Operand<'_>,
     streams: &mut Streams<'_, W, E>,
 ) -> Printed {
-    let mut all = true;
-    for name in names {
-        match check_named(host, *name, streams.out) {
-            Ok(well) => all = all && well,
-            Err(Stop::Memory) => return Err(Fault::Stopped(Stop::Memory, name.place)),
-            Err(Stop::Write) => return Err(Fault::Stopped(Stop::Write, name.place)),
-            Err(stop) => {
-                all = false;
-                pass_over(host, stop, *name, streams.err);
-            }
+    match check_named(host, name, streams.out) {
+        Ok(is_sound) => Ok(is_sound),
+        Err(Stop::Memory) => Err(Fault::Stopped(Stop::Memory, name.place)),
+        Err(Stop::Write) => Err(Fault::Stopped(Stop::Write, name.place)),
+        Err(stop) => {
+            pass_over(host, stop, name, streams.err);
+            Ok(false)
         }
+    }
+}
+
+/// Prints what is damaged in files, one after another.
+fn print_checks<R: Files<File = File> + AllocGlobal, W: Write, E: Write>(
+    host: &Host<'_, R>,
+    first: Operand<'_>,
+    others: &[Operand<'_>],
+    streams: &mut Streams<'_, W, E>,
+) -> Printed {
+    let mut all = print_check(host, first, streams)?;
+    for name in others {
+        all = print_check(host, *name, streams)? && all;
     }
     Ok(all)
 }
@@ -322,22 +345,6 @@ fn print_checks<R: Files<File = File> + AllocGlobal, W: Write, E: Write>(
 fn print_own<W: Write>(text: &str, out: &mut W) -> Printed {
     write_out(out, text.as_bytes())?;
     Ok(true)
-}
-
-/// Does the work over several files: the first, and then the others.
-fn run_over_files<R: Files<File = File> + AllocGlobal, W: Write, E: Write>(
-    host: &Host<'_, R>,
-    is_check: bool,
-    first: Operand<'_>,
-    others: &[Operand<'_>],
-    streams: &mut Streams<'_, W, E>,
-) -> Printed {
-    if is_check {
-        let is_well = print_checks(host, &[first], streams)?;
-        return Ok(print_checks(host, others, streams)? && is_well);
-    }
-    let is_well = print_keys(host, &[first], streams)?;
-    Ok(print_keys(host, others, streams)? && is_well)
 }
 
 /// Does the work.
@@ -350,8 +357,8 @@ fn run<R: Files<File = File> + Input + AllocGlobal, W: Write, E: Write>(
         Work::Help(topic) => print_own(help_of(topic), streams.out),
         Work::ListHelp => print_own(LIST, streams.out),
         Work::Version => print_own(VERSION, streams.out),
-        Work::Keys(first, others) => run_over_files(host, false, first, &others, streams),
-        Work::Checks(first, others) => run_over_files(host, true, first, &others, streams),
+        Work::Keys(first, others) => print_keys(host, first, &others, streams),
+        Work::Checks(first, others) => print_checks(host, first, &others, streams),
         Work::Resolve(options, file, rest) => {
             print_code(host, options, file, &rest, words, streams)
         }
@@ -371,8 +378,8 @@ fn run<R: Files<File = File> + Input + AllocGlobal, W: Write, E: Write>(
     }
 }
 
-/// The exit status of a fault, which is reported, unless the reader of standard output is gone.
-fn status_told<R: Files<File = File> + AllocGlobal, E: Write>(
+/// Reports a fault, unless the reader of standard output is gone. The result is its exit status.
+fn report_fault<R: Files<File = File> + AllocGlobal, E: Write>(
     host: &Host<'_, R>,
     fault: Fault,
     words: &[String],
@@ -407,7 +414,7 @@ fn main(rt: HostRuntime) -> ExitCode {
         Ok(false) => ExitCode::FAILURE,
         Err(fault) => {
             let is_closed = out.is_closed();
-            ExitCode::from(status_told(&host, fault, &arguments.words, is_closed, &mut err))
+            ExitCode::from(report_fault(&host, fault, &arguments.words, is_closed, &mut err))
         }
     }
 }

@@ -1,4 +1,4 @@
-//! What the streams of a file are: what the container fixes, their names, and what the DBI stream says of them.
+//! What the streams of a file are: what the container fixes, their names, and their fields in the DBI stream.
 
 ghost use Rattle.std.specs.Prelude.{◌≡◌, ◌++◌, ◌<◌, OnOk, None, Some, flat_map, length, map, option_copied};
 ghost use Rattle.std.specs.Option.{unwrap_or};
@@ -14,7 +14,7 @@ use pdb_base::little_endian::u16_at;
 use pdb_text::{put_decimal, put_one_line};
 use std::alloc::AllocError;
 
-/// What a stream is that has one place in every file, or one field of a header.
+/// What a stream is that has one number in every file, or one field of a header.
 #[derive(Clone, Copy, Debug, PartialEq, Eq)]
 pub enum Known {
     /// Stream 0.
@@ -66,8 +66,8 @@ pub enum Known {
 }
 
 impl Known {
-    /// What the DBI stream's further streams are called.
-    fn extra_text(self) -> &'static str
+    /// The text of what a stream is.
+    fn as_str(self) -> &'static str
         ensures { result.now ≡ known_text self }
     {
         match self {
@@ -101,7 +101,7 @@ impl Known {
 /// What a stream is.
 #[derive(Clone, Copy, Debug)]
 pub enum What<'a> {
-    /// By its place or a field of a header.
+    /// By its number, or by a field of a header.
     Known(Known),
     /// The stream of a name.
     Name(RawString<'a>),
@@ -114,7 +114,7 @@ pub fn put_what(out: &mut Vec<u8>, what: What<'_>) -> Result<(), AllocError>
     ensures { OnOk result (out.new.items ≡ out.old.items ++ what_text what.entry) }
 {
     match what {
-        What::Known(known) => out.extend_from_slice(known.extra_text().as_bytes()),
+        What::Known(known) => out.extend_from_slice(known.as_str().as_bytes()),
         What::Name(name) => {
             out.extend_from_slice(b"name ")?;
             put_one_line(out, name.as_bytes())

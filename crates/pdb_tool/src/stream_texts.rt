@@ -144,7 +144,7 @@ fn put_lines<'s, S: Source<'s>>(
     Ok(())
 }
 
-/// An answer, if it isn't refused; out of memory, and a source that failed, are passed on.
+/// The value of a result; none where the file has an error there. Out of memory and a failed source are passed on.
 fn if_read<T: Drop>(answer: pdb::Result<T>) -> Result<Option<T>, Stop>
     ensures some { IfOk answer (λ x. result ≡ Ok (Some x)) }
     ensures none { IfErr answer (λ e. IfOk result (λ o. (o ≡ None) × (e ≢ Error.OutOfMemory) × (e ≢ Error.IoError))) }
@@ -158,7 +158,7 @@ fn if_read<T: Drop>(answer: pdb::Result<T>) -> Result<Option<T>, Stop>
     }
 }
 
-/// What a DBI stream says that streams are.
+/// What streams are by the DBI stream.
 #[tactic(auto, unfolding(crate::specs::StreamTexts::information_roles))]
 fn put_information(
     roles: &mut Vec<Role<'_>>,
@@ -176,7 +176,7 @@ fn put_information(
     }
 }
 
-/// What the DBI stream of a file says that streams are.
+/// What streams are by the DBI stream of a file.
 fn put_debug<'s, S: Source<'s>>(pdb: &mut PDB<'s, S>, roles: &mut Vec<Role<'_>>) -> Result<(), Stop>
     ensures continues { Continues pdb.old pdb.new }
     ensures roles { OnOk result (map role_view roles.new.items ≡ map role_view roles.old.items ++ debug_roles pdb.old.file) }
@@ -188,7 +188,7 @@ fn put_debug<'s, S: Source<'s>>(pdb: &mut PDB<'s, S>, roles: &mut Vec<Role<'_>>)
     }
 }
 
-/// What the header of a stream of types or ids says that streams are.
+/// What streams are by the header of a stream of types or ids.
 #[tactic(auto, unfolding(pdb::specs::Answers::raw_stream_in))]
 fn put_items<'s, S: Source<'s>>(
     pdb: &mut PDB<'s, S>,

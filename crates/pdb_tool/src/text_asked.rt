@@ -1,4 +1,4 @@
-//! What of a file is asked for before its text is written.
+//! The streams that are read before a text is written.
 
 use crate::file_texts::FileText;
 use crate::question::Question;
@@ -8,7 +8,7 @@ use pdb_file::{AnyFile, Asks, HeldSource};
 use pdb_resolve::{GlobalIds, Streams};
 use std::alloc::Global;
 
-/// What is still to be asked for of what a text is made of.
+/// Which streams of a text are still to be read.
 #[derive(Drop)]
 pub struct TextAsked<'a> {
     text: FileText<'a>,
@@ -18,7 +18,7 @@ pub struct TextAsked<'a> {
 }
 
 impl<'a> TextAsked<'a> {
-    /// All that a text is made of.
+    /// All the streams of a text.
     pub fn of(text: FileText<'a>) -> Self {
         TextAsked {
             text,
@@ -28,12 +28,12 @@ impl<'a> TextAsked<'a> {
     }
 }
 
-/// Whether an answer rests on bytes that aren't held.
+/// Whether a result needs bytes that weren't read.
 fn is_missed<T>(answer: &Result<T>) -> bool {
     matches!(answer, Err(Error::OutOfMemory))
 }
 
-/// Asks for what the code at addresses is told from.
+/// Requests the streams that the code at addresses is found by.
 fn ask_code<'s, S: Source<'s>>(alloc: Global, source: S, questions: &[Question<'_>]) {
     let mut streams = Streams::new(alloc);
     let Ok(mut resolver) = resolver_over(alloc, source, &mut streams) else {
@@ -46,8 +46,8 @@ fn ask_code<'s, S: Source<'s>>(alloc: Global, source: S, questions: &[Question<'
     }
 }
 
-/// Asks for what the names of a module's inlined calls are found by, and answers whether all of that is held: the streams
-/// of other modules, where the module imports ids from them.
+/// Requests the streams that the names of a module's inlined calls are found by: those of other modules, where the module
+/// imports ids from them. The result is whether all of them were read.
 fn ask_calls<'s, S: Source<'s>>(
     alloc: Global,
     pdb: &mut PDB<'s, S>,
@@ -59,7 +59,7 @@ fn ask_calls<'s, S: Source<'s>>(
     }
 }
 
-/// Asks for the stream of a module, and answers whether nothing will be left to ask for of it then.
+/// Requests the stream of a module. The result is whether it is the last one.
 fn ask_module<'s, S: Source<'s>>(
     alloc: Global,
     pdb: &mut PDB<'s, S>,
@@ -69,7 +69,7 @@ fn ask_module<'s, S: Source<'s>>(
     !names_calls || ask_calls(alloc, pdb, info)
 }
 
-/// Asks for the streams of all modules, and answers whether nothing will be left to ask for of them then.
+/// Requests the streams of all modules. The result is whether they are the last ones.
 fn ask_all<'s, S: Source<'s>>(alloc: Global, pdb: &mut PDB<'s, S>, names_calls: bool) -> bool {
     let information = match pdb.debug_information() {
         Ok(information) => information,
@@ -89,8 +89,7 @@ fn ask_all<'s, S: Source<'s>>(alloc: Global, pdb: &mut PDB<'s, S>, names_calls: 
     is_last
 }
 
-/// Asks for the stream of the module with this place in a list, and answers whether nothing will be left to ask for of it
-/// then.
+/// Requests the stream of the module with this index. The result is whether it is the last one.
 fn ask_place<'s, S: Source<'s>>(
     alloc: Global,
     pdb: &mut PDB<'s, S>,
@@ -110,8 +109,8 @@ fn ask_place<'s, S: Source<'s>>(
     }
 }
 
-/// Asks for the streams of the modules of these numbers, and answers whether nothing will be left to ask for of them
-/// then. The list of modules is read once.
+/// Requests the streams of the modules of these numbers. The result is whether they are the last ones. The list of modules
+/// is read once.
 fn ask_places<'s, S: Source<'s>>(
     alloc: Global,
     pdb: &mut PDB<'s, S>,
@@ -133,8 +132,7 @@ fn ask_places<'s, S: Source<'s>>(
     is_last
 }
 
-/// Asks for the streams of the modules of these numbers, or of all, and answers whether nothing will be left to ask for
-/// of them then.
+/// Requests the streams of the modules of these numbers, or of all. The result is whether they are the last ones.
 fn ask_modules<'s, S: Source<'s>>(
     alloc: Global,
     pdb: &mut PDB<'s, S>,
@@ -149,7 +147,7 @@ fn ask_modules<'s, S: Source<'s>>(
 }
 
 impl TextAsked<'_> {
-    /// Asks for the streams that all modules share.
+    /// Requests the streams that all modules share.
     fn ask_shared<'s, S: Source<'s>>(&mut self, pdb: &mut PDB<'s, S>) {
         let text = self.text;
         match text {
@@ -185,7 +183,7 @@ impl TextAsked<'_> {
         }
     }
 
-    /// Asks for what is left of the streams, and answers whether nothing will be left then.
+    /// Requests the streams that are left. The result is whether they are the last ones.
     fn ask_streams<'s, S: Source<'s>>(&mut self, alloc: Global, source: S) -> bool {
         let Ok(mut pdb) = PDB::open(alloc, source) else {
             return false;
