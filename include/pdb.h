@@ -83,6 +83,10 @@ typedef struct pdb_bytes {
     size_t size;
 } pdb_bytes;
 
+/* The text of a code: English, in one line, no period and no zero byte behind it; "unknown code" where this library doesn't
+ * have the code. It is valid as long as the library is loaded. Takes no memory, and doesn't fail. */
+void pdb_message(pdb_code code, pdb_bytes *out);
+
 /* ---- Which file it is. Both calls take memory; on an error *out is unchanged. */
 
 typedef struct pdb_information_t {

@@ -137,6 +137,7 @@ def _rows(row: Any) -> List[Any]:
 
 _CALLS: Any = {
     "pdb_version": [],
+    "pdb_message": [u32, c.POINTER(Bytes)],
     "pdb_information": [*_DATA, c.POINTER(Information)],
     "pdb_debug_information": [*_DATA, c.POINTER(DebugInformation)],
     "pdb_key": [*_DATA, c.c_char_p, size_t, _SIZE],
@@ -162,3 +163,6 @@ _CALLS: Any = {
 for _name, _types in _CALLS.items():
     _call = getattr(LIBRARY, _name)
     _call.argtypes, _call.restype = _types, u32
+
+# The one call that returns nothing.
+LIBRARY.pdb_message.restype = None

@@ -60,6 +60,13 @@ def version() -> Tuple[int, int, int]:
     return number // 1000000, number // 1000 % 1000, number % 1000
 
 
+def message(code: int) -> str:
+    """The text of an error code; "unknown code" where the library doesn't have the code."""
+    out = raw.Bytes()
+    raw.LIBRARY.pdb_message(_fits(32, code), out)
+    return out.copy().decode()
+
+
 def information(file: bytes) -> Information:
     """Which file it is, by the information stream."""
     out = raw.Information()

@@ -338,6 +338,9 @@ int main(int count, char **words) {
     if (fread(file, 1, file_size, in) != file_size) return 3;
     fclose(in);
     want(pdb_version() == PDB_VERSION, "version", pdb_version());
+    pdb_bytes message;
+    pdb_message(PDB_OUT_OF_MEMORY, &message);
+    want(is_named(message, "out of memory"), "message", message.size);
     streams();
     modules_and_lines();
     made_symbols();

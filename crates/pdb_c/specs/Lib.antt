@@ -15,3 +15,4 @@ pub mod ContributionRows
 pub mod StreamNameRows
 pub mod ImageRows
 pub mod Version
+pub mod Messages

@@ -16,6 +16,7 @@ mod inlinees;
 mod key;
 mod layout;
 mod lines;
+mod message;
 mod modules;
 mod names;
 mod parts;
@@ -38,6 +39,7 @@ pub use information::{
 pub use inlinees::{PdbInlinee, pdb_inlined_lines, pdb_inlinees};
 pub use key::pdb_key;
 pub use lines::{PdbLine, pdb_lines};
+pub use message::pdb_message;
 pub use modules::{PdbModule, pdb_modules};
 pub use names::{PdbName, pdb_name};
 pub use sections::{PdbSection, pdb_sections};

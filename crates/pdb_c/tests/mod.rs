@@ -2,6 +2,7 @@
 
 mod files;
 mod images;
+mod messages;
 
 use std::fmt::Debug;
 use std::process::Abort;
