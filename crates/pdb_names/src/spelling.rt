@@ -1,6 +1,6 @@
 //! The name that a decorated name spells.
 
-ghost use Rattle.std.specs.Prelude.{◌≡◌, ◌++◌, [], take, option_map, OnOk, OnErr, IfOk, is_some};
+ghost use Rattle.std.specs.Prelude.{◌≡◌, ◌++◌, [], false, None, take, option_map, OnOk, OnErr, IfOk, is_some};
 ghost use Rattle.std.specs.List.{list_all};
 ghost use Rattle.pdb_names.specs.CNames.{c_name as name_of_c};
 ghost use Rattle.pdb_names.specs.ItaniumNames.{behind};
@@ -45,6 +45,14 @@ fn ruled(decorated: &[u8], x86: bool) -> Option<Name<'_>>
     }
 }
 
+/// Whether a rule may answer a name: but on x86 each has an underscore first.
+#[tactic(auto, unfolding(crate::specs::Spelling::spelled, crate::specs::Spelling::ruled))]
+fn has_rule(decorated: &[u8], x86: bool) -> bool
+    ensures { result ≡ false → spelled decorated.now x86 ≡ None }
+{
+    x86 || decorated.first() == Some(&b'_')
+}
+
 /// The prefix of the slot of an import, which stays.
 const IMPORTED: &[u8; 6] = b"__imp_";
 
@@ -60,7 +68,7 @@ struct Spelled<'d> {
 fn spell(decorated: &[u8], x86: bool) -> Option<Spelled<'_>>
     ensures { option_map (λ s. s.prefix.now ++ (s.name.scope.now ++ s.name.name.now)) result ≡ spelled decorated.now x86 }
 {
-    if decorated.len() > MOST || !is_allowed(decorated) {
+    if !has_rule(decorated, x86) || decorated.len() > MOST || !is_allowed(decorated) {
         return None;
     }
     if decorated.starts_with(IMPORTED) {
