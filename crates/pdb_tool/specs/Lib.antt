@@ -4,6 +4,8 @@ pub mod Keys
 pub mod KeyLines
 pub mod Options
 pub mod Operands
+pub mod Objects
+pub mod FrameObjects
 pub mod Questions
 pub mod Words
 pub mod Work

@@ -5,7 +5,7 @@ use crate::asked::Asked;
 use crate::file_texts::FileText;
 use crate::key_line::{key_line, line_in_parts};
 use crate::options::Options;
-use crate::question::Question;
+use crate::question::{Answer, Question};
 use crate::stop::Stop;
 use crate::tests::fakes::{Narrow, is};
 use crate::wanted::{answer_wanted, key_in_word, wants_in, write_wanted, write_wanted_in_parts};
@@ -188,7 +188,7 @@ fn what_is_wanted(rt: HostRuntime) -> Result<(), Fail> {
 fn nothing_is_told_of_another_file(rt: HostRuntime) -> Result<(), Fail> {
     let alloc = rt.alloc();
     let asked = [Question {
-        heading: None,
+        answer: Answer::Frames,
         asked: Asked::Nowhere,
     }];
     let text = FileText::Code(&asked);
