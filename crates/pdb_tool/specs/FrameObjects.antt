@@ -1,5 +1,5 @@
 -- The JSON object of an address: the argument, and the frames of its code.
-use Rattle.std.specs.Prelude.{ℕ, List, [], ◌∷◌, codes, Option, Some, None}
+use Rattle.std.specs.Prelude.{ℕ, ◌<◌, ◌^◌, List, [], ◌∷◌, codes, Option, Some, None}
 use Rattle.json.specs.Json.{Json, null, array, object, Items, no_items, item, Members, no_members, member}
 use Rattle.pdb.specs.Qualified.{Qualified}
 use Rattle.pdb_resolve.specs.Frames.{Frame, qualified_text}
@@ -34,3 +34,8 @@ asked_value word frames = object (member (codes "asked") (text_value word) (fram
 -- a line that is no address
 abbrev pub unasked_value : List ℕ → Json
 unasked_value line = object (member (codes "asked") (text_value line) (member (codes "frames") null no_members))
+
+-- line and column have 32 bits
+pub record HasLine (f : Frame) : Type 0 where
+  pub line : f.line < 2 ^ 32
+  pub column : f.column < 2 ^ 32

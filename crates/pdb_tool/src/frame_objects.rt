@@ -60,11 +60,7 @@ fn put_line(writer: &mut Writer, line: u32, column: u32) -> Result<(), AllocErro
 }
 
 /// The object of a frame.
-fn put_frame(
-    writer: &mut Writer,
-    room: &mut Vec<u8>,
-    frame: &Frame<'_>,
-) -> Result<(), AllocError>
+fn put_frame(writer: &mut Writer, room: &mut Vec<u8>, frame: &Frame<'_>) -> Result<(), AllocError>
     ensures { Adds result writer.old writer.new (json_tokens (frame_value (shown_frame frame.now))) }
 {
     writer.begin_object()?;

@@ -25,6 +25,7 @@ mod frame_objects;
 mod help;
 mod host;
 mod in_parts;
+mod json_laws;
 mod key;
 mod key_line;
 mod kind_names;

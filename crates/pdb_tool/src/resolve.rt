@@ -12,8 +12,8 @@ ghost use Rattle.pdb_tool.specs.Asked.{AnsweredUpTo, asked_place, asked_text, li
 ghost use Rattle.pdb_tool.specs.declared.stop.Stop.{Stop};
 
 use crate::asked::Asked;
-use crate::opening::opened;
 use crate::frame_objects::{put_asked_line, put_unasked_line};
+use crate::opening::opened;
 use crate::options::{Form, Options};
 use crate::question::{Answer, Question, question_of};
 use crate::stop::{Stop, stop_of};

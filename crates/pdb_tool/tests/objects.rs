@@ -30,7 +30,8 @@ fn objects_of_addresses(rt: HostRuntime) -> Result<(), Fail> {
             asked: Asked::Nowhere,
         },
     ];
-    let wanted = "{\"asked\":\"1:5\u{fffd}\u{e9}\",\"frames\":[{\"name\":\"f\",\"file\":null,\"line\":0,\"column\":0}]}\n{\"asked\":\"\\\"17\\t\\\\\",\"frames\":[{\"name\":null,\"file\":null,\"line\":0,\"column\":0}]}\n";
+    let wanted =
+        "{\"asked\":\"1:5\u{fffd}\u{e9}\",\"frames\":[{\"name\":\"f\",\"file\":null,\"line\":0,\"column\":0}]}\n{\"asked\":\"\\\"17\\t\\\\\",\"frames\":[{\"name\":null,\"file\":null,\"line\":0,\"column\":0}]}\n";
     both(&rt, &bytes, FileText::Code(&asked), wanted.as_bytes());
     both(&rt, &bytes, FileText::Code(&[]), b"");
     Ok(())
@@ -64,7 +65,8 @@ fn objects_of_frames(rt: HostRuntime) -> Result<(), AllocError> {
     put_asked_line(alloc, &mut out, b"1:2", &frames)?;
     put_asked_line(alloc, &mut out, b"", &[])?;
     put_unasked_line(alloc, &mut out, b" x\r")?;
-    let wanted: &[u8] = b"x\n{\"asked\":\"1:2\",\"frames\":[{\"name\":\"n::\",\"file\":\"a\\\\b\\n.c\",\"line\":4294967295,\"column\":7},{\"name\":null,\"file\":null,\"line\":1,\"column\":0}]}\n{\"asked\":\"\",\"frames\":[]}\n{\"asked\":\" x\\r\",\"frames\":null}\n";
+    let wanted: &[u8] =
+        b"x\n{\"asked\":\"1:2\",\"frames\":[{\"name\":\"n::\",\"file\":\"a\\\\b\\n.c\",\"line\":4294967295,\"column\":7},{\"name\":null,\"file\":null,\"line\":1,\"column\":0}]}\n{\"asked\":\"\",\"frames\":[]}\n{\"asked\":\" x\\r\",\"frames\":null}\n";
     is(&rt, "out", &out.as_slice(), &wanted);
     Ok(())
 }
@@ -88,7 +90,8 @@ fn objects_of_lines(rt: HostRuntime) -> Result<(), Fail> {
         &mut out,
     );
     is(&rt, "answered", &answered, &Ok(()));
-    let wanted: &[u8] = b"{\"asked\":\"1:50\",\"frames\":[{\"name\":\"f\",\"file\":null,\"line\":0,\"column\":0}]}\n{\"asked\":\"x \",\"frames\":null}\n{\"asked\":\"\",\"frames\":null}\n{\"asked\":\"1:5f\",\"frames\":[{\"name\":\"f\",\"file\":null,\"line\":0,\"column\":0}]}\n";
+    let wanted: &[u8] =
+        b"{\"asked\":\"1:50\",\"frames\":[{\"name\":\"f\",\"file\":null,\"line\":0,\"column\":0}]}\n{\"asked\":\"x \",\"frames\":null}\n{\"asked\":\"\",\"frames\":null}\n{\"asked\":\"1:5f\",\"frames\":[{\"name\":\"f\",\"file\":null,\"line\":0,\"column\":0}]}\n";
     is(&rt, "out", &out.taken(), &wanted);
     Ok(())
 }
