@@ -11,6 +11,7 @@ pub mod Words
 pub mod Work
 pub mod FileKinds
 pub mod ErrorLine
+pub mod ErrorObjects
 pub mod Values
 pub mod Depth
 pub mod LineTexts

@@ -11,6 +11,7 @@ mod checks;
 mod commands;
 mod depth;
 mod error_line;
+mod error_objects;
 mod fields;
 mod fields_code;
 mod fields_data;
@@ -28,6 +29,7 @@ mod in_parts;
 mod json_laws;
 mod key;
 mod key_line;
+mod key_objects;
 mod kind_names;
 mod line_texts;
 mod list_help;
@@ -49,6 +51,7 @@ mod section_texts;
 mod source_texts;
 mod sources_asked;
 mod stop;
+mod stream_objects;
 mod stream_roles;
 mod stream_texts;
 mod symbol_texts;
@@ -69,7 +72,7 @@ use host::{Host, image_wants, size_in_parts};
 use key_line::{key_line, line_in_parts};
 use list_help::LIST;
 use operands::{Operand, all_questions};
-use options::{Options, Wanted};
+use options::{Form, Options, Wanted};
 use output::{Noticed, Output};
 use pdb_file::{read_all, size_of};
 use pdb_text::write_out;
@@ -223,7 +226,7 @@ fn print_listed<R: Files<File = File> + AllocGlobal, W: Write, E: Write>(
     streams: &mut Streams<'_, W, E>,
 ) -> Printed {
     let file = host.open(name)?;
-    let mut out = Noticed::new(streams.out);
+    let mut out = Noticed::new(streams.out, text.form());
     let written = write_text_of(host.alloc(), file, None, text, &mut out);
     let has_written = out.has_written();
     if out.has_error() {
@@ -246,16 +249,17 @@ fn print_all<R: Files<File = File> + AllocGlobal, W: Write, E: Write>(
 /// The line of a file: its key, and of an image that of its PDB.
 fn key_line_of<R: Files<File = File> + AllocGlobal>(
     host: &Host<'_, R>,
+    form: Form,
     name: Operand<'_>,
 ) -> Result<Vec<u8>, Stop> {
     let mut file = host.opened(name)?;
     if let Some(size) = size_of(&file) {
-        if let Some(line) = line_in_parts(host.alloc(), &file, size, name.word.as_bytes())? {
+        if let Some(line) = line_in_parts(host.alloc(), form, &file, size, name.word.as_bytes())? {
             return Ok(line);
         }
     }
     let bytes = read_all(host.alloc(), &mut file)?;
-    key_line(host.alloc(), &bytes, name.word.as_bytes())
+    key_line(host.alloc(), form, &bytes, name.word.as_bytes())
 }
 
 /// Writes why a file among several isn't read. The next one follows.
@@ -272,12 +276,13 @@ fn pass_over<R: Files<File = File> + AllocGlobal, E: Write>(
 /// Prints the keys of files. One that can't be read or opened has a message, and the next follows.
 fn print_keys<R: Files<File = File> + AllocGlobal, W: Write, E: Write>(
     host: &Host<'_, R>,
+    form: Form,
     names: &[Operand<'_>],
     streams: &mut Streams<'_, W, E>,
 ) -> Printed {
     let mut all = true;
     for name in names {
-        match key_line_of(host, *name) {
+        match key_line_of(host, form, *name) {
             Ok(line) => write_out(streams.out, &line)?,
             Err(Stop::Memory) => return Err(Fault::Stopped(Stop::Memory, name.place)),
             Err(stop) => {
@@ -327,20 +332,27 @@ fn print_own<W: Write>(text: &str, out: &mut W) -> Printed {
     Ok(true)
 }
 
-/// Does the work over several files: the first, and then the others.
-fn run_over_files<R: Files<File = File> + AllocGlobal, W: Write, E: Write>(
+/// Prints the keys of a file and of others.
+fn print_all_keys<R: Files<File = File> + AllocGlobal, W: Write, E: Write>(
     host: &Host<'_, R>,
-    is_check: bool,
+    form: Form,
     first: Operand<'_>,
     others: &[Operand<'_>],
     streams: &mut Streams<'_, W, E>,
 ) -> Printed {
-    if is_check {
-        let is_well = print_checks(host, &[first], streams)?;
-        return Ok(print_checks(host, others, streams)? && is_well);
-    }
-    let is_well = print_keys(host, &[first], streams)?;
-    Ok(print_keys(host, others, streams)? && is_well)
+    let is_well = print_keys(host, form, &[first], streams)?;
+    Ok(print_keys(host, form, others, streams)? && is_well)
+}
+
+/// Prints what is damaged in a file and in others.
+fn print_all_checks<R: Files<File = File> + AllocGlobal, W: Write, E: Write>(
+    host: &Host<'_, R>,
+    first: Operand<'_>,
+    others: &[Operand<'_>],
+    streams: &mut Streams<'_, W, E>,
+) -> Printed {
+    let is_well = print_checks(host, &[first], streams)?;
+    Ok(print_checks(host, others, streams)? && is_well)
 }
 
 /// Does the work.
@@ -353,8 +365,8 @@ fn run<R: Files<File = File> + Input + AllocGlobal, W: Write, E: Write>(
         Work::Help(topic) => print_own(help_of(topic), streams.out),
         Work::ListHelp => print_own(LIST, streams.out),
         Work::Version => print_own(VERSION, streams.out),
-        Work::Keys(first, others) => run_over_files(host, false, first, &others, streams),
-        Work::Checks(first, others) => run_over_files(host, true, first, &others, streams),
+        Work::Keys(form, first, others) => print_all_keys(host, form, first, &others, streams),
+        Work::Checks(first, others) => print_all_checks(host, first, &others, streams),
         Work::Resolve(options, file, rest) => {
             print_code(host, options, file, &rest, words, streams)
         }
@@ -368,9 +380,9 @@ fn run<R: Files<File = File> + Input + AllocGlobal, W: Write, E: Write>(
             print_listed(host, file, FileText::Find(&names), streams)
         }
         Work::Where(file, asked) => print_listed(host, file, FileText::Where(&asked), streams),
-        Work::Modules(file) => print_all(host, file, FileText::Modules, streams),
-        Work::Sections(file) => print_all(host, file, FileText::Sections, streams),
-        Work::Streams(file) => print_all(host, file, FileText::Streams, streams),
+        Work::Modules(form, file) => print_all(host, file, FileText::Modules(form), streams),
+        Work::Sections(form, file) => print_all(host, file, FileText::Sections(form), streams),
+        Work::Streams(form, file) => print_all(host, file, FileText::Streams(form), streams),
     }
 }
 

@@ -2,10 +2,10 @@
 
 ghost use Rattle.std.specs.Prelude.{◌≡◌, ◌∷◌, ◌++◌, [], codes, OnOk};
 ghost use Rattle.std.specs.Fmt.{decimal};
-ghost use Rattle.json.specs.Json.{null};
+ghost use Rattle.json.specs.Json.{member, no_members, null};
 ghost use Rattle.json.specs.Print.{print};
-ghost use Rattle.json.specs.Token.{key, number, string};
-ghost use Rattle.json.specs.Tree.{json_tokens};
+ghost use Rattle.json.specs.Token.{begin_object, key, number, string};
+ghost use Rattle.json.specs.Tree.{json_tokens, members_tokens};
 ghost use Rattle.pdb.specs.Text.{lossy_text};
 ghost use Rattle.pdb_tool.specs.Objects.{Adds, known_value, number_value, text_value};
 
@@ -65,4 +65,38 @@ pub fn put_null(writer: &mut Writer, name: &str) -> Result<(), AllocError>
 {
     writer.key(name)?;
     writer.null()
+}
+
+/// A member that is a string.
+pub fn put_member(
+    alloc: Global,
+    writer: &mut Writer,
+    name: &str,
+    bytes: &[u8],
+) -> Result<(), AllocError>
+    ensures { Adds result writer.old writer.new (key name.now ∷ json_tokens (text_value bytes.now)) }
+{
+    writer.key(name)?;
+    put_text(alloc, writer, bytes)
+}
+
+/// The last member of an object, a string.
+pub fn put_last(
+    alloc: Global,
+    writer: &mut Writer,
+    name: &str,
+    bytes: &[u8],
+) -> Result<(), AllocError>
+    ensures { Adds result writer.old writer.new (members_tokens (member name.now (text_value bytes.now) no_members)) }
+{
+    put_member(alloc, writer, name, bytes)?;
+    writer.end_object()
+}
+
+/// An object that has a number so far.
+pub fn begin_numbered(writer: &mut Writer, name: &str, n: u64) -> Result<(), AllocError>
+    ensures { Adds result writer.old writer.new (begin_object ∷ key name.now ∷ json_tokens (number_value n)) }
+{
+    writer.begin_object()?;
+    put_number(writer, name, n)
 }

@@ -203,7 +203,7 @@ fn takes_json(topic: Topic) -> bool
     ensures { result ≡ takes_json topic }
 {
     match topic {
-        Topic::Resolve => true,
+        Topic::Resolve | Topic::Modules | Topic::Sections | Topic::Streams | Topic::Key => true,
         _ => false,
     }
 }
