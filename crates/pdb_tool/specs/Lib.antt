@@ -4,11 +4,14 @@ pub mod Keys
 pub mod KeyLines
 pub mod Options
 pub mod Operands
+pub mod Objects
+pub mod FrameObjects
 pub mod Questions
 pub mod Words
 pub mod Work
 pub mod FileKinds
 pub mod ErrorLine
+pub mod ErrorObjects
 pub mod Values
 pub mod Depth
 pub mod LineTexts

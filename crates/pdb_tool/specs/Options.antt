@@ -6,8 +6,10 @@ use Rattle.std.specs.Option.{is_some, unwrap_or}
 use Rattle.std.specs.Str.{bytes_eq}
 use Rattle.pdb_tool.specs.Asked.{address_number}
 use Rattle.pdb_tool.specs.declared.words.Topic.{Topic}
-use Rattle.pdb_tool.specs.declared.words.Topic.TheVariants.{Resolve, Symbols}
+use Rattle.pdb_tool.specs.declared.words.Topic.TheVariants.{Resolve, Symbols, Modules, Sections, Streams, Key as KeyOf}
 use Rattle.pdb_tool.specs.declared.options.Options.{Options}
+use Rattle.pdb_tool.specs.declared.options.Form.{Form}
+use Rattle.pdb_tool.specs.declared.options.Form.TheVariants.{Text, Json}
 use Rattle.pdb_tool.specs.declared.options.Given.{Given}
 use Rattle.pdb_tool.specs.declared.options.Next.{Next}
 use Rattle.pdb_tool.specs.declared.options.Next.TheVariants.{Word, Value, Operand}
@@ -65,10 +67,31 @@ with_resolve_option g p word =
 abbrev pub with_symbols_option : Given → List ℕ → Option Given
 with_symbols_option g word = if bytes_eq word (codes "--all") then Some (record g { options = record g.options { all = true } }) else None
 
+-- the commands that can write JSON
+abbrev pub takes_json : Topic → Bool
+takes_json Resolve = true
+takes_json Modules = true
+takes_json Sections = true
+takes_json Streams = true
+takes_json KeyOf = true
+takes_json topic = false
+
+-- with output in JSON; none where that was given before
+abbrev pub json_after : Given → Form → Option Given
+json_after g Text = Some (record g { options = record g.options { form = Json } })
+json_after g Json = None
+
+abbrev pub with_json : Given → Option Given
+with_json g = json_after g g.options.form
+
+-- with an option that not every command has
+abbrev pub with_own_option : Topic → Given → ℕ → List ℕ → Option Given
+with_own_option Resolve g p word = with_resolve_option g p word
+with_own_option Symbols g p word = with_symbols_option g word
+with_own_option topic g p word = None
+
 abbrev pub with_option : Topic → Given → ℕ → List ℕ → Option Given
-with_option Resolve g p word = with_resolve_option g p word
-with_option Symbols g p word = with_symbols_option g word
-with_option topic g p word = None
+with_option topic g p word = if takes_json topic && bytes_eq word (codes "--json") then with_json g else with_own_option topic g p word
 
 -- with one that is no value, at p; none where it can't stand there
 abbrev pub with_plain : Topic → Given → ℕ → List ℕ → Option Given
@@ -84,7 +107,7 @@ with_word topic g Value p word = with_base g (address_number word)
 with_word topic g Operand p word = Some (record g { has_file = true })
 
 abbrev pub no_options : Options
-no_options = record { base = None; wanted = None; addresses = false; all = false }
+no_options = record { base = None; wanted = None; addresses = false; all = false; form = Text }
 
 -- with the load address of an image as the base, where no other is given
 abbrev pub with_base_of : Options → ℕ → Options

@@ -1,7 +1,7 @@
 //! What the options of a command say.
 
 ghost use Rattle.std.specs.Prelude.{◌≡◌, ◌+◌, ◌<◌, ◌^◌, map, string_bytes, length};
-ghost use Rattle.pdb_tool.specs.Options.{is_base, is_dashes, is_option, is_key, is_value, nothing_given, options_of, wanting_base, with_base, with_base_of, with_option, with_plain, with_resolve_option, with_symbols_option, with_wanted, with_wanted_option, with_word};
+ghost use Rattle.pdb_tool.specs.Options.{is_base, is_dashes, is_option, is_key, is_value, nothing_given, options_of, takes_json, wanting_base, with_base, with_base_of, with_json, with_option, with_plain, with_resolve_option, with_symbols_option, with_wanted, with_wanted_option, with_word};
 ghost use Rattle.std.specs.Char.{is_ascii_hexdigit};
 ghost use Rattle.pdb_tool.specs.Words.{Tells};
 
@@ -17,6 +17,16 @@ pub enum Wanted {
     Image(usize),
 }
 
+/// How the output of a command is written.
+#[derive(Clone, Copy, Debug, Default, PartialEq, Eq)]
+pub enum Form {
+    /// Text for people.
+    #[default]
+    Text,
+    /// A JSON object a line.
+    Json,
+}
+
 /// What the options of a command say.
 #[derive(Clone, Copy, Debug, Default, PartialEq, Eq)]
 pub struct Options {
@@ -28,6 +38,8 @@ pub struct Options {
     pub addresses: bool,
     /// Whether the symbols of all modules are meant.
     pub all: bool,
+    /// How the output is written.
+    pub form: Form,
 }
 
 impl Options {
@@ -186,10 +198,39 @@ fn with_symbols_option(given: Given, word: &[u8]) -> Option<Given>
     Some(Given { options, ..given })
 }
 
+/// Whether a command can write JSON.
+fn takes_json(topic: Topic) -> bool
+    ensures { result ≡ takes_json topic }
+{
+    match topic {
+        Topic::Resolve | Topic::Modules | Topic::Sections | Topic::Streams | Topic::Key => true,
+        _ => false,
+    }
+}
+
+/// With output in JSON; none where that was given before.
+fn with_json(given: Given) -> Option<Given>
+    ensures { result ≡ with_json given }
+{
+    match given.options.form {
+        Form::Json => None,
+        Form::Text => {
+            let options = Options {
+                form: Form::Json,
+                ..given.options
+            };
+            Some(Given { options, ..given })
+        }
+    }
+}
+
 /// With an option of a command.
 fn with_option(topic: Topic, given: Given, place: usize, word: &[u8]) -> Option<Given>
     ensures { result ≡ with_option topic given place word.now }
 {
+    if takes_json(topic) && word == b"--json".as_slice() {
+        return with_json(given);
+    }
     match topic {
         Topic::Resolve => with_resolve_option(given, place, word),
         Topic::Symbols => with_symbols_option(given, word),

@@ -172,9 +172,9 @@ impl TextAsked<'_> {
                 let places = is_missed(&pdb.string_table()) | is_missed(&pdb.address_map());
                 self.shared = names | places;
             }
-            FileText::Modules => self.shared = is_missed(&pdb.debug_information()),
-            FileText::Sections => self.shared = is_missed(&pdb.sections()),
-            FileText::Streams => {
+            FileText::Modules(_) => self.shared = is_missed(&pdb.debug_information()),
+            FileText::Sections(_) => self.shared = is_missed(&pdb.sections()),
+            FileText::Streams(_) => {
                 let names = is_missed(&pdb.pdb_information()) | is_missed(&pdb.debug_information());
                 let items = is_missed(&pdb.type_information()) | is_missed(&pdb.id_information());
                 self.shared = names | items;
@@ -211,7 +211,7 @@ impl TextAsked<'_> {
             }
             FileText::AllSymbols => !ask_all(alloc, pdb, false),
             FileText::Find(_) | FileText::Where(_) => !ask_all(alloc, pdb, true),
-            FileText::Modules | FileText::Sections | FileText::Streams => false,
+            FileText::Modules(_) | FileText::Sections(_) | FileText::Streams(_) => false,
         };
     }
 }

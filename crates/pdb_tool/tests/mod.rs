@@ -11,6 +11,7 @@ mod imports;
 mod kinds;
 mod lookups;
 mod modules;
+mod objects;
 mod options;
 mod parts;
 mod streams;
