@@ -156,7 +156,7 @@ pub fn put_body(out: &mut Vec<u8>, len: u32, start: u32, stop: u32) -> Result<()
 
 /// A module's place in the list, or `-` where there is none.
 #[tactic(auto, unfolding(crate::specs::FieldTexts::field))]
-fn put_module(out: &mut Vec<u8>, of_module: Option<usize>) -> Result<(), AllocError>
+pub fn put_module(out: &mut Vec<u8>, of_module: Option<usize>) -> Result<(), AllocError>
     ensures { OnOk result (out.new.items ≡ out.old.items ++ field (codes "module") (optional_text of_module)) }
 {
     match of_module {

@@ -25,7 +25,7 @@ fn put_more_flags(out: &mut Vec<u8>, flags: &[(bool, &'static str)]) -> Result<(
 }
 
 /// The names of the flags that are set, joined by `+`, or `-` where none is.
-fn put_flags(out: &mut Vec<u8>, flags: &[(bool, &'static str)]) -> Result<(), AllocError>
+pub fn put_flags(out: &mut Vec<u8>, flags: &[(bool, &'static str)]) -> Result<(), AllocError>
     ensures { OnOk result (out.new.items ≡ out.old.items ++ flags_text (map (λ f. (f.0, f.1.now)) flags.now)) }
 {
     let Some(((is_set, name), behind)) = flags.split_first() else {

@@ -13,6 +13,8 @@ mod lookups;
 mod modules;
 mod options;
 mod parts;
+mod records;
+mod records_code;
 mod streams;
 mod wanted;
 mod work;
