@@ -17,9 +17,9 @@ use Rattle.pdb_text.specs.Digits.{hex}
 use Rattle.pdb_tool.specs.FieldTexts.{body_fields, field, place_field, reference_fields, scope_fields, type_field}
 use Rattle.pdb_tool.specs.Flags.{procedure_flags}
 use Rattle.pdb_tool.specs.RecordFlagTexts.{environment_flags, frame_flags, mini_reference_flags, module_type_flags, variable_flags}
-use Rattle.pdb_tool.specs.RecordValues.{base_text, cookie_text, discard_text, entry_text, gap_text, joined_texts, range_text, register_on, string_text, tag_text}
+use Rattle.pdb_tool.specs.RecordValues.{base_text, cookie_text, discard_text, entry_text, gap_text, joined_texts, range_text, string_text, tag_text}
 use Rattle.pdb_tool.specs.Values.{behind_blank, optional_text, place_text}
-use Rattle.pdb_tool.specs.ValueTexts.{bool_text, bytes_text, optional_index_text}
+use Rattle.pdb_tool.specs.ValueTexts.{bool_text, bytes_text, optional_index_text, register_on}
 
 -- ---- fields that several layouts have
 

@@ -2,7 +2,7 @@
 use Rattle.std.specs.Prelude.{ℕ, List, [], ◌∷◌, ◌++◌, Option, Some, None, codes, ◌==◌, if◌then◌else◌}
 use Rattle.std.specs.Fmt.{decimal, signed_decimal}
 use Rattle.pdb_base.specs.declared.index.Register.{Register}
-use Rattle.pdb_records.specs.Machines.{frame_register_of, register_name_of}
+use Rattle.pdb_records.specs.Machines.{frame_register_of}
 use Rattle.pdb_records.specs.declared.code.EntryKind.{EntryKind}
 use Rattle.pdb_records.specs.declared.code.EntryKind.TheVariants as entry
 use Rattle.pdb_records.specs.declared.frames.CookieKind.{CookieKind}
@@ -13,9 +13,8 @@ use Rattle.pdb_records.specs.declared.machine.Machine.{Machine}
 use Rattle.pdb_records.specs.declared.older.Discard.{Discard}
 use Rattle.pdb_records.specs.declared.older.Discard.TheVariants as discard
 use Rattle.pdb_records.specs.declared.shared.PointerTag.{PointerTag}
-use Rattle.pdb_text.specs.Digits.{hex}
 use Rattle.pdb_tool.specs.Values.{place_text}
-use Rattle.pdb_tool.specs.ValueTexts.{name_or_number}
+use Rattle.pdb_tool.specs.ValueTexts.{register_on}
 
 -- ---- lists
 
@@ -46,15 +45,6 @@ string_text s = s
 -- where a range starts, and its length
 abbrev pub range_text : AddressRange → List ℕ
 range_text range = place_text range.start ++ codes "+" ++ decimal range.len
-
--- the name of a register's number on a machine
-abbrev pub register_name_on : Option Machine → ℕ → Option (List ℕ)
-register_name_on None n = None
-register_name_on (Some machine) n = register_name_of machine n
-
--- a register by its name on a machine; four hex digits where it has none, or no machine is known
-abbrev pub register_on : Option Machine → Register → List ℕ
-register_on machine r = name_or_number r.0 (register_name_on machine r.0)
 
 -- the register behind an encoded one of a frame
 abbrev pub frame_register_on : Option Machine → ℕ → Option Register

@@ -46,7 +46,7 @@ further_text machine b (Err e) = unread_text b e
 
 -- a record: its fields and its name. One of a kind without a layout is read as a further record
 abbrev pub parsed_text : Option Machine → List ℕ → Result Data Error → List ℕ
-parsed_text machine b (Ok d) = fields_text d ++ name_text (name_of d)
+parsed_text machine b (Ok d) = fields_text machine b d ++ name_text (name_of d)
 parsed_text machine b (Err e) = if lacks_layout e then further_text machine b (further_at b) else unread_text b e
 
 abbrev pub record_text : Option Machine → List ℕ → List ℕ

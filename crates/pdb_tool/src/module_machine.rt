@@ -22,6 +22,14 @@ fn byte_at(bytes: &[u8], at: usize) -> u8
     if at < bytes.len() { bytes[at] } else { 0 }
 }
 
+/// The number of one byte at offset 2: a language's in a record of how a module was compiled.
+#[tactic(auto, unfolding(pdb_base::specs::Fields::number))]
+pub fn byte_at_two(bytes: &[u8]) -> u8
+    ensures { result ≡ number bytes.now 2 1 }
+{
+    byte_at(bytes, 2)
+}
+
 /// The number of two bytes at offset 6: a processor's in a record of how a module was compiled.
 #[tactic(auto, unfolding(pdb_base::specs::Fields::number))]
 pub fn word_at_six(bytes: &[u8]) -> u16

@@ -25,10 +25,7 @@ use std::alloc::AllocError;
 
 /// The sizes of a frame.
 #[tactic(auto, unfolding(crate::specs::RecordTexts::frame_sizes_fields))]
-fn put_frame_sizes(
-    out: &mut Vec<u8>,
-    symbol: &FrameProcedure,
-) -> Result<(), AllocError>
+fn put_frame_sizes(out: &mut Vec<u8>, symbol: &FrameProcedure) -> Result<(), AllocError>
     ensures { OnOk result (out.new.items ≡ out.old.items ++ frame_sizes_fields symbol.now) }
 {
     put_number(out, b"frame_bytes", symbol.frame_bytes)?;
@@ -80,10 +77,7 @@ pub fn put_frame_procedure(
 
 /// How a security cookie is made.
 #[tactic(auto, unfolding(crate::specs::FieldTexts::field))]
-fn put_cookie_field(
-    out: &mut Vec<u8>,
-    cookie: CookieKind,
-) -> Result<(), AllocError>
+fn put_cookie_field(out: &mut Vec<u8>, cookie: CookieKind) -> Result<(), AllocError>
     ensures { OnOk result (out.new.items ≡ out.old.items ++ field (codes "cookie") (cookie_text cookie)) }
 {
     put_label(out, b"cookie")?;
@@ -105,10 +99,7 @@ pub fn put_frame_cookie(
 }
 
 /// The fields of an indirect call.
-pub fn put_call_site(
-    out: &mut Vec<u8>,
-    symbol: &CallSiteInfo,
-) -> Result<(), AllocError>
+pub fn put_call_site(out: &mut Vec<u8>, symbol: &CallSiteInfo) -> Result<(), AllocError>
     ensures { OnOk result (out.new.items ≡ out.old.items ++ says_text None (shown_record (further.CallSiteInfo symbol.now))) }
 {
     put_place_field(out, b"offset", symbol.offset)?;
@@ -123,16 +114,17 @@ pub fn put_heap_allocation_site(
     ensures { OnOk result (out.new.items ≡ out.old.items ++ says_text None (shown_record (further.HeapAllocationSite symbol.now))) }
 {
     put_place_field(out, b"offset", symbol.offset)?;
-    put_number(out, b"instruction_bytes", u32::from(symbol.instruction_bytes))?;
+    put_number(
+        out,
+        b"instruction_bytes",
+        u32::from(symbol.instruction_bytes),
+    )?;
     put_type(out, symbol.type_index)
 }
 
 /// The ids of functions.
 #[tactic(auto, unfolding(crate::specs::FieldTexts::field))]
-fn put_functions(
-    out: &mut Vec<u8>,
-    functions: Numbers<'_>,
-) -> Result<(), AllocError>
+fn put_functions(out: &mut Vec<u8>, functions: Numbers<'_>) -> Result<(), AllocError>
     ensures { OnOk result (out.new.items ≡ out.old.items ++ field (codes "functions") (joined_texts (hex 8) (numbers_in_list functions.entry))) }
 {
     put_label(out, b"functions")?;
@@ -141,10 +133,7 @@ fn put_functions(
 
 /// How often functions were called.
 #[tactic(auto, unfolding(crate::specs::FieldTexts::field))]
-fn put_invocations(
-    out: &mut Vec<u8>,
-    invocations: Numbers<'_>,
-) -> Result<(), AllocError>
+fn put_invocations(out: &mut Vec<u8>, invocations: Numbers<'_>) -> Result<(), AllocError>
     ensures { OnOk result (out.new.items ≡ out.old.items ++ field (codes "invocations") (joined_texts decimal (numbers_in_list invocations.entry))) }
 {
     put_label(out, b"invocations")?;
@@ -152,10 +141,7 @@ fn put_invocations(
 }
 
 /// The fields of a list of functions.
-pub fn put_function_list(
-    out: &mut Vec<u8>,
-    symbol: &FunctionList<'_>,
-) -> Result<(), AllocError>
+pub fn put_function_list(out: &mut Vec<u8>, symbol: &FunctionList<'_>) -> Result<(), AllocError>
     ensures { OnOk result (out.new.items ≡ out.old.items ++ says_text None (shown_record (further.FunctionList symbol.now))) }
 {
     put_functions(out, symbol.functions)?;
@@ -164,10 +150,7 @@ pub fn put_function_list(
 
 /// What an entry of a jump table is.
 #[tactic(auto, unfolding(crate::specs::FieldTexts::field))]
-fn put_entry_kind_field(
-    out: &mut Vec<u8>,
-    kind: EntryKind,
-) -> Result<(), AllocError>
+fn put_entry_kind_field(out: &mut Vec<u8>, kind: EntryKind) -> Result<(), AllocError>
     ensures { OnOk result (out.new.items ≡ out.old.items ++ field (codes "entry_kind") (entry_text kind)) }
 {
     put_label(out, b"entry_kind")?;
@@ -175,10 +158,7 @@ fn put_entry_kind_field(
 }
 
 /// The fields of a jump by a table.
-pub fn put_jump_table(
-    out: &mut Vec<u8>,
-    symbol: &JumpTable,
-) -> Result<(), AllocError>
+pub fn put_jump_table(out: &mut Vec<u8>, symbol: &JumpTable) -> Result<(), AllocError>
     ensures { OnOk result (out.new.items ≡ out.old.items ++ says_text None (shown_record (further.JumpTable symbol.now))) }
 {
     put_place_field(out, b"base", symbol.base)?;
@@ -189,10 +169,7 @@ pub fn put_jump_table(
 }
 
 /// The fields of an annotation.
-pub fn put_annotation(
-    out: &mut Vec<u8>,
-    symbol: &Annotation<'_>,
-) -> Result<(), AllocError>
+pub fn put_annotation(out: &mut Vec<u8>, symbol: &Annotation<'_>) -> Result<(), AllocError>
     ensures { OnOk result (out.new.items ≡ out.old.items ++ says_text None (shown_record (further.Annotation symbol.now))) }
 {
     put_place_field(out, b"offset", symbol.offset)?;
@@ -200,10 +177,7 @@ pub fn put_annotation(
 }
 
 /// The fields of a profile of a procedure.
-pub fn put_pogo_data(
-    out: &mut Vec<u8>,
-    symbol: &PogoData,
-) -> Result<(), AllocError>
+pub fn put_pogo_data(out: &mut Vec<u8>, symbol: &PogoData) -> Result<(), AllocError>
     ensures { OnOk result (out.new.items ≡ out.old.items ++ says_text None (shown_record (further.PogoData symbol.now))) }
 {
     put_number(out, b"invocations", symbol.invocations)?;

@@ -5,8 +5,8 @@ ghost use Rattle.std.specs.Fmt.{signed_decimal};
 ghost use Rattle.pdb_records.specs.RecordViews.{gaps_in, strings_in};
 ghost use Rattle.pdb_tool.specs.FieldTexts.{field};
 ghost use Rattle.pdb_tool.specs.RecordTexts.{attribute_fields, offset_field, ranged_fields, register_field, strings_field};
-ghost use Rattle.pdb_tool.specs.RecordValues.{gap_text, joined_texts, range_text, register_on};
-ghost use Rattle.pdb_tool.specs.ValueTexts.{bytes_text};
+ghost use Rattle.pdb_tool.specs.RecordValues.{gap_text, joined_texts, range_text};
+ghost use Rattle.pdb_tool.specs.ValueTexts.{bytes_text, register_on};
 
 use crate::fields::{put_label, put_place_field};
 use crate::record_flags::put_variable_flags;
@@ -20,11 +20,7 @@ use std::alloc::AllocError;
 
 /// A signed number in decimal digits.
 #[tactic(auto, unfolding(crate::specs::FieldTexts::field))]
-pub fn put_signed_field(
-    out: &mut Vec<u8>,
-    name: &[u8],
-    n: i64,
-) -> Result<(), AllocError>
+pub fn put_signed_field(out: &mut Vec<u8>, name: &[u8], n: i64) -> Result<(), AllocError>
     ensures { OnOk result (out.new.items ≡ out.old.items ++ field name.now (signed_decimal n)) }
 {
     put_label(out, name)?;
@@ -32,10 +28,7 @@ pub fn put_signed_field(
 }
 
 /// An offset from the value of a register.
-pub fn put_offset(
-    out: &mut Vec<u8>,
-    offset: i32,
-) -> Result<(), AllocError>
+pub fn put_offset(out: &mut Vec<u8>, offset: i32) -> Result<(), AllocError>
     ensures { OnOk result (out.new.items ≡ out.old.items ++ offset_field offset) }
 {
     put_signed_field(out, b"offset", i64::from(offset))
@@ -68,10 +61,7 @@ pub fn put_register(
 
 /// A range of code.
 #[tactic(auto, unfolding(crate::specs::FieldTexts::field))]
-fn put_range_field(
-    out: &mut Vec<u8>,
-    range: AddressRange,
-) -> Result<(), AllocError>
+fn put_range_field(out: &mut Vec<u8>, range: AddressRange) -> Result<(), AllocError>
     ensures { OnOk result (out.new.items ≡ out.old.items ++ field (codes "range") (range_text range)) }
 {
     put_label(out, b"range")?;
@@ -80,10 +70,7 @@ fn put_range_field(
 
 /// The gaps of a range of code.
 #[tactic(auto, unfolding(crate::specs::FieldTexts::field))]
-fn put_gaps_field(
-    out: &mut Vec<u8>,
-    gaps: Gaps<'_>,
-) -> Result<(), AllocError>
+fn put_gaps_field(out: &mut Vec<u8>, gaps: Gaps<'_>) -> Result<(), AllocError>
     ensures { OnOk result (out.new.items ≡ out.old.items ++ field (codes "gaps") (joined_texts gap_text (gaps_in gaps.entry))) }
 {
     put_label(out, b"gaps")?;
@@ -92,11 +79,7 @@ fn put_gaps_field(
 
 /// A range of code, and its gaps.
 #[tactic(auto, unfolding(crate::specs::RecordTexts::ranged_fields))]
-pub fn put_ranged(
-    out: &mut Vec<u8>,
-    range: AddressRange,
-    gaps: Gaps<'_>,
-) -> Result<(), AllocError>
+pub fn put_ranged(out: &mut Vec<u8>, range: AddressRange, gaps: Gaps<'_>) -> Result<(), AllocError>
     ensures { OnOk result (out.new.items ≡ out.old.items ++ ranged_fields range (gaps_in gaps.entry)) }
 {
     put_range_field(out, range)?;
@@ -105,10 +88,7 @@ pub fn put_ranged(
 
 /// Strings, as they stand.
 #[tactic(auto, unfolding(crate::specs::FieldTexts::field))]
-pub fn put_strings_field(
-    out: &mut Vec<u8>,
-    strings: Strings<'_>,
-) -> Result<(), AllocError>
+pub fn put_strings_field(out: &mut Vec<u8>, strings: Strings<'_>) -> Result<(), AllocError>
     ensures { OnOk result (out.new.items ≡ out.old.items ++ strings_field (strings_in strings.entry)) }
 {
     put_label(out, b"strings")?;
@@ -117,10 +97,7 @@ pub fn put_strings_field(
 
 /// Where a managed variable begins to live, and its flags.
 #[tactic(auto, unfolding(crate::specs::RecordTexts::attribute_fields))]
-pub fn put_attributes(
-    out: &mut Vec<u8>,
-    attributes: Attributes,
-) -> Result<(), AllocError>
+pub fn put_attributes(out: &mut Vec<u8>, attributes: Attributes) -> Result<(), AllocError>
     ensures { OnOk result (out.new.items ≡ out.old.items ++ attribute_fields attributes) }
 {
     put_place_field(out, b"live", attributes.live)?;
@@ -129,11 +106,7 @@ pub fn put_attributes(
 
 /// Bytes in hex digits.
 #[tactic(auto, unfolding(crate::specs::FieldTexts::field))]
-pub fn put_bytes_field(
-    out: &mut Vec<u8>,
-    name: &[u8],
-    bytes: &[u8],
-) -> Result<(), AllocError>
+pub fn put_bytes_field(out: &mut Vec<u8>, name: &[u8], bytes: &[u8]) -> Result<(), AllocError>
     ensures { OnOk result (out.new.items ≡ out.old.items ++ field name.now (bytes_text bytes.now)) }
 {
     put_label(out, name)?;

@@ -86,7 +86,10 @@ pub fn put_module_type_flags(out: &mut Vec<u8>, flags: ModuleTypeFlags) -> Resul
 
 /// What a reference into an object file is of.
 #[tactic(auto, unfolding(crate::specs::FieldTexts::field, crate::specs::RecordFlagTexts::mini_reference_flags))]
-pub fn put_mini_reference_flags(out: &mut Vec<u8>, flags: MiniReferenceFlags) -> Result<(), AllocError>
+pub fn put_mini_reference_flags(
+    out: &mut Vec<u8>,
+    flags: MiniReferenceFlags,
+) -> Result<(), AllocError>
     ensures { OnOk result (out.new.items ≡ out.old.items ++ field (codes "flags") (mini_reference_flags flags)) }
 {
     put_label(out, b"flags")?;

@@ -19,10 +19,7 @@ use pdb_records::{
 use std::alloc::AllocError;
 
 /// The fields and the name of a part of a section.
-pub fn put_coff_group(
-    out: &mut Vec<u8>,
-    symbol: &CoffGroup<'_>,
-) -> Result<(), AllocError>
+pub fn put_coff_group(out: &mut Vec<u8>, symbol: &CoffGroup<'_>) -> Result<(), AllocError>
     ensures { OnOk result (out.new.items ≡ out.old.items ++ says_text None (shown_record (further.CoffGroup symbol.now))) }
 {
     put_number(out, b"len", symbol.len)?;
@@ -33,10 +30,7 @@ pub fn put_coff_group(
 
 /// A section's number, its alignment, its address, and its length.
 #[tactic(auto, unfolding(crate::specs::RecordTexts::section_fields))]
-fn put_section_head(
-    out: &mut Vec<u8>,
-    symbol: &Section<'_>,
-) -> Result<(), AllocError>
+fn put_section_head(out: &mut Vec<u8>, symbol: &Section<'_>) -> Result<(), AllocError>
     ensures { OnOk result (out.new.items ≡ out.old.items ++ section_fields symbol.now.section symbol.now.alignment symbol.now.address symbol.now.len) }
 {
     put_number(out, b"section", u32::from(symbol.section))?;
@@ -46,10 +40,7 @@ fn put_section_head(
 }
 
 /// The fields and the name of a section.
-pub fn put_section(
-    out: &mut Vec<u8>,
-    symbol: &Section<'_>,
-) -> Result<(), AllocError>
+pub fn put_section(out: &mut Vec<u8>, symbol: &Section<'_>) -> Result<(), AllocError>
     ensures { OnOk result (out.new.items ≡ out.old.items ++ says_text None (shown_record (further.Section symbol.now))) }
 {
     put_section_head(out, symbol)?;
@@ -69,10 +60,7 @@ pub fn put_environment_block(
 }
 
 /// The fields of a record of another maker.
-pub fn put_oem(
-    out: &mut Vec<u8>,
-    symbol: &Oem<'_>,
-) -> Result<(), AllocError>
+pub fn put_oem(out: &mut Vec<u8>, symbol: &Oem<'_>) -> Result<(), AllocError>
     ensures { OnOk result (out.new.items ≡ out.old.items ++ says_text None (shown_record (further.Oem symbol.now))) }
 {
     put_bytes_field(out, b"oem", symbol.id)?;
@@ -93,10 +81,7 @@ pub fn put_module_type_reference(
 }
 
 /// The fields and the name of a reference into an object file.
-pub fn put_mini_reference(
-    out: &mut Vec<u8>,
-    symbol: &MiniReference<'_>,
-) -> Result<(), AllocError>
+pub fn put_mini_reference(out: &mut Vec<u8>, symbol: &MiniReference<'_>) -> Result<(), AllocError>
     ensures { OnOk result (out.new.items ≡ out.old.items ++ says_text None (shown_record (further.MiniReference symbol.now))) }
 {
     put_index(out, b"value", symbol.value)?;
@@ -107,10 +92,7 @@ pub fn put_mini_reference(
 
 /// Why something was discarded.
 #[tactic(auto, unfolding(crate::specs::FieldTexts::field))]
-fn put_why(
-    out: &mut Vec<u8>,
-    why: Discard,
-) -> Result<(), AllocError>
+fn put_why(out: &mut Vec<u8>, why: Discard) -> Result<(), AllocError>
     ensures { OnOk result (out.new.items ≡ out.old.items ++ field (codes "why") (discard_text why)) }
 {
     put_label(out, b"why")?;
@@ -118,10 +100,7 @@ fn put_why(
 }
 
 /// The fields of what the linker discarded.
-pub fn put_discarded(
-    out: &mut Vec<u8>,
-    symbol: &Discarded<'_>,
-) -> Result<(), AllocError>
+pub fn put_discarded(out: &mut Vec<u8>, symbol: &Discarded<'_>) -> Result<(), AllocError>
     ensures { OnOk result (out.new.items ≡ out.old.items ++ says_text None (shown_record (further.Discarded symbol.now))) }
 {
     put_why(out, symbol.why)?;
@@ -131,10 +110,7 @@ pub fn put_discarded(
 }
 
 /// The fields of an old record of how a module was compiled, and the name of the compiler.
-pub fn put_compile(
-    out: &mut Vec<u8>,
-    symbol: &Compile<'_>,
-) -> Result<(), AllocError>
+pub fn put_compile(out: &mut Vec<u8>, symbol: &Compile<'_>) -> Result<(), AllocError>
     ensures { OnOk result (out.new.items ≡ out.old.items ++ says_text None (shown_record (further.Compile symbol.now))) }
 {
     put_number(out, b"cpu", u32::from(symbol.cpu))?;
@@ -144,10 +120,7 @@ pub fn put_compile(
 }
 
 /// The fields of where a search for symbols starts.
-pub fn put_start_search(
-    out: &mut Vec<u8>,
-    symbol: &StartSearch,
-) -> Result<(), AllocError>
+pub fn put_start_search(out: &mut Vec<u8>, symbol: &StartSearch) -> Result<(), AllocError>
     ensures { OnOk result (out.new.items ≡ out.old.items ++ says_text None (shown_record (further.StartSearch symbol.now))) }
 {
     put_index(out, b"start", symbol.start.0)?;

@@ -5,7 +5,9 @@ ghost use Rattle.pdb_records.specs.RecordViews.{shown_record};
 ghost use Rattle.pdb_records.specs.declared.record.Record.TheVariants as further;
 ghost use Rattle.pdb_tool.specs.RecordTexts.{managed_fields, says_text};
 
-use crate::fields::{put_body, put_index, put_number, put_place_field, put_reference, put_scope, put_type};
+use crate::fields::{
+    put_body, put_index, put_number, put_place_field, put_reference, put_scope, put_type,
+};
 use crate::flags::put_procedure_flags;
 use crate::record_fields::{put_attributes, put_named_register, put_offset, put_register};
 use crate::values::put_behind_blank;
@@ -39,16 +41,18 @@ pub fn put_managed_procedure(
     ensures { OnOk result (out.new.items ≡ out.old.items ++ says_text machine (shown_record (further.ManagedProcedure symbol.now))) }
 {
     put_scope(out, symbol.parent, symbol.end, symbol.next)?;
-    put_body(out, symbol.len, symbol.dbg_start_offset, symbol.dbg_end_offset)?;
+    put_body(
+        out,
+        symbol.len,
+        symbol.dbg_start_offset,
+        symbol.dbg_end_offset,
+    )?;
     put_managed(out, machine, symbol)?;
     put_behind_blank(out, symbol.name.as_bytes())
 }
 
 /// The fields of a reference to a managed procedure, and the digits of its token.
-pub fn put_token_reference(
-    out: &mut Vec<u8>,
-    symbol: &TokenReference<'_>,
-) -> Result<(), AllocError>
+pub fn put_token_reference(out: &mut Vec<u8>, symbol: &TokenReference<'_>) -> Result<(), AllocError>
     ensures { OnOk result (out.new.items ≡ out.old.items ++ says_text None (shown_record (further.TokenReference symbol.now))) }
 {
     put_reference(out, symbol.sum_name, symbol.symbol_index, symbol.module)?;
@@ -56,10 +60,7 @@ pub fn put_token_reference(
 }
 
 /// The fields and the name of a managed variable in a slot.
-pub fn put_managed_slot(
-    out: &mut Vec<u8>,
-    symbol: &ManagedSlot<'_>,
-) -> Result<(), AllocError>
+pub fn put_managed_slot(out: &mut Vec<u8>, symbol: &ManagedSlot<'_>) -> Result<(), AllocError>
     ensures { OnOk result (out.new.items ≡ out.old.items ++ says_text None (shown_record (further.ManagedSlot symbol.now))) }
 {
     put_number(out, b"slot", symbol.slot)?;

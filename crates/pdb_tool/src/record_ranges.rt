@@ -11,15 +11,13 @@ use crate::fields::{put_bool, put_number, put_optional_number};
 use crate::record_fields::{put_offset, put_ranged, put_register};
 use pdb_records::{
     DefRange, DefRangeFramePointerRelative, DefRangeFramePointerRelativeFullScope,
-    DefRangeRegister, DefRangeRegisterRelative, DefRangeSubfield, DefRangeSubfieldRegister, Machine,
+    DefRangeRegister, DefRangeRegisterRelative, DefRangeSubfield, DefRangeSubfieldRegister,
+    Machine,
 };
 use std::alloc::AllocError;
 
 /// The fields of a range in which a program computes a variable.
-pub fn put_def_range(
-    out: &mut Vec<u8>,
-    symbol: &DefRange<'_>,
-) -> Result<(), AllocError>
+pub fn put_def_range(out: &mut Vec<u8>, symbol: &DefRange<'_>) -> Result<(), AllocError>
     ensures { OnOk result (out.new.items ≡ out.old.items ++ says_text None (shown_record (further.DefRange symbol.now))) }
 {
     put_number(out, b"program", symbol.program)?;
@@ -87,10 +85,7 @@ pub fn put_def_range_full_scope(
 }
 
 /// The offset of a part in its variable, or `-` for a whole variable.
-fn put_subfield(
-    out: &mut Vec<u8>,
-    subfield: Option<u16>,
-) -> Result<(), AllocError>
+fn put_subfield(out: &mut Vec<u8>, subfield: Option<u16>) -> Result<(), AllocError>
     ensures { OnOk result (out.new.items ≡ out.old.items ++ field (codes "subfield") (optional_text subfield)) }
 {
     put_optional_number(out, b"subfield", subfield.map(u32::from))

@@ -45,10 +45,7 @@ pub fn put_register_relative_old(
 }
 
 /// The fields and the name of a static variable that is kept in registers.
-pub fn put_file_static(
-    out: &mut Vec<u8>,
-    symbol: &FileStatic<'_>,
-) -> Result<(), AllocError>
+pub fn put_file_static(out: &mut Vec<u8>, symbol: &FileStatic<'_>) -> Result<(), AllocError>
     ensures { OnOk result (out.new.items ≡ out.old.items ++ says_text None (shown_record (further.FileStatic symbol.now))) }
 {
     put_type(out, symbol.type_index)?;
@@ -73,10 +70,7 @@ pub fn put_local_group_shared(
 
 /// The tags of pointers.
 #[tactic(auto, unfolding(crate::specs::FieldTexts::field))]
-pub fn put_pointer_tag_map(
-    out: &mut Vec<u8>,
-    symbol: &PointerTagMap<'_>,
-) -> Result<(), AllocError>
+pub fn put_pointer_tag_map(out: &mut Vec<u8>, symbol: &PointerTagMap<'_>) -> Result<(), AllocError>
     ensures { OnOk result (out.new.items ≡ out.old.items ++ says_text None (shown_record (further.PointerTagMap symbol.now))) }
 {
     put_label(out, b"tags")?;
@@ -84,10 +78,7 @@ pub fn put_pointer_tag_map(
 }
 
 /// The fields of a scope in which members of a variable are named alone, and the variable.
-pub fn put_with(
-    out: &mut Vec<u8>,
-    symbol: &With<'_>,
-) -> Result<(), AllocError>
+pub fn put_with(out: &mut Vec<u8>, symbol: &With<'_>) -> Result<(), AllocError>
     ensures { OnOk result (out.new.items ≡ out.old.items ++ says_text None (shown_record (further.With symbol.now))) }
 {
     put_optional_index(out, b"parent", symbol.parent)?;
@@ -110,10 +101,7 @@ pub fn put_virtual_table_path(
 }
 
 /// The fields and the name of a variable in a slot.
-pub fn put_slot(
-    out: &mut Vec<u8>,
-    symbol: &Slot<'_>,
-) -> Result<(), AllocError>
+pub fn put_slot(out: &mut Vec<u8>, symbol: &Slot<'_>) -> Result<(), AllocError>
     ensures { OnOk result (out.new.items ≡ out.old.items ++ says_text None (shown_record (further.Slot symbol.now))) }
 {
     put_number(out, b"slot", symbol.slot)?;

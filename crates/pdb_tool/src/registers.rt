@@ -2,7 +2,8 @@
 
 ghost use Rattle.std.specs.Prelude.{◌≡◌, ◌++◌, OnOk};
 ghost use Rattle.std.specs.Option.{option_map};
-ghost use Rattle.pdb_tool.specs.RecordValues.{base_text, frame_register_on, register_name_on, register_on, register_or};
+ghost use Rattle.pdb_tool.specs.RecordValues.{base_text, frame_register_on, register_or};
+ghost use Rattle.pdb_tool.specs.ValueTexts.{register_name_on, register_on};
 
 use pdb::Register;
 use pdb_records::Machine;
@@ -59,11 +60,7 @@ fn put_register_or(
 }
 
 /// An encoded register of a frame, or `-` for 0.
-pub fn put_base(
-    out: &mut Vec<u8>,
-    machine: Option<Machine>,
-    encoded: u8,
-) -> Result<(), AllocError>
+pub fn put_base(out: &mut Vec<u8>, machine: Option<Machine>, encoded: u8) -> Result<(), AllocError>
     ensures { OnOk result (out.new.items ≡ out.old.items ++ base_text machine encoded) }
 {
     if encoded == 0 {

@@ -56,24 +56,25 @@ fn put_kind(out: &mut Vec<u8>, kind: u16) -> Result<(), AllocError>
 /// The fields of what the record of a symbol says.
 fn put_fields(
     out: &mut Vec<u8>,
+    machine: Option<Machine>,
     symbol: &Symbol<'_>,
     parsed: &SymbolData<'_>,
 ) -> Result<(), AllocError>
     requires { Is (symbol_of symbol.now).bytes (shown parsed.now) }
-    ensures { OnOk result (out.new.items ≡ out.old.items ++ fields_text (shown parsed.now)) }
+    ensures { OnOk result (out.new.items ≡ out.old.items ++ fields_text machine (symbol_of symbol.now).bytes (shown parsed.now)) }
 {
     match parsed {
         SymbolData::ScopeEnd | SymbolData::InlineSiteEnd | SymbolData::ProcedureEnd => Ok(()),
         SymbolData::ObjName(s) => put_number(out, b"signature", s.signature),
-        SymbolData::RegisterVariable(s) => put_register_variable(out, s),
+        SymbolData::RegisterVariable(s) => put_register_variable(out, machine, s),
         SymbolData::Constant(s) => put_constant(out, s),
         SymbolData::UserDefinedType(s) => put_type(out, s.type_index),
-        SymbolData::MultiRegisterVariable(s) => put_multi_register_variable(out, s),
+        SymbolData::MultiRegisterVariable(s) => put_multi_register_variable(out, machine, s),
         SymbolData::Data(s) => put_data(out, s),
         SymbolData::Public(s) => put_public(out, s),
         SymbolData::Procedure(s) => put_procedure(out, s),
         SymbolData::ThreadStorage(s) => put_thread_storage(out, s),
-        SymbolData::CompileFlags(s) => put_compile_flags_symbol(out, s),
+        SymbolData::CompileFlags(s) => put_compile_flags_symbol(out, symbol, s),
         SymbolData::UsingNamespace(_) => Ok(()),
         SymbolData::ProcedureReference(s) => put_procedure_reference(out, s),
         SymbolData::DataReference(s) => put_reference(out, s.sum_name, s.symbol_index, s.module),
@@ -82,12 +83,12 @@ fn put_fields(
         }
         SymbolData::Trampoline(s) => put_trampoline_symbol(out, s),
         SymbolData::Export(s) => put_export(out, s),
-        SymbolData::Local(s) => put_local(out, s),
+        SymbolData::Local(s) => put_local(out, symbol, s),
         SymbolData::BuildInfo(s) => put_index(out, b"id", s.id.0),
         SymbolData::InlineSite(s) => put_inline_site(out, symbol, s),
         SymbolData::Label(s) => put_label_symbol(out, s),
         SymbolData::Block(s) => put_block(out, s),
-        SymbolData::RegisterRelative(s) => put_register_relative(out, s),
+        SymbolData::RegisterRelative(s) => put_register_relative(out, machine, s),
         SymbolData::Thunk(s) => put_thunk(out, s),
         SymbolData::SeparatedCode(s) => put_separated_code(out, s),
     }
@@ -106,13 +107,14 @@ fn put_name(out: &mut Vec<u8>, name: Option<RawString<'_>>) -> Result<(), AllocE
 /// What the record of a symbol says: its fields and its name.
 fn put_says(
     out: &mut Vec<u8>,
+    machine: Option<Machine>,
     symbol: &Symbol<'_>,
     parsed: &SymbolData<'_>,
 ) -> Result<(), AllocError>
     requires { Is (symbol_of symbol.now).bytes (shown parsed.now) }
-    ensures { OnOk result (out.new.items ≡ out.old.items ++ (fields_text (shown parsed.now) ++ name_text (name_of (shown parsed.now)))) }
+    ensures { OnOk result (out.new.items ≡ out.old.items ++ (fields_text machine (symbol_of symbol.now).bytes (shown parsed.now) ++ name_text (name_of (shown parsed.now)))) }
 {
-    put_fields(out, symbol, parsed)?;
+    put_fields(out, machine, symbol, parsed)?;
     put_name(out, parsed.name())
 }
 
@@ -189,7 +191,7 @@ fn put_record(
     ensures { OnOk result (out.new.items ≡ out.old.items ++ record_text machine (symbol_of symbol.now).bytes) }
 {
     match symbol.parse(alloc) {
-        Ok(parsed) => put_says(out, symbol, &parsed),
+        Ok(parsed) => put_says(out, machine, symbol, &parsed),
         Err(e) => put_unparsed(out, machine, symbol, e),
     }
 }

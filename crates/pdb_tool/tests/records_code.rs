@@ -259,3 +259,85 @@ fn records_that_are_not_read(rt: HostRuntime) -> Result<(), Fail> {
     }
     Ok(())
 }
+
+#[test]
+fn processors_and_languages(rt: HostRuntime) -> Result<(), Fail> {
+    let rows: [(&[u8], &str); 18] = [
+        (
+            b"\x3c\x11\x00\x00\x00\x00\xf6\x00\x01\x00\x02\x00\x03\x00\x04\x00\x05\x00\x06\x00\x07\x00\x08\x00\x63\x00",
+            "S_COMPILE3 language=C flags=- cpu_type=ARM64 frontend_version=1.2.3.4 backend_version=5.6.7.8 version_string=c",
+        ),
+        (
+            b"\x3c\x11\x00\x00\x00\x00\xf7\x00\x01\x00\x02\x00\x03\x00\x04\x00\x05\x00\x06\x00\x07\x00\x08\x00\x63\x00",
+            "S_COMPILE3 language=C flags=- cpu_type=HybridX86ARM64 frontend_version=1.2.3.4 backend_version=5.6.7.8 version_string=c",
+        ),
+        (
+            b"\x3c\x11\x00\x00\x00\x00\xf8\x00\x01\x00\x02\x00\x03\x00\x04\x00\x05\x00\x06\x00\x07\x00\x08\x00\x63\x00",
+            "S_COMPILE3 language=C flags=- cpu_type=ARM64EC frontend_version=1.2.3.4 backend_version=5.6.7.8 version_string=c",
+        ),
+        (
+            b"\x3c\x11\x00\x00\x00\x00\xf9\x00\x01\x00\x02\x00\x03\x00\x04\x00\x05\x00\x06\x00\x07\x00\x08\x00\x63\x00",
+            "S_COMPILE3 language=C flags=- cpu_type=ARM64X frontend_version=1.2.3.4 backend_version=5.6.7.8 version_string=c",
+        ),
+        (
+            b"\x3c\x11\x00\x00\x00\x00\xff\x00\x01\x00\x02\x00\x03\x00\x04\x00\x05\x00\x06\x00\x07\x00\x08\x00\x63\x00",
+            "S_COMPILE3 language=C flags=- cpu_type=Unknown frontend_version=1.2.3.4 backend_version=5.6.7.8 version_string=c",
+        ),
+        (
+            b"\x3c\x11\x00\x00\x00\x00\x69\x00\x01\x00\x02\x00\x03\x00\x04\x00\x05\x00\x06\x00\x07\x00\x08\x00\x63\x00",
+            "S_COMPILE3 language=C flags=- cpu_type=0069 frontend_version=1.2.3.4 backend_version=5.6.7.8 version_string=c",
+        ),
+        (
+            b"\x3c\x11\x00\x00\x00\x00\x07\x00\x01\x00\x02\x00\x03\x00\x04\x00\x05\x00\x06\x00\x07\x00\x08\x00\x63\x00",
+            "S_COMPILE3 language=C flags=- cpu_type=Pentium3 frontend_version=1.2.3.4 backend_version=5.6.7.8 version_string=c",
+        ),
+        (
+            b"\x3c\x11\x00\x00\x00\x00\xcd\xab\x01\x00\x02\x00\x03\x00\x04\x00\x05\x00\x06\x00\x07\x00\x08\x00\x63\x00",
+            "S_COMPILE3 language=C flags=- cpu_type=abcd frontend_version=1.2.3.4 backend_version=5.6.7.8 version_string=c",
+        ),
+        (
+            b"\x3c\x11\x11\x00\x00\x00\xd0\x00\x01\x00\x02\x00\x03\x00\x04\x00\x05\x00\x06\x00\x07\x00\x08\x00\x63\x00",
+            "S_COMPILE3 language=ObjC flags=- cpu_type=X64 frontend_version=1.2.3.4 backend_version=5.6.7.8 version_string=c",
+        ),
+        (
+            b"\x3c\x11\x12\x00\x00\x00\xd0\x00\x01\x00\x02\x00\x03\x00\x04\x00\x05\x00\x06\x00\x07\x00\x08\x00\x63\x00",
+            "S_COMPILE3 language=ObjCpp flags=- cpu_type=X64 frontend_version=1.2.3.4 backend_version=5.6.7.8 version_string=c",
+        ),
+        (
+            b"\x3c\x11\x13\x00\x00\x00\xd0\x00\x01\x00\x02\x00\x03\x00\x04\x00\x05\x00\x06\x00\x07\x00\x08\x00\x63\x00",
+            "S_COMPILE3 language=Swift flags=- cpu_type=X64 frontend_version=1.2.3.4 backend_version=5.6.7.8 version_string=c",
+        ),
+        (
+            b"\x3c\x11\x14\x00\x00\x00\xd0\x00\x01\x00\x02\x00\x03\x00\x04\x00\x05\x00\x06\x00\x07\x00\x08\x00\x63\x00",
+            "S_COMPILE3 language=AliasObj flags=- cpu_type=X64 frontend_version=1.2.3.4 backend_version=5.6.7.8 version_string=c",
+        ),
+        (
+            b"\x3c\x11\x15\x00\x00\x00\xd0\x00\x01\x00\x02\x00\x03\x00\x04\x00\x05\x00\x06\x00\x07\x00\x08\x00\x63\x00",
+            "S_COMPILE3 language=Rust flags=- cpu_type=X64 frontend_version=1.2.3.4 backend_version=5.6.7.8 version_string=c",
+        ),
+        (
+            b"\x3c\x11\x16\x00\x00\x00\xd0\x00\x01\x00\x02\x00\x03\x00\x04\x00\x05\x00\x06\x00\x07\x00\x08\x00\x63\x00",
+            "S_COMPILE3 language=Go flags=- cpu_type=X64 frontend_version=1.2.3.4 backend_version=5.6.7.8 version_string=c",
+        ),
+        (
+            b"\x3c\x11\x44\x00\x00\x00\xd0\x00\x01\x00\x02\x00\x03\x00\x04\x00\x05\x00\x06\x00\x07\x00\x08\x00\x63\x00",
+            "S_COMPILE3 language=D flags=- cpu_type=X64 frontend_version=1.2.3.4 backend_version=5.6.7.8 version_string=c",
+        ),
+        (
+            b"\x3c\x11\x53\x00\x00\x00\xd0\x00\x01\x00\x02\x00\x03\x00\x04\x00\x05\x00\x06\x00\x07\x00\x08\x00\x63\x00",
+            "S_COMPILE3 language=OldSwift flags=- cpu_type=X64 frontend_version=1.2.3.4 backend_version=5.6.7.8 version_string=c",
+        ),
+        (
+            b"\x3c\x11\x17\x00\x00\x00\xd0\x00\x01\x00\x02\x00\x03\x00\x04\x00\x05\x00\x06\x00\x07\x00\x08\x00\x63\x00",
+            "S_COMPILE3 language=17 flags=- cpu_type=X64 frontend_version=1.2.3.4 backend_version=5.6.7.8 version_string=c",
+        ),
+        (
+            b"\x3c\x11\xfe\x00\x00\x00\xd0\x00\x01\x00\x02\x00\x03\x00\x04\x00\x05\x00\x06\x00\x07\x00\x08\x00\x63\x00",
+            "S_COMPILE3 language=fe flags=- cpu_type=X64 frontend_version=1.2.3.4 backend_version=5.6.7.8 version_string=c",
+        ),
+    ];
+    for (record, wanted) in rows {
+        line_on(&rt, rt.alloc(), None, record, wanted)?;
+    }
+    Ok(())
+}
