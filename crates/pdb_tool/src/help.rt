@@ -141,9 +141,10 @@ pdb_tool symbols [--all] FILE [K..]
 
 Prints the symbol records of the modules with these indices, counted from 0, with --all those of
 all modules, or else the global symbols. Each record is indented by its scopes, as by scopes: its
-index in hex, its kind as cvinfo.h names it, its fields, and its name. A record of a kind that
-isn't read is printed as its bytes, a damaged one as `error N` and its bytes. Several modules are
-printed as by lines.
+index in hex, its kind as cvinfo.h names it, its fields, and its name. Registers have their names
+on the machine that the module names, or else the file. A record of a kind that isn't read is
+printed as its bytes, a damaged one as `error N` and its bytes. Several modules are printed as by
+lines.
 
   $ pdb_tool symbols app.pdb
   00000000 S_PUB32 code=false function=true managed=false msil=false offset=0001:00000100 main
