@@ -50,7 +50,7 @@ mod record_ranges;
 mod record_texts;
 mod record_values;
 mod record_variables;
-mod registers;
+mod register_names;
 mod report;
 mod resolve;
 mod scope_texts;

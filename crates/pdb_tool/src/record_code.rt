@@ -15,7 +15,7 @@ use crate::record_fields::{put_offset, put_register, put_signed_field, put_strin
 use crate::record_flags::put_frame_flags;
 use crate::record_lists::{put_counts, put_ids};
 use crate::record_values::{put_cookie, put_entry_kind};
-use crate::registers::put_base;
+use crate::register_names::put_base;
 use crate::values::put_behind_blank;
 use pdb_records::{
     Annotation, CallSiteInfo, CookieKind, EntryKind, FrameCookie, FrameProcedure, FunctionList,

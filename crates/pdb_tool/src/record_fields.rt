@@ -12,7 +12,7 @@ use crate::fields::{put_label, put_place_field};
 use crate::record_flags::put_variable_flags;
 use crate::record_lists::{put_gaps, put_strings};
 use crate::record_values::put_range;
-use crate::registers::put_register_name;
+use crate::register_names::put_register_name;
 use crate::values_forms::{put_bytes, put_signed};
 use pdb::Register;
 use pdb_records::{AddressRange, Attributes, Gaps, Machine, Strings};

@@ -31,11 +31,11 @@ use std::alloc::AllocError;
 pub fn put_record_says(
     out: &mut Vec<u8>,
     machine: Option<Machine>,
-    record: &Record<'_>,
+    parsed: &Record<'_>,
 ) -> Result<(), AllocError>
-    ensures { OnOk result (out.new.items ≡ out.old.items ++ says_text machine (shown_record record.now)) }
+    ensures { OnOk result (out.new.items ≡ out.old.items ++ says_text machine (shown_record parsed.now)) }
 {
-    match record {
+    match parsed {
         Record::FrameProcedure(s) => put_frame_procedure(out, machine, s),
         Record::BasePointerRelative(s) => put_base_pointer_relative(out, s),
         Record::DefRange(s) => put_def_range(out, s),

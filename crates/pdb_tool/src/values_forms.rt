@@ -7,7 +7,7 @@ ghost use Rattle.pdb_symbols.specs.declared.thunks.ThunkKind.TheVariants as does
 ghost use Rattle.pdb_text.specs.Digits.{hex};
 ghost use Rattle.pdb_tool.specs.ValueTexts.{bytes_text, language_text, more_registers, processor_text, qfe_text, register_text, registers_text, thunk_text, trampoline_text, variant_text, version_text};
 
-use crate::registers::put_register_name;
+use crate::register_names::put_register_name;
 use pdb::{
     CompilerVersion, RawString, Register, ThunkAdjustor, ThunkKind, TrampolineType, Variant,
 };
