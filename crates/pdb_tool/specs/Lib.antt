@@ -20,6 +20,10 @@ pub mod KindNames
 pub mod Flags
 pub mod ValueTexts
 pub mod FieldTexts
+pub mod RecordFlagTexts
+pub mod RecordValues
+pub mod RecordTexts
+pub mod ModuleMachines
 pub mod SymbolTexts
 pub mod SectionTexts
 pub mod SourceTexts

@@ -14,6 +14,8 @@ mod modules;
 mod objects;
 mod options;
 mod parts;
+mod records;
+mod records_code;
 mod streams;
 mod wanted;
 mod work;
