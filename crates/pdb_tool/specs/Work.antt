@@ -56,7 +56,7 @@ task_of (work.Modules form f) = modules form (operand_view f)
 task_of (work.Sections form f) = sections form (operand_view f)
 task_of (work.Streams form f) = streams form (operand_view f)
 
--- a task with what operands are, or the place of the first that is none
+-- a task with the values of operands, or the index of the first that has none
 abbrev pub given : {A : Type 0} → (List A → Task) → Result (List A) ℕ → Result Task ℕ
 given make (Ok xs) = Ok (make xs)
 given make (Err p) = Err p
@@ -93,7 +93,7 @@ abbrev pub sourced : WordAt → List WordAt → ℕ → Result Task ℕ
 sourced f [] n = Err n
 sourced f (w ∷ ws) n = given (wheres f) (all_in source_of (w ∷ ws))
 
--- a command of a file and further operands; n is the number of words
+-- a command of a file and further operands; n is the number of arguments
 abbrev pub over_file : Topic → Options → WordAt → List WordAt → ℕ → Result Task ℕ
 over_file topic.Resolve o f rest n = judged (resolve o f rest) (all_in (question_of (judging o)) rest)
 over_file topic.Lines o f rest n = given (lines f) (all_in number_in rest)
@@ -127,6 +127,6 @@ task_for words (Ok request.ListHelp) = Ok list_help
 task_for words (Ok request.Version) = Ok version
 task_for words (Ok (request.Run t o)) = over_operands t o (operands_of Word (drop 1 words) 1) (length words)
 
--- the work that arguments ask for, or the place of the one that is wrong: their number where one is missing
+-- the work of arguments, or the index of the one that is wrong: their number where one is missing
 unfoldable pub work_of : List (List ℕ) → Result Task ℕ
 work_of words = task_for words (request_in words)

@@ -8,7 +8,7 @@ ghost use Rattle.pdb_tool.specs.Words.{Tells};
 use crate::asked::{address_number, is_all_hex};
 use crate::words::{Topic, WordsError};
 
-/// What names the PDB that is wanted: an option, by its place among the program's words, counted from 0.
+/// What names the PDB that is wanted: an option, by its index among the program's arguments, counted from 0.
 #[derive(Clone, Copy, Debug, PartialEq, Eq)]
 pub enum Wanted {
     /// `--key=KEY`: the one of this key.
@@ -75,14 +75,14 @@ pub struct Given {
     has_file: bool,
 }
 
-/// Whether a word is an option's.
+/// Whether an argument is an option's.
 pub fn is_option(word: &[u8]) -> bool
     ensures { result ≡ is_option word.now }
 {
     word.starts_with(b"--")
 }
 
-/// Whether a word is the option whose value is the word behind it.
+/// Whether an argument is the option whose value is the argument behind it.
 pub fn is_base(word: &[u8]) -> bool
     ensures { result ≡ is_base word.now }
 {
@@ -96,7 +96,7 @@ pub fn is_dashes(word: &[u8]) -> bool
     word == b"--".as_slice()
 }
 
-/// With the next word as the base; none where there is a base.
+/// With the next argument as the base; none where there is a base.
 fn wanting_base(given: Given) -> Option<Given>
     ensures { result ≡ wanting_base given }
 {
@@ -109,7 +109,7 @@ fn wanting_base(given: Given) -> Option<Given>
     })
 }
 
-/// With this base; none where there is one, or where a word is no number.
+/// With this base; none where there is one, or where an argument is no number.
 fn with_base(given: Given, base: Option<u64>) -> Option<Given>
     ensures { result ≡ with_base given base }
 {
@@ -127,7 +127,7 @@ fn with_base(given: Given, base: Option<u64>) -> Option<Given>
     })
 }
 
-/// Whether a word is a key: 33 to 40 hex digits.
+/// Whether an argument is a key: 33 to 40 hex digits.
 fn is_key(word: &[u8]) -> bool
     ensures { result ≡ is_key word.now }
 {
@@ -282,8 +282,8 @@ fn is_value(next: Next) -> bool
     }
 }
 
-/// The options of a command, of whose words the first stands at `place` among the program's words. One of the words has
-/// to name a file.
+/// The options of a command, of whose arguments the first has the index `place` among the program's. One of them has to
+/// name a file.
 #[tactic(auto, using(crate::proofs::OptionWords::bad_there, crate::proofs::OptionWords::begins, crate::proofs::OptionWords::ends, crate::proofs::OptionWords::one_more))]
 pub fn options_in(topic: Topic, words: &[String], place: usize) -> Result<Options, WordsError>
     requires { place + length words.now < 2 ^ 64 }

@@ -17,12 +17,12 @@ pub enum Answer<'w> {
     Object(&'w [u8]),
 }
 
-/// What is asked for, and how it is written.
+/// An address, and how its code is written.
 #[derive(Clone, Copy, Debug)]
 pub struct Question<'w> {
     /// How it is written.
     pub answer: Answer<'w>,
-    /// What it asks for.
+    /// The address.
     pub asked: Asked,
 }
 
@@ -37,7 +37,7 @@ fn answer_of(options: Options, word: &[u8]) -> Answer<'_>
     }
 }
 
-/// What a word asks for; none where it is no address.
+/// The address that an argument is, and how its code is written; none where it is no address.
 #[tactic(auto, unfolding(crate::specs::Questions::question_of))]
 pub fn question_of(options: Options, word: &[u8]) -> Option<Question<'_>>
     ensures { option_map question_view result ≡ question_of options word.now }
