@@ -54,7 +54,7 @@ pub enum FileText<'a> {
 impl FileText<'_> {
     /// The form in which errors are written.
     pub fn form(self) -> Form
-        ensures { result ≡ form_of self }
+        ensures { result ≡ form_of self.entry }
     {
         match self {
             FileText::Modules(form) | FileText::Sections(form) | FileText::Streams(form) => form,
