@@ -62,6 +62,10 @@ managed_fields machine token offset flags return_register =
     field (codes "token") (hex 8 token) ++ place_field offset ++ field (codes "flags") (procedure_flags flags)
     ++ field (codes "return_register") (register_on machine return_register)
 
+-- how many instructions a procedure has, and how many of them are live
+unfoldable pub instruction_fields : ℕ → ℕ → List ℕ
+instruction_fields instructions live = field (codes "instructions") (decimal instructions) ++ field (codes "live_instructions") (decimal live)
+
 -- ---- the text of each layout, with registers by their names on a machine
 
 abbrev pub says_text : Option Machine → Says → List ℕ
@@ -96,7 +100,7 @@ says_text machine (EnvironmentBlock rev strings) = field (codes "flags") (enviro
 says_text machine (Annotation offset strings) = place_field offset ++ strings_field strings
 says_text machine (Pogo s) =
     field (codes "invocations") (decimal s.invocations) ++ field (codes "dynamic_count") (signed_decimal s.dynamic_count)
-    ++ field (codes "instructions") (decimal s.instructions) ++ field (codes "live_instructions") (decimal s.live_instructions)
+    ++ instruction_fields s.instructions s.live_instructions
 says_text machine (HotPatchFunction id name) = field (codes "id") (hex 8 id.0) ++ behind_blank name
 says_text machine (ManagedProcedure s) = scope_fields s.parent s.end s.next ++ body_fields s.len s.dbg_start_offset s.dbg_end_offset ++ managed_fields machine s.token s.offset s.flags s.return_register ++ behind_blank s.name
 says_text machine (TokenReference sum_name symbol_index of_module name) = reference_fields sum_name symbol_index of_module ++ behind_blank name

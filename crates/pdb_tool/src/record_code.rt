@@ -4,10 +4,10 @@ ghost use Rattle.std.specs.Prelude.{◌≡◌, ◌++◌, codes, None, OnOk};
 ghost use Rattle.pdb_records.specs.RecordViews.{shown_record};
 ghost use Rattle.pdb_records.specs.declared.record.Record.TheVariants as further;
 ghost use Rattle.pdb_records.specs.RecordViews.{numbers_in_list};
-ghost use Rattle.std.specs.Fmt.{decimal};
+ghost use Rattle.std.specs.Fmt.{decimal, signed_decimal};
 ghost use Rattle.pdb_text.specs.Digits.{hex};
 ghost use Rattle.pdb_tool.specs.FieldTexts.{field};
-ghost use Rattle.pdb_tool.specs.RecordTexts.{bases_fields, frame_sizes_fields, says_text};
+ghost use Rattle.pdb_tool.specs.RecordTexts.{bases_fields, frame_sizes_fields, instruction_fields, says_text};
 ghost use Rattle.pdb_tool.specs.RecordValues.{base_text, cookie_text, entry_text, joined_texts};
 
 use crate::fields::{put_index, put_label, put_number, put_place_field, put_type};
@@ -176,14 +176,36 @@ pub fn put_annotation(out: &mut Vec<u8>, symbol: &Annotation<'_>) -> Result<(), 
     put_strings_field(out, symbol.strings)
 }
 
+/// How many instructions a procedure has, and how many of them are live.
+#[tactic(auto, unfolding(crate::specs::RecordTexts::instruction_fields))]
+fn put_instructions(out: &mut Vec<u8>, instructions: u32, live: u32) -> Result<(), AllocError>
+    ensures { OnOk result (out.new.items ≡ out.old.items ++ instruction_fields instructions live) }
+{
+    put_number(out, b"instructions", instructions)?;
+    put_number(out, b"live_instructions", live)
+}
+
+/// How often a procedure was called.
+fn put_call_count(out: &mut Vec<u8>, count: u32) -> Result<(), AllocError>
+    ensures { OnOk result (out.new.items ≡ out.old.items ++ field (codes "invocations") (decimal count)) }
+{
+    put_number(out, b"invocations", count)
+}
+
+/// How many instructions were run in a procedure.
+fn put_dynamic_count(out: &mut Vec<u8>, count: i64) -> Result<(), AllocError>
+    ensures { OnOk result (out.new.items ≡ out.old.items ++ field (codes "dynamic_count") (signed_decimal count)) }
+{
+    put_signed_field(out, b"dynamic_count", count)
+}
+
 /// The fields of a profile of a procedure.
 pub fn put_pogo_data(out: &mut Vec<u8>, symbol: &PogoData) -> Result<(), AllocError>
     ensures { OnOk result (out.new.items ≡ out.old.items ++ says_text None (shown_record (further.PogoData symbol.now))) }
 {
-    put_number(out, b"invocations", symbol.invocations)?;
-    put_signed_field(out, b"dynamic_count", symbol.dynamic_count)?;
-    put_number(out, b"instructions", symbol.instructions)?;
-    put_number(out, b"live_instructions", symbol.live_instructions)
+    put_call_count(out, symbol.invocations)?;
+    put_dynamic_count(out, symbol.dynamic_count)?;
+    put_instructions(out, symbol.instructions, symbol.live_instructions)
 }
 
 /// The id and the name of a function that can be patched.
