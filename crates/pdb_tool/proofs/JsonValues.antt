@@ -1,7 +1,7 @@
 -- JSON values of names and of frames.
 use Rattle.std.proofs.Common.{◌≡◌, ℕ, ◌<◌, List, [], ◌∷◌, ◌++◌, append_assoc, flat_map, length, refl, sym, ap, ◌∙◌, arith}
 use Rattle.json.specs.Json.{null}
-use Rattle.json.specs.Token.{Token, end_array}
+use Rattle.json.specs.Token.{end_array}
 use Rattle.json.specs.Tree.{items_tokens, json_tokens}
 use Rattle.pdb_resolve.specs.Frames.{Frame}
 use Rattle.pdb_tool.specs.FrameObjects.{frame_items, frame_value}

@@ -3,11 +3,9 @@ use Rattle.std.specs.Prelude.{ℕ, ℤ, Bool, List, [], ◌++◌, Option, codes}
 use Rattle.std.specs.Fmt.{decimal, signed_decimal}
 use Rattle.pdb_base.specs.declared.index.PdbInternalSectionOffset.{PdbInternalSectionOffset}
 use Rattle.pdb_base.specs.declared.index.Register.{Register}
-use Rattle.pdb_base.specs.declared.index.TypeIndex.{TypeIndex}
 use Rattle.pdb_symbols.specs.declared.flags.ProcedureFlags.{ProcedureFlags}
 use Rattle.pdb_records.specs.RecordSays.{Says}
 use Rattle.pdb_records.specs.RecordSays.Says.{FrameProcedure, BasePointerRelative, DefRange, DefRangeSubfield, DefRangeRegister, DefRangeFramePointerRelative, DefRangeSubfieldRegister, DefRangeFramePointerRelativeFullScope, DefRangeRegisterRelative, FileStatic, FrameCookieSays, CallSite, HeapAllocation, FunctionList, Jumps, CoffGroup, Section, EnvironmentBlock, Annotation, Pogo, HotPatchFunction, ManagedProcedure, TokenReference, Oem, LocalGroupShared, PointerTagMap, RegisterRelativeOld, With, TablePath, TypeReference, MiniReference, Discarded, Compile, Search, EndOfArguments, Slot, ManagedSlot, ManagedFrameRelative, ManagedRegister, ManagedRegisterRelative}
-use Rattle.pdb_records.specs.declared.flags.VariableFlags.{VariableFlags}
 use Rattle.pdb_records.specs.declared.frames.FrameProcedure.{FrameProcedure as FrameProcedureSays}
 use Rattle.pdb_records.specs.declared.lists.AddressGap.{AddressGap}
 use Rattle.pdb_records.specs.declared.lists.AddressRange.{AddressRange}

@@ -1,6 +1,7 @@
 use Rattle.std.proofs.Common.{◌≡◌, ℕ, List, [], ◌∷◌, length, refl, arith}
 use Rattle.std.proofs.lemmas.Grind.{common_steps}
-use Rattle.std.specs.Prelude.{OnErr}
+use Rattle.std.specs.Prelude.{OnErr, OnOk}
+use Rattle.std.specs.Io.KnownBytes.{Appends}
 use Rattle.pdb_text.specs.Written.{WroteFront}
 use Rattle.pdb_tool.specs.ModuleTexts.{places_text, symbols_command}
 use Rattle.pdb_tool.specs.ModuleMachines.{file_machine}
@@ -16,3 +17,9 @@ returns-else-is_empty-clause-front g c =
     let some : length c.args.places.now ≡ 0 → ⊥ = λ e. grind (arith, common_steps, e) in
     some_places (λ t. OnErr c.write_places.result (WroteFront (g.W.Write.contents c.args.out.now) (g.W.Write.contents c.write_places.new.out) t)) c.args.pdb.now.file c.args.places.now some
     (rw (c.in_ok-header.ensures.is, c.machine_of_file.ensures.continues.file) at c.write_places.ensures.front)
+
+pub returns-else-is_empty-clause-ok : goal.returns-else-is_empty-clause-ok
+returns-else-is_empty-clause-ok g c =
+    let some : length c.args.places.now ≡ 0 → ⊥ = λ e. grind (arith, common_steps, e) in
+    some_places (λ t. OnOk c.write_places.result (Appends (g.W.Write.contents c.args.out.now) (g.W.Write.contents c.write_places.new.out) t)) c.args.pdb.now.file c.args.places.now some
+    (rw (c.in_ok-header.ensures.is, c.machine_of_file.ensures.continues.file) at c.write_places.ensures.ok)
