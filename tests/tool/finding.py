@@ -25,9 +25,9 @@ USAGES = {
     "find": b"usage: pdb_tool find FILE NAME..\n",
     "where": b"usage: pdb_tool where FILE SOURCE[:LINE[-LINE]]..\n",
     "sources": b"usage: pdb_tool sources FILE [K..]\n",
-    "modules": b"usage: pdb_tool modules FILE\n",
-    "sections": b"usage: pdb_tool sections FILE\n",
-    "streams": b"usage: pdb_tool streams FILE\n",
+    "modules": b"usage: pdb_tool modules [--json] FILE\n",
+    "sections": b"usage: pdb_tool sections [--json] FILE\n",
+    "streams": b"usage: pdb_tool streams [--json] FILE\n",
 }
 EVERYTHING = {"find": ["*"], "where": ["a.c", "tour.c", "tour.h"], "sources": [], "modules": [], "sections": [], "streams": []}
 DAMAGED = 2000

@@ -19,3 +19,5 @@ pub mod PlacesTexts
 pub mod StreamOrder
 pub mod StreamFilters
 pub mod StreamNames
+pub mod JsonValues
+pub mod ReadBack

@@ -2,6 +2,7 @@
 -- record's layout, and those that the kind tells last.
 use Rattle.std.specs.Prelude.{ℕ, Bool, List, [], ◌++◌, Option, codes}
 use Rattle.std.specs.Fmt.{decimal, signed_decimal}
+use Rattle.pdb_base.specs.Fields.{number}
 use Rattle.pdb_base.specs.declared.index.IdIndex.{IdIndex}
 use Rattle.pdb_base.specs.declared.index.PdbInternalSectionOffset.{PdbInternalSectionOffset}
 use Rattle.pdb_base.specs.declared.index.SymbolIndex.{SymbolIndex}
@@ -9,16 +10,13 @@ use Rattle.pdb_base.specs.declared.index.TypeIndex.{TypeIndex}
 use Rattle.pdb_symbols.specs.declared.compilers.CompilerVersion.{CompilerVersion}
 use Rattle.pdb_symbols.specs.declared.flags.CompileFlags.{CompileFlags}
 use Rattle.pdb_symbols.specs.declared.flags.ProcedureFlags.{ProcedureFlags}
-use Rattle.pdb_symbols.specs.declared.language.SourceLanguage.{SourceLanguage}
-use Rattle.pdb_symbols.specs.declared.processor.CPUType.{CPUType}
 use Rattle.pdb_symbols.specs.Data.{Data}
 use Rattle.pdb_symbols.specs.Data.Data.{ScopeEnd, ObjName, RegisterVariable, Constant, UserDefinedType, MultiRegisterVariable, DataItem, Public, Procedure, ThreadStorage, Compiler, UsingNamespace, ProcedureReference, DataReference, AnnotationReference, Trampoline, Export, Local, BuildInfo, InlineSite, InlineSiteEnd, ProcedureEnd, Label, Block, RegisterRelative, Thunk, SeparatedCode}
-use Rattle.pdb_symbols.specs.Languages.{language_text}
-use Rattle.pdb_symbols.specs.Processors.{cpu_text}
+use Rattle.pdb_records.specs.declared.machine.Machine.{Machine}
 use Rattle.pdb_text.specs.Digits.{hex}
 use Rattle.pdb_tool.specs.Flags.{procedure_flags, compile_flags, local_flags, export_flags, separated_code_flags}
 use Rattle.pdb_tool.specs.Values.{place_text, optional_text}
-use Rattle.pdb_tool.specs.ValueTexts.{bool_text, optional_index_text, variant_text, version_text, trampoline_text, thunk_text, registers_text, bytes_text}
+use Rattle.pdb_tool.specs.ValueTexts.{bool_text, language_text, optional_index_text, processor_text, register_on, variant_text, version_text, trampoline_text, thunk_text, registers_text, bytes_text}
 
 -- the name of a field between a blank and `=`
 unfoldable pub label : List ℕ → List ℕ
@@ -59,42 +57,43 @@ typed_fields type_index offset flags = type_field type_index ++ place_field offs
 unfoldable pub site_fields : Option SymbolIndex → SymbolIndex → IdIndex → List ℕ
 site_fields parent end inlinee = field (codes "parent") (optional_index_text parent) ++ field (codes "end") (hex 8 end.0) ++ field (codes "inlinee") (hex 8 inlinee.0)
 
-unfoldable pub compiled_fields : SourceLanguage → CompileFlags → CPUType → List ℕ
-compiled_fields language flags cpu_type = field (codes "language") (language_text language) ++ field (codes "flags") (compile_flags flags) ++ field (codes "cpu_type") (cpu_text cpu_type)
+-- by the numbers of the language and of the processor
+unfoldable pub compiled_fields : ℕ → CompileFlags → ℕ → List ℕ
+compiled_fields language flags processor = field (codes "language") (language_text language) ++ field (codes "flags") (compile_flags flags) ++ field (codes "cpu_type") (processor_text processor)
 
 unfoldable pub version_fields : CompilerVersion → CompilerVersion → List ℕ → List ℕ
 version_fields frontend backend version_string = field (codes "frontend_version") (version_text frontend) ++ field (codes "backend_version") (version_text backend) ++ field (codes "version_string") version_string
 
--- ---- the fields of each form
+-- ---- the fields of each layout, with registers by their names on a machine, and what the value leaves out from the record's bytes b
 
-abbrev pub fields_text : Data → List ℕ
-fields_text ScopeEnd = []
-fields_text (ObjName signature name) = field (codes "signature") (decimal signature)
-fields_text (RegisterVariable type_index register name) = type_field type_index ++ field (codes "register") (hex 4 register.0)
-fields_text (Constant managed type_index value name) = type_field type_index ++ field (codes "value") (variant_text value) ++ managed_field managed
-fields_text (UserDefinedType type_index name) = type_field type_index
-fields_text (MultiRegisterVariable type_index registers) = type_field type_index ++ field (codes "registers") (registers_text registers)
-fields_text (DataItem global managed type_index offset name) = type_field type_index ++ place_field offset ++ global_field global ++ managed_field managed
-fields_text (Public code function managed msil offset name) = field (codes "code") (bool_text code) ++ field (codes "function") (bool_text function) ++ managed_field managed ++ field (codes "msil") (bool_text msil) ++ place_field offset
-fields_text (Procedure s) =
+abbrev pub fields_text : Option Machine → List ℕ → Data → List ℕ
+fields_text machine b ScopeEnd = []
+fields_text machine b (ObjName signature name) = field (codes "signature") (decimal signature)
+fields_text machine b (RegisterVariable type_index register name) = type_field type_index ++ field (codes "register") (register_on machine register)
+fields_text machine b (Constant managed type_index value name) = type_field type_index ++ field (codes "value") (variant_text value) ++ managed_field managed
+fields_text machine b (UserDefinedType type_index name) = type_field type_index
+fields_text machine b (MultiRegisterVariable type_index registers) = type_field type_index ++ field (codes "registers") (registers_text machine registers)
+fields_text machine b (DataItem global managed type_index offset name) = type_field type_index ++ place_field offset ++ global_field global ++ managed_field managed
+fields_text machine b (Public code function managed msil offset name) = field (codes "code") (bool_text code) ++ field (codes "function") (bool_text function) ++ managed_field managed ++ field (codes "msil") (bool_text msil) ++ place_field offset
+fields_text machine b (Procedure s) =
     scope_fields s.parent s.end s.next ++ body_fields s.len s.dbg_start_offset s.dbg_end_offset ++ typed_fields s.type_index s.offset s.flags
     ++ global_field s.global ++ field (codes "dpc") (bool_text s.dpc)
-fields_text (ThreadStorage global type_index offset name) = type_field type_index ++ place_field offset ++ global_field global
-fields_text (Compiler s) = compiled_fields s.language s.flags s.cpu_type ++ version_fields s.frontend_version s.backend_version s.version_string
-fields_text (UsingNamespace name) = []
-fields_text (ProcedureReference global sum_name symbol_index of_module name) = reference_fields sum_name symbol_index of_module ++ global_field global
-fields_text (DataReference sum_name symbol_index of_module name) = reference_fields sum_name symbol_index of_module
-fields_text (AnnotationReference sum_name symbol_index of_module name) = reference_fields sum_name symbol_index of_module
-fields_text (Trampoline s) = field (codes "tramp_type") (trampoline_text s.tramp_type) ++ field (codes "size") (decimal s.size) ++ field (codes "thunk") (place_text s.thunk) ++ field (codes "target") (place_text s.target)
-fields_text (Export ordinal flags name) = field (codes "ordinal") (decimal ordinal) ++ field (codes "flags") (export_flags flags)
-fields_text (Local type_index flags name) = type_field type_index ++ field (codes "flags") (local_flags flags)
-fields_text (BuildInfo s) = field (codes "id") (hex 8 s.id.0)
-fields_text (InlineSite s) =
+fields_text machine b (ThreadStorage global type_index offset name) = type_field type_index ++ place_field offset ++ global_field global
+fields_text machine b (Compiler s) = compiled_fields (number b 2 1) s.flags (number b 6 2) ++ version_fields s.frontend_version s.backend_version s.version_string
+fields_text machine b (UsingNamespace name) = []
+fields_text machine b (ProcedureReference global sum_name symbol_index of_module name) = reference_fields sum_name symbol_index of_module ++ global_field global
+fields_text machine b (DataReference sum_name symbol_index of_module name) = reference_fields sum_name symbol_index of_module
+fields_text machine b (AnnotationReference sum_name symbol_index of_module name) = reference_fields sum_name symbol_index of_module
+fields_text machine b (Trampoline s) = field (codes "tramp_type") (trampoline_text s.tramp_type) ++ field (codes "size") (decimal s.size) ++ field (codes "thunk") (place_text s.thunk) ++ field (codes "target") (place_text s.target)
+fields_text machine b (Export ordinal flags name) = field (codes "ordinal") (decimal ordinal) ++ field (codes "flags") (export_flags flags)
+fields_text machine b (Local type_index flags name) = type_field type_index ++ field (codes "flags") (local_flags flags (number b 6 2))
+fields_text machine b (BuildInfo s) = field (codes "id") (hex 8 s.id.0)
+fields_text machine b (InlineSite s) =
     site_fields s.parent s.end s.inlinee ++ field (codes "invocations") (optional_text s.invocations) ++ field (codes "annotations") (bytes_text s.annotations)
-fields_text InlineSiteEnd = []
-fields_text ProcedureEnd = []
-fields_text (Label offset flags name) = place_field offset ++ field (codes "flags") (procedure_flags flags)
-fields_text (Block parent end len offset name) = span_fields parent end len ++ place_field offset
-fields_text (RegisterRelative offset type_index register name) = field (codes "offset") (signed_decimal offset) ++ type_field type_index ++ field (codes "register") (hex 4 register.0)
-fields_text (Thunk s) = scope_fields s.parent s.end s.next ++ place_field s.offset ++ field (codes "len") (decimal s.len) ++ field (codes "kind") (thunk_text s.does)
-fields_text (SeparatedCode s) = span_fields s.parent s.end s.len ++ field (codes "flags") (separated_code_flags s.flags) ++ place_field s.offset ++ field (codes "parent_offset") (place_text s.parent_offset)
+fields_text machine b InlineSiteEnd = []
+fields_text machine b ProcedureEnd = []
+fields_text machine b (Label offset flags name) = place_field offset ++ field (codes "flags") (procedure_flags flags)
+fields_text machine b (Block parent end len offset name) = span_fields parent end len ++ place_field offset
+fields_text machine b (RegisterRelative offset type_index register name) = field (codes "offset") (signed_decimal offset) ++ type_field type_index ++ field (codes "register") (register_on machine register)
+fields_text machine b (Thunk s) = scope_fields s.parent s.end s.next ++ place_field s.offset ++ field (codes "len") (decimal s.len) ++ field (codes "kind") (thunk_text s.does)
+fields_text machine b (SeparatedCode s) = span_fields s.parent s.end s.len ++ field (codes "flags") (separated_code_flags s.flags) ++ place_field s.offset ++ field (codes "parent_offset") (place_text s.parent_offset)

@@ -7,6 +7,8 @@ use Rattle.pdb_tool.specs.ModuleLists.{modules_command}
 use Rattle.pdb_tool.specs.Operands.{word_of}
 use Rattle.pdb_tool.specs.SectionTexts.{sections_command}
 use Rattle.pdb_tool.specs.StreamTexts.{streams_command}
+use Rattle.pdb_tool.specs.declared.options.Form.{Form}
+use Rattle.pdb_tool.specs.declared.options.Form.TheVariants.{Text}
 use Rattle.pdb_tool.specs.declared.file_texts.FileText.{FileText}
 use Rattle.pdb_tool.specs.declared.file_texts.FileText.TheVariants.{AllSymbols, Code, Find, Lines, Modules, Scopes, Sections, Sources, Streams, Symbols, Where}
 
@@ -20,6 +22,13 @@ file_text file AllSymbols = all_symbols_command file
 file_text file (Sources ks) = sources_command file ks.now
 file_text file (Find words) = find_command file (map word_of words.now)
 file_text file (Where asked) = where_command file (map source_view asked.now)
-file_text file Modules = modules_command file
-file_text file Sections = sections_command file
-file_text file Streams = streams_command file
+file_text file (Modules form) = modules_command form file
+file_text file (Sections form) = sections_command form file
+file_text file (Streams form) = streams_command form file
+
+-- the form in which errors are written
+abbrev pub form_of : FileText → Form
+form_of (Modules form) = form
+form_of (Sections form) = form
+form_of (Streams form) = form
+form_of text = Text

@@ -1,6 +1,7 @@
 -- The lines of `key`: of a PDB, and of an image with the PDB that it names.
 use Rattle.std.specs.Prelude.{◌≡◌, ℕ, ◌/◌, ◌%◌, List, [], ◌∷◌, ◌++◌, codes, flat_map, true, false, Option, Some, None, Result, Ok, Err, if◌then◌else◌}
 use Rattle.std.specs.Fmt.{digits}
+use Rattle.json.specs.Json.{Json, null, object, Members, no_members, member}
 use Rattle.pdb.specs.Error.{Error}
 use Rattle.pdb_image.specs.declared.error.ImageError.{ImageError}
 use Rattle.pdb_image.specs.Debug.{Reference}
@@ -8,7 +9,10 @@ use Rattle.pdb_image.specs.Headers.{is_image}
 use Rattle.pdb_image.specs.Images.{Said, image_of}
 use Rattle.pdb_text.specs.OneLine.{one_line}
 use Rattle.pdb_tool.specs.Keys.{byte_text, key_of_file, key_text}
+use Rattle.pdb_tool.specs.Objects.{json_line, text_value}
 use Rattle.pdb_tool.specs.Stops.{stop_of_opening}
+use Rattle.pdb_tool.specs.declared.options.Form.{Form}
+use Rattle.pdb_tool.specs.declared.options.Form.TheVariants.{Text, Json as Objects}
 use Rattle.pdb_tool.specs.declared.stop.Stop.{Stop}
 use Rattle.pdb_tool.specs.declared.stop.Stop.TheVariants.{Image}
 
@@ -25,23 +29,45 @@ pdb_named (Some r) = key_text r.guid r.age ++ codes " " ++ one_line r.path
 unfoldable pub image_text : List ℕ → Said → List ℕ
 image_text name i = own_key i.time_stamp i.size ++ codes " " ++ name ++ codes " " ++ pdb_named i.pdb ++ codes "\n"
 
-abbrev pub image_line : List ℕ → Result Said ImageError → Result (List ℕ) Stop
-image_line name (Ok i) = Ok (image_text name i)
-image_line name (Err e) = Err (Image e)
-
 -- of a PDB with this key
 abbrev pub pdb_text : List ℕ → List ℕ → List ℕ
 pdb_text name key = key ++ codes " " ++ name ++ codes "\n"
 
-abbrev pub pdb_line : List ℕ → Result (List ℕ) Error → Result (List ℕ) Stop
-pdb_line name (Ok key) = Ok (pdb_text name key)
-pdb_line name (Err e) = Err (stop_of_opening e)
+-- ---- as JSON objects
+
+abbrev pub pdb_members : Option Reference → Members
+pdb_members None = member (codes "pdb_key") null (member (codes "pdb") null no_members)
+pdb_members (Some r) = member (codes "pdb_key") (text_value (key_text r.guid r.age)) (member (codes "pdb") (text_value r.path) no_members)
+
+abbrev pub image_value : List ℕ → Said → Json
+image_value name i = object (member (codes "key") (text_value (own_key i.time_stamp i.size)) (member (codes "file") (text_value name) (pdb_members i.pdb)))
+
+abbrev pub pdb_value : List ℕ → List ℕ → Json
+pdb_value name key = object (member (codes "key") (text_value key) (member (codes "file") (text_value name) no_members))
+
+-- ---- in a form
+
+abbrev pub image_in : Form → List ℕ → Said → List ℕ
+image_in Text name i = image_text name i
+image_in Objects name i = json_line (image_value name i)
+
+abbrev pub image_line : Form → List ℕ → Result Said ImageError → Result (List ℕ) Stop
+image_line form name (Ok i) = Ok (image_in form name i)
+image_line form name (Err e) = Err (Image e)
+
+abbrev pub pdb_in : Form → List ℕ → List ℕ → List ℕ
+pdb_in Text name key = pdb_text name key
+pdb_in Objects name key = json_line (pdb_value name key)
+
+abbrev pub pdb_line : Form → List ℕ → Result (List ℕ) Error → Result (List ℕ) Stop
+pdb_line form name (Ok key) = Ok (pdb_in form name key)
+pdb_line form name (Err e) = Err (stop_of_opening e)
 
 -- the line of a file of this name, or why it has none
-unfoldable pub key_line : List ℕ → List ℕ → Result (List ℕ) Stop
-key_line name file = if is_image file then image_line name (image_of file) else pdb_line name (key_of_file file)
+unfoldable pub key_line : Form → List ℕ → List ℕ → Result (List ℕ) Stop
+key_line form name file = if is_image file then image_line form name (image_of file) else pdb_line form name (key_of_file file)
 
 -- the line of a file, where it is a PDB; none where it is an image
-abbrev pub IsLine : List ℕ → List ℕ → Option (List ℕ) → Type 0
-IsLine name file None = is_image file ≡ true
-IsLine name file (Some line) = key_line name file ≡ Ok line
+abbrev pub IsLine : Form → List ℕ → List ℕ → Option (List ℕ) → Type 0
+IsLine form name file None = is_image file ≡ true
+IsLine form name file (Some line) = key_line form name file ≡ Ok line

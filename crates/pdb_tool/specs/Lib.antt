@@ -4,11 +4,14 @@ pub mod Keys
 pub mod KeyLines
 pub mod Options
 pub mod Operands
+pub mod Objects
+pub mod FrameObjects
 pub mod Questions
 pub mod Words
 pub mod Work
 pub mod FileKinds
 pub mod ErrorLine
+pub mod ErrorObjects
 pub mod Values
 pub mod Depth
 pub mod LineTexts
@@ -17,6 +20,10 @@ pub mod KindNames
 pub mod Flags
 pub mod ValueTexts
 pub mod FieldTexts
+pub mod RecordFlagTexts
+pub mod RecordValues
+pub mod RecordTexts
+pub mod ModuleMachines
 pub mod SymbolTexts
 pub mod SectionTexts
 pub mod SourceTexts

@@ -17,6 +17,7 @@ use Rattle.pdb_tool.specs.LineTexts.{lines_text}
 use Rattle.pdb_tool.specs.ScopeTexts.{scopes_text}
 use Rattle.pdb_tool.specs.SymbolTexts.{global_symbols_text, symbols_text}
 use Rattle.pdb_tool.specs.SourceTexts.{sources_text}
+use Rattle.pdb_tool.specs.ModuleMachines.{file_machine}
 use Rattle.pdb_tool.specs.FindTexts.{Finding, find_in, finding_in, globals_found}
 use Rattle.pdb_tool.specs.SourcesAsked.{SourceOf}
 use Rattle.pdb_tool.specs.WhereTexts.{asking_in, where_in}
@@ -120,12 +121,12 @@ scopes_command file ks = modules_text (scopes_in (items_listed file 4) (items_li
 
 -- `symbols`: those of modules, the global ones where there is no number
 abbrev pub symbols_command : List ℕ → List ℕ → List ℕ
-symbols_command file [] = told (global_symbols_in file) global_symbols_text
-symbols_command file (k ∷ ks) = places_text symbols_text file (k ∷ ks)
+symbols_command file [] = told (global_symbols_in file) (global_symbols_text (file_machine file))
+symbols_command file (k ∷ ks) = places_text (symbols_text (file_machine file)) file (k ∷ ks)
 
 -- `symbols --all`: those of all modules
 abbrev pub all_symbols_command : List ℕ → List ℕ
-all_symbols_command file = all_text symbols_text file
+all_symbols_command file = all_text (symbols_text (file_machine file)) file
 
 -- `sources`: files have their names from the string table
 abbrev pub sources_command : List ℕ → List ℕ → List ℕ

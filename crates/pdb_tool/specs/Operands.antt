@@ -1,4 +1,4 @@
--- The words of a command that are no options.
+-- The operands of a command: its arguments that are no options.
 use Rattle.std.specs.Prelude.{ℕ, ◌+◌, List, [], ◌∷◌, Bool, true, false, not, Option, Some, None, Result, Ok, Err, if◌then◌else◌}
 use Rattle.std.specs.Str.{bytes_eq}
 use Rattle.pdb_tool.specs.Options.{is_option, is_base, is_dashes}
@@ -6,7 +6,7 @@ use Rattle.pdb_tool.specs.declared.options.Next.{Next}
 use Rattle.pdb_tool.specs.declared.options.Next.TheVariants.{Word, Value, Operand}
 use Rattle.pdb_tool.specs.declared.operands.Operand.{Operand as Named}
 
--- a word, and its place among all
+-- an argument, and its index among all
 pub record WordAt : Type 0 where
   pub place : ℕ
   pub word : List ℕ
@@ -17,13 +17,13 @@ operand_view o = record { place = o.place; word = o.word.now }
 abbrev pub word_of : Named → List ℕ
 word_of o = o.word.now
 
--- a word is an operand by what is expected
+-- an argument is an operand by what is expected
 abbrev pub is_operand : Next → List ℕ → Bool
 is_operand Word word = not (is_option word)
 is_operand Value word = false
 is_operand Operand word = true
 
--- what is expected behind a word that is no value
+-- what is expected behind an argument that is no value
 abbrev pub behind_plain : List ℕ → Next
 behind_plain word = if is_dashes word then Operand else if is_base word then Value else Word
 
@@ -32,16 +32,16 @@ behind_word Word word = behind_plain word
 behind_word Value word = Word
 behind_word Operand word = Operand
 
--- the words that are neither an option nor its value, of words of which the first stands at p
+-- the arguments that are neither an option nor its value, of arguments of which the first has index p
 abbrev pub operands_of : Next → List (List ℕ) → ℕ → List WordAt
 operands_of next [] p = []
 operands_of next (word ∷ words) p =
     if is_operand next word then record { place = p; word = word } ∷ operands_of (behind_word next word) words (p + 1)
     else operands_of (behind_word next word) words (p + 1)
 
--- ---- words that are all of one kind
+-- ---- operands that are all of one kind
 
--- what the words are, or the place of the first that is none
+-- the values of operands, or the index of the first that has none
 abbrev pub with_first : {A : Type 0} → Option A → Result (List A) ℕ → ℕ → Result (List A) ℕ
 with_first None rest p = Err p
 with_first (Some x) (Ok xs) p = Ok (x ∷ xs)
@@ -51,7 +51,7 @@ abbrev pub all_in : {A : Type 0} → (List ℕ → Option A) → List WordAt →
 all_in of [] = Ok []
 all_in of (w ∷ ws) = with_first (of w.word) (all_in of ws) w.place
 
--- the place of the first word that is empty
+-- the index of the first operand that is empty
 abbrev pub first_empty : List WordAt → Option ℕ
 first_empty [] = None
 first_empty (w ∷ ws) = if bytes_eq w.word [] then Some w.place else first_empty ws

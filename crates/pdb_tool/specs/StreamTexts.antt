@@ -2,6 +2,7 @@
 use Rattle.std.specs.Prelude.{ℕ, List, [], ◌∷◌, ◌++◌, codes, flat_map, map, Option, Some, None, Result, Ok, Err}
 use Rattle.std.specs.Fmt.{decimal}
 use Rattle.std.specs.List.{filter, range_with_len}
+use Rattle.json.specs.Json.{Json, null, array, object, Items, no_items, item, Members, no_members, member}
 use Rattle.pdb.specs.Error.{Error}
 use Rattle.pdb_resolve.specs.AsIfEmpty.{if_read}
 use Rattle.pdb.specs.ExtraStreams.{extra_streams_in}
@@ -12,7 +13,10 @@ use Rattle.pdb.specs.Modules.{ModuleEntry, modules_in}
 use Rattle.pdb.specs.Container.{stream_count, stream_of, stream_size}
 use Rattle.pdb.specs.Answers.{debug_information_in}
 use Rattle.pdb_tool.specs.Checks.{names_in}
-use Rattle.pdb_tool.specs.ErrorLine.{told}
+use Rattle.pdb_tool.specs.ErrorObjects.{told_in}
+use Rattle.pdb_tool.specs.Objects.{json_line, number_value, text_value}
+use Rattle.pdb_tool.specs.declared.options.Form.{Form}
+use Rattle.pdb_tool.specs.declared.options.Form.TheVariants.{Text, Json as Objects}
 use Rattle.pdb_tool.specs.StreamOrder.{is_of}
 use Rattle.pdb_tool.specs.declared.stream_roles.Role.{Role}
 use Rattle.pdb_tool.specs.StreamRoles.{StreamRole, role_view, stream_number, extra_roles, fixed_roles, hash_roles, header_roles, known_text, module_roles, name_roles}
@@ -65,12 +69,31 @@ what_list (r ∷ rs) = r.what ++ flat_map (λ x. codes ", " ++ x.what) rs
 unfoldable pub line_of : ℕ → Option ℕ → List StreamRole → List ℕ
 line_of n size here = decimal n ++ codes " " ++ size_text size ++ codes " " ++ what_list here ++ codes "\n"
 
-abbrev pub stream_line : List ℕ → List StreamRole → ℕ → List ℕ
-stream_line file roles n = line_of n (if_read (stream_size file n)) (filter (is_of (λ r. r.stream) n) roles)
+-- the same as a JSON object
+abbrev pub size_value : Option ℕ → Json
+size_value None = null
+size_value (Some size) = number_value size
+
+abbrev pub what_items : List StreamRole → Items
+what_items [] = no_items
+what_items (r ∷ rs) = item (text_value r.what) (what_items rs)
+
+abbrev pub what_member : List StreamRole → Members
+what_member here = member (codes "what") (array (what_items here)) no_members
+
+abbrev pub stream_value : ℕ → Option ℕ → List StreamRole → Json
+stream_value n size here = object (member (codes "stream") (number_value n) (member (codes "size") (size_value size) (what_member here)))
+
+abbrev pub line_in : Form → ℕ → Option ℕ → List StreamRole → List ℕ
+line_in Text n size here = line_of n size here
+line_in Objects n size here = json_line (stream_value n size here)
+
+abbrev pub stream_line : Form → List ℕ → List StreamRole → ℕ → List ℕ
+stream_line form file roles n = line_in form n (if_read (stream_size file n)) (filter (is_of (λ r. r.stream) n) roles)
 
 -- the same by roles as the code has them
-abbrev pub role_line : List ℕ → List Role → ℕ → List ℕ
-role_line file roles n = line_of n (if_read (stream_size file n)) (map role_view (filter (is_of stream_number n) roles))
+abbrev pub role_line : Form → List ℕ → List Role → ℕ → List ℕ
+role_line form file roles n = line_in form n (if_read (stream_size file n)) (map role_view (filter (is_of stream_number n) roles))
 
-unfoldable pub streams_command : List ℕ → List ℕ
-streams_command file = told (stream_count file) (λ count. flat_map (stream_line file (roles_of file)) (range_with_len 0 count))
+unfoldable pub streams_command : Form → List ℕ → List ℕ
+streams_command form file = told_in form (stream_count file) (λ count. flat_map (stream_line form file (roles_of file)) (range_with_len 0 count))

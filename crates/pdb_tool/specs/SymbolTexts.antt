@@ -9,12 +9,17 @@ use Rattle.pdb.specs.Data.{Data, name_of}
 use Rattle.pdb.specs.Forms.{kind_at, record_at}
 use Rattle.pdb.specs.SymbolList.{Entry, symbols_from}
 use Rattle.pdb.specs.ModuleStream.{ModuleBytes, symbols_of}
+use Rattle.pdb_records.specs.RecordReading.{further_at}
+use Rattle.pdb_records.specs.RecordSays.{Says}
+use Rattle.pdb_records.specs.declared.machine.Machine.{Machine}
 use Rattle.pdb_text.specs.Digits.{hex}
 use Rattle.pdb_tool.specs.Depth.{blanks, depth_at, depth_behind}
 use Rattle.pdb_tool.specs.ErrorLine.{fault_line, told}
 use Rattle.pdb_tool.specs.Values.{behind_blank}
 use Rattle.pdb_tool.specs.ValueTexts.{kind_text}
 use Rattle.pdb_tool.specs.FieldTexts.{fields_text}
+use Rattle.pdb_tool.specs.ModuleMachines.{module_machine}
+use Rattle.pdb_tool.specs.RecordTexts.{says_text}
 
 -- a name behind a blank, where there is one that isn't empty
 abbrev pub name_text : Option (List ℕ) → List ℕ
@@ -30,28 +35,44 @@ lacks_layout e = false
 abbrev pub damage_text : Error → List ℕ
 damage_text e = if lacks_layout e then [] else codes " error " ++ decimal (number_of e)
 
--- what a record says: its fields and its name; or its error, and its bytes behind the kind
-abbrev pub record_text : List ℕ → Result Data Error → List ℕ
-record_text b (Ok d) = fields_text d ++ name_text (name_of d)
-record_text b (Err e) = damage_text e ++ codes " bytes=" ++ flat_map (hex 2) (drop 2 b)
+-- an error, and a record's bytes behind the kind
+abbrev pub unread_text : List ℕ → Error → List ℕ
+unread_text b e = damage_text e ++ codes " bytes=" ++ flat_map (hex 2) (drop 2 b)
+
+-- a further record, or its error
+abbrev pub further_text : Option Machine → List ℕ → Result Says Error → List ℕ
+further_text machine b (Ok says) = says_text machine says
+further_text machine b (Err e) = unread_text b e
+
+-- a record: its fields and its name. One of a kind without a layout is read as a further record
+abbrev pub parsed_text : Option Machine → List ℕ → Result Data Error → List ℕ
+parsed_text machine b (Ok d) = fields_text machine b d ++ name_text (name_of d)
+parsed_text machine b (Err e) = if lacks_layout e then further_text machine b (further_at b) else unread_text b e
+
+abbrev pub record_text : Option Machine → List ℕ → List ℕ
+record_text machine b = parsed_text machine b (record_at b)
 
 -- the line of a symbol at a depth
-unfoldable pub symbol_line : ℕ → Entry → List ℕ
-symbol_line depth s = blanks depth ++ hex 8 s.index ++ codes " " ++ kind_text (kind_at s.bytes) ++ record_text s.bytes (record_at s.bytes) ++ codes "\n"
+unfoldable pub symbol_line : Option Machine → ℕ → Entry → List ℕ
+symbol_line machine depth s = blanks depth ++ hex 8 s.index ++ codes " " ++ kind_text (kind_at s.bytes) ++ record_text machine s.bytes ++ codes "\n"
 
 -- the lines of symbols behind records that leave this depth
-abbrev pub symbol_lines : ℕ → List Entry → List ℕ
-symbol_lines depth [] = []
-symbol_lines depth (s ∷ ss) = symbol_line (depth_at depth (kind_at s.bytes)) s ++ symbol_lines (depth_behind depth (kind_at s.bytes)) ss
+abbrev pub symbol_lines : Option Machine → ℕ → List Entry → List ℕ
+symbol_lines machine depth [] = []
+symbol_lines machine depth (s ∷ ss) = symbol_line machine (depth_at depth (kind_at s.bytes)) s ++ symbol_lines machine (depth_behind depth (kind_at s.bytes)) ss
 
 -- the lines of the symbols that are left, and then that of the fault
-abbrev pub symbol_list_text : ℕ → Left Entry → List ℕ
-symbol_list_text depth left = symbol_lines depth left.items ++ fault_line left.fault
+abbrev pub symbol_list_text : Option Machine → ℕ → Left Entry → List ℕ
+symbol_list_text machine depth left = symbol_lines machine depth left.items ++ fault_line left.fault
 
--- those of a module, or their refusal
-unfoldable pub symbols_text : ModuleBytes → List ℕ
-symbols_text m = told (symbols_of m) (symbol_list_text 0)
+-- those of a module, on its machine
+abbrev pub module_symbols_text : Option Machine → Left Entry → List ℕ
+module_symbols_text header left = symbol_list_text (module_machine header left.items) 0 left
+
+-- those of a module, or their error; the machine of the header counts where the symbols name none
+unfoldable pub symbols_text : Option Machine → ModuleBytes → List ℕ
+symbols_text header m = told (symbols_of m) (module_symbols_text header)
 
 -- those of the stream of global symbols
-unfoldable pub global_symbols_text : List ℕ → List ℕ
-global_symbols_text b = symbol_list_text 0 (symbols_from b 0)
+unfoldable pub global_symbols_text : Option Machine → List ℕ → List ℕ
+global_symbols_text header b = symbol_list_text header 0 (symbols_from b 0)

@@ -10,6 +10,10 @@ use Rattle.pdb_symbols.specs.declared.thunks.TrampolineType.{TrampolineType}
 use Rattle.pdb_symbols.specs.declared.thunks.TrampolineType.TheVariants as trampoline
 use Rattle.pdb_symbols.specs.Data.{ThunkDoes}
 use Rattle.pdb_symbols.specs.Data.ThunkDoes.{NoType, Adjustor, VCall, PCode, Load, Unknown}
+use Rattle.pdb_records.specs.CompilerNames.{language_rows, processor_name_of}
+use Rattle.pdb_records.specs.Machines.{register_name_of}
+use Rattle.pdb_records.specs.NameRows.{name_in}
+use Rattle.pdb_records.specs.declared.machine.Machine.{Machine}
 use Rattle.pdb_text.specs.Digits.{hex}
 use Rattle.pdb_tool.specs.KindNames.{kind_name}
 
@@ -20,6 +24,18 @@ name_or_number kind (Some name) = name
 
 abbrev pub kind_text : ℕ → List ℕ
 kind_text kind = name_or_number kind (kind_name kind)
+
+-- the name of a processor's number, or the number in four hex digits
+abbrev pub processor_text : ℕ → List ℕ
+processor_text n = name_or_number n (processor_name_of n)
+
+-- the name of a language's number, or the number in two hex digits
+abbrev pub name_or_byte : ℕ → Option (List ℕ) → List ℕ
+name_or_byte n None = hex 2 n
+name_or_byte n (Some name) = name
+
+abbrev pub language_text : ℕ → List ℕ
+language_text n = name_or_byte n (name_in language_rows n)
 
 abbrev pub bool_text : Bool → List ℕ
 bool_text true = codes "true"
@@ -62,19 +78,28 @@ thunk_text PCode = codes "p_code"
 thunk_text Load = codes "load"
 thunk_text (Unknown ordinal) = codes "unknown:" ++ decimal ordinal
 
--- a register and its name
-abbrev pub register_text : Register × List ℕ → List ℕ
-register_text r = hex 4 r.0.0 ++ codes ":" ++ r.1
+-- the name of a register's number on a machine
+abbrev pub register_name_on : Option Machine → ℕ → Option (List ℕ)
+register_name_on None n = None
+register_name_on (Some machine) n = register_name_of machine n
+
+-- a register by its name on a machine; four hex digits where it has none, or no machine is known
+abbrev pub register_on : Option Machine → Register → List ℕ
+register_on machine r = name_or_number r.0 (register_name_on machine r.0)
+
+-- a register, and the name of what is in it
+abbrev pub register_text : Option Machine → Register × List ℕ → List ℕ
+register_text machine r = register_on machine r.0 ++ codes ":" ++ r.1
 
 -- the registers, each behind a comma
-abbrev pub more_registers : List (Register × List ℕ) → List ℕ
-more_registers [] = []
-more_registers (r ∷ rs) = codes "," ++ (register_text r ++ more_registers rs)
+abbrev pub more_registers : Option Machine → List (Register × List ℕ) → List ℕ
+more_registers machine [] = []
+more_registers machine (r ∷ rs) = codes "," ++ (register_text machine r ++ more_registers machine rs)
 
 -- the registers joined by commas, `-` where there is none
-abbrev pub registers_text : List (Register × List ℕ) → List ℕ
-registers_text [] = codes "-"
-registers_text (r ∷ rs) = register_text r ++ more_registers rs
+abbrev pub registers_text : Option Machine → List (Register × List ℕ) → List ℕ
+registers_text machine [] = codes "-"
+registers_text machine (r ∷ rs) = register_text machine r ++ more_registers machine rs
 
 -- bytes in two hex digits each, `-` where there is none
 abbrev pub bytes_text : List ℕ → List ℕ

@@ -1,4 +1,4 @@
--- What the program's words ask for.
+-- The command and the options that arguments name.
 use Rattle.std.specs.Prelude.{◌≡◌, ℕ, List, [], ◌∷◌, codes, Bool, true, false, ◌||◌, Option, Some, None, Result, Ok, Err, if◌then◌else◌}
 use Rattle.std.specs.Str.{bytes_eq}
 use Rattle.pdb_tool.specs.Options.{is_dashes, options_of, nothing_given}
@@ -10,7 +10,7 @@ use Rattle.pdb_tool.specs.declared.words.Request.TheVariants.{Help, ListHelp, Ve
 use Rattle.pdb_tool.specs.declared.words.WordsError.{WordsError}
 use Rattle.pdb_tool.specs.declared.words.WordsError.TheVariants.{BadWord, OutOfMemory}
 
--- the command of a word, among those that look things up or list them
+-- the command of a name, among those that look things up or list them
 abbrev pub lookup_in : List ℕ → Option Topic
 lookup_in word =
     if bytes_eq word (codes "find") then Some Find
@@ -21,7 +21,7 @@ lookup_in word =
     else if bytes_eq word (codes "streams") then Some Streams
     else None
 
--- the command of a word
+-- the command of a name
 abbrev pub topic_in : List ℕ → Option Topic
 topic_in word =
     if bytes_eq word (codes "resolve") then Some Resolve
@@ -38,17 +38,17 @@ is_help word = bytes_eq word (codes "-h") || bytes_eq word (codes "--help")
 abbrev pub is_version : List ℕ → Bool
 is_version word = bytes_eq word (codes "version") || bytes_eq word (codes "-V") || bytes_eq word (codes "--version")
 
--- one of these words, before options end, is `--help`
+-- one of these arguments, before options end, is `--help`
 abbrev pub wants_help : List (List ℕ) → Bool
 wants_help [] = false
 wants_help (word ∷ words) = if is_dashes word then false else if bytes_eq word (codes "--help") then true else wants_help words
 
--- what is asked for, if no word stands behind; else the word at p is bad
+-- this request, if no argument stands behind; else the argument of index p is wrong
 abbrev pub alone : Request → List (List ℕ) → ℕ → Result Request ℕ
 alone request [] p = Ok request
 alone request (word ∷ rest) p = Err p
 
--- behind the word `help`
+-- behind `help`
 abbrev pub help_of : Option Topic → List (List ℕ) → Result Request ℕ
 help_of None rest = Err 1
 help_of (Some topic) rest = alone (Help (Some topic)) rest 2
@@ -65,7 +65,7 @@ abbrev pub run_with : Topic → Result Options ℕ → Result Request ℕ
 run_with topic (Ok options) = Ok (Run topic options)
 run_with topic (Err p) = Err p
 
--- behind a command's word
+-- behind the name of a command
 abbrev pub front_of : Topic → List (List ℕ) → Result Request ℕ
 front_of topic [] = Err 1
 front_of topic (word ∷ rest) =
@@ -76,7 +76,7 @@ abbrev pub command_of : Option Topic → List (List ℕ) → Result Request ℕ
 command_of None rest = Err 0
 command_of (Some topic) rest = front_of topic rest
 
--- what words ask for, or the place of the bad word: the number of words where one is missing at their end
+-- the request of arguments, or the index of the wrong one: their number where one is missing at the end
 abbrev pub request_in : List (List ℕ) → Result Request ℕ
 request_in [] = Ok (Help None)
 request_in (word ∷ rest) =
@@ -85,7 +85,7 @@ request_in (word ∷ rest) =
     else if is_version word then alone Version rest 1
     else command_of (topic_in word) rest
 
--- a call answered what the words are, seen by view, or wanted memory
+-- a call returned the value of arguments, seen by view, or their error, or was out of memory
 abbrev pub Tells : {X Y : Type 0} → (X → Y) → Result X WordsError → Result Y ℕ → Type 0
 Tells view (Ok x) told = told ≡ Ok (view x)
 Tells view (Err (BadWord p)) told = told ≡ Err p

@@ -8,6 +8,7 @@ use Rattle.pdb_tool.specs.SourcesAsked.{SourceOf, source_of}
 use Rattle.pdb_tool.specs.SourceViews.{source_view}
 use Rattle.pdb_tool.specs.Words.{request_in}
 use Rattle.pdb_tool.specs.declared.options.Next.TheVariants.{Word}
+use Rattle.pdb_tool.specs.declared.options.Form.{Form}
 use Rattle.pdb_tool.specs.declared.options.Options.{Options}
 use Rattle.pdb_tool.specs.declared.options.Wanted.{Wanted}
 use Rattle.pdb_tool.specs.declared.options.Wanted.TheVariants.{Key as wanted_key, Image as wanted_image}
@@ -23,7 +24,7 @@ pub data Task : Type 0 where
   help : Option Topic → Task
   list_help : Task
   version : Task
-  keys : WordAt → List WordAt → Task
+  keys : Form → WordAt → List WordAt → Task
   checks : WordAt → List WordAt → Task
   resolve : Options → WordAt → List WordAt → Task
   lines : WordAt → List ℕ → Task
@@ -33,15 +34,15 @@ pub data Task : Type 0 where
   sources : WordAt → List ℕ → Task
   finds : WordAt → List WordAt → Task
   wheres : WordAt → List SourceOf → Task
-  modules : WordAt → Task
-  sections : WordAt → Task
-  streams : WordAt → Task
+  modules : Form → WordAt → Task
+  sections : Form → WordAt → Task
+  streams : Form → WordAt → Task
 
 abbrev pub task_of : Work → Task
 task_of (work.Help t) = help t
 task_of work.ListHelp = list_help
 task_of work.Version = version
-task_of (work.Keys f more) = keys (operand_view f) (map operand_view more.items)
+task_of (work.Keys form f more) = keys form (operand_view f) (map operand_view more.items)
 task_of (work.Checks f more) = checks (operand_view f) (map operand_view more.items)
 task_of (work.Resolve options f rest) = resolve options (operand_view f) (map operand_view rest.items)
 task_of (work.Lines f ks) = lines (operand_view f) ks.items
@@ -51,11 +52,11 @@ task_of (work.AllSymbols f) = all_symbols (operand_view f)
 task_of (work.Sources f ks) = sources (operand_view f) ks.items
 task_of (work.Find f names) = finds (operand_view f) (map operand_view names.items)
 task_of (work.Where f asked) = wheres (operand_view f) (map source_view asked.items)
-task_of (work.Modules f) = modules (operand_view f)
-task_of (work.Sections f) = sections (operand_view f)
-task_of (work.Streams f) = streams (operand_view f)
+task_of (work.Modules form f) = modules form (operand_view f)
+task_of (work.Sections form f) = sections form (operand_view f)
+task_of (work.Streams form f) = streams form (operand_view f)
 
--- a task with what operands are, or the place of the first that is none
+-- a task with the values of operands, or the index of the first that has none
 abbrev pub given : {A : Type 0} → (List A → Task) → Result (List A) ℕ → Result Task ℕ
 given make (Ok xs) = Ok (make xs)
 given make (Err p) = Err p
@@ -92,20 +93,20 @@ abbrev pub sourced : WordAt → List WordAt → ℕ → Result Task ℕ
 sourced f [] n = Err n
 sourced f (w ∷ ws) n = given (wheres f) (all_in source_of (w ∷ ws))
 
--- a command of a file and further operands; n is the number of words
+-- a command of a file and further operands; n is the number of arguments
 abbrev pub over_file : Topic → Options → WordAt → List WordAt → ℕ → Result Task ℕ
 over_file topic.Resolve o f rest n = judged (resolve o f rest) (all_in (question_of (judging o)) rest)
 over_file topic.Lines o f rest n = given (lines f) (all_in number_in rest)
 over_file topic.Scopes o f rest n = given (scopes f) (all_in number_in rest)
 over_file topic.Symbols o f rest n = if o.all then ending (all_symbols f) rest else given (symbols f) (all_in number_in rest)
 over_file topic.Sources o f rest n = given (sources f) (all_in number_in rest)
-over_file topic.Key o f rest n = Ok (keys f rest)
+over_file topic.Key o f rest n = Ok (keys o.form f rest)
 over_file topic.Check o f rest n = Ok (checks f rest)
 over_file topic.Find o f rest n = named f rest n
 over_file topic.Where o f rest n = sourced f rest n
-over_file topic.Modules o f rest n = ending (modules f) rest
-over_file topic.Sections o f rest n = ending (sections f) rest
-over_file topic.Streams o f rest n = ending (streams f) rest
+over_file topic.Modules o f rest n = ending (modules o.form f) rest
+over_file topic.Sections o f rest n = ending (sections o.form f) rest
+over_file topic.Streams o f rest n = ending (streams o.form f) rest
 
 -- the first operand, and those behind it
 abbrev pub split_first : List WordAt → Option (WordAt × List WordAt)
@@ -126,6 +127,6 @@ task_for words (Ok request.ListHelp) = Ok list_help
 task_for words (Ok request.Version) = Ok version
 task_for words (Ok (request.Run t o)) = over_operands t o (operands_of Word (drop 1 words) 1) (length words)
 
--- the work that arguments ask for, or the place of the one that is wrong: their number where one is missing
+-- the work of arguments, or the index of the one that is wrong: their number where one is missing
 unfoldable pub work_of : List (List ℕ) → Result Task ℕ
 work_of words = task_for words (request_in words)

@@ -16,6 +16,7 @@ ghost use Rattle.pdb_tool.specs.ModuleTexts.{all_symbols_command, in_file, lines
 ghost use Rattle.pdb_tool.specs.declared.stop.Stop.{Stop};
 
 use crate::line_texts::put_lines;
+use crate::module_machine::machine_of_file;
 use crate::module_texts::{ModuleText, write_all, write_places, write_refused};
 use crate::opening::opened;
 use crate::scope_texts::put_scopes;
@@ -24,6 +25,7 @@ use crate::symbol_texts::{put_global_symbols, put_symbols_of};
 use pdb::{
     Error, IdInformation, ItemFinder, ModuleInfo, PDB, Source, StringTable, TypeInformation,
 };
+use pdb_records::Machine;
 use pdb_resolve::{CallNames, GlobalIds, ids_of, types_of};
 use pdb_text::write_out;
 use std::alloc::{AllocError, Global};
@@ -85,14 +87,16 @@ impl<'a> ModuleText for Scopes<'a> {
     }
 }
 
-/// The symbols of modules.
+/// The symbols of modules, by the machine of the header where a module names none.
 #[derive(Drop)]
-struct Symbols;
+struct Symbols {
+    header: Option<Machine>,
+}
 
 impl ModuleText for Symbols {
     ghost use Rattle.pdb_tool.specs.SymbolTexts.{symbols_text};
 
-    ghost text = { λ _ ids. symbols_text };
+    ghost text = { λ s ids. symbols_text s.header };
 
     fn names_calls(&self) -> bool {
         false
@@ -105,7 +109,7 @@ impl ModuleText for Symbols {
         info: &ModuleInfo<'_>,
         _global: &GlobalIds<'_>,
     ) -> Result<(), AllocError> {
-        put_symbols_of(alloc, out, info)
+        put_symbols_of(alloc, out, self.header, info)
     }
 }
 
@@ -233,27 +237,29 @@ pub fn write_scopes<'s, S: Source<'s>, W: Write>(
     write_modules(alloc, &mut pdb, &scopes, places, out)
 }
 
-/// Writes the global symbols of an opened file.
+/// Writes the global symbols of an opened file whose header names a machine.
 fn write_globals<'s, S: Source<'s>, W: Write>(
     alloc: Global,
     pdb: &mut PDB<'s, S>,
+    header: Option<Machine>,
     out: &mut W,
 ) -> Result<(), Stop>
     ensures opened { (e : Error) → IsErrOf result (Stop.Open e) → ⊥ }
-    ensures ok { OnOk result (Appends (W.contents out.old) (W.contents out.new) (told (global_symbols_in pdb.old.file) global_symbols_text)) }
-    ensures front { OnErr result (WroteFront (W.contents out.old) (W.contents out.new) (told (global_symbols_in pdb.old.file) global_symbols_text)) }
+    ensures ok { OnOk result (Appends (W.contents out.old) (W.contents out.new) (told (global_symbols_in pdb.old.file) (global_symbols_text header))) }
+    ensures front { OnErr result (WroteFront (W.contents out.old) (W.contents out.new) (told (global_symbols_in pdb.old.file) (global_symbols_text header))) }
 {
     let symbols = match pdb.global_symbols() {
         Ok(symbols) => symbols,
         Err(e) => return write_refused(alloc, e, out),
     };
     let mut text = Vec::new(alloc);
-    put_global_symbols(alloc, &mut text, &symbols)?;
+    put_global_symbols(alloc, &mut text, header, &symbols)?;
     write_out(out, &text)?;
     Ok(())
 }
 
 /// Writes the symbols of the modules of these numbers; the global symbols where there is no number.
+#[tactic(auto, using(pdb_text::proofs::Written::any_err, crate::proofs::AnsweredLines::front_none))]
 fn write_numbered<'s, S: Source<'s>, W: Write>(
     alloc: Global,
     pdb: &mut PDB<'s, S>,
@@ -264,10 +270,11 @@ fn write_numbered<'s, S: Source<'s>, W: Write>(
     ensures ok { OnOk result (Appends (W.contents out.old) (W.contents out.new) (symbols_command pdb.old.file places.now)) }
     ensures front { OnErr result (WroteFront (W.contents out.old) (W.contents out.new) (symbols_command pdb.old.file places.now)) }
 {
+    let header = machine_of_file(pdb)?;
     if places.is_empty() {
-        write_globals(alloc, pdb, out)
+        write_globals(alloc, pdb, header, out)
     } else {
-        write_places(alloc, pdb, &Symbols, places, out)
+        write_places(alloc, pdb, &Symbols { header }, places, out)
     }
 }
 
@@ -301,5 +308,6 @@ pub fn write_all_symbols<'s, S: Source<'s>, W: Write>(
     ensures front { OnErr result (WroteFront (W.contents out.old) (W.contents out.new) (all_symbols_command (S.state source).file)) }
 {
     let mut pdb = opened(alloc, source)?;
-    write_all(alloc, &mut pdb, &Symbols, out)
+    let header = machine_of_file(&mut pdb)?;
+    write_all(alloc, &mut pdb, &Symbols { header }, out)
 }

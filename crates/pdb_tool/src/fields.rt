@@ -9,7 +9,7 @@ ghost use Rattle.pdb_tool.specs.ValueTexts.{bool_text, optional_index_text};
 
 use crate::values::{put_optional, put_place};
 use pdb::{PdbInternalSectionOffset, SymbolIndex, TypeIndex};
-use pdb_text::{put_decimal, put_hex4, put_hex8};
+use pdb_text::{put_decimal, put_hex8};
 use std::alloc::AllocError;
 
 /// The name of a field between a blank and `=`.
@@ -70,15 +70,6 @@ pub fn put_optional_index(
             out.extend_from_slice(b"-")
         }
     }
-}
-
-/// A number in four hex digits.
-#[tactic(auto, unfolding(crate::specs::FieldTexts::field))]
-pub fn put_register_field(out: &mut Vec<u8>, name: &[u8], n: u16) -> Result<(), AllocError>
-    ensures { OnOk result (out.new.items ≡ out.old.items ++ field name.now (hex 4 n)) }
-{
-    put_label(out, name)?;
-    put_hex4(out, n)
 }
 
 /// `true` or `false`.
@@ -156,7 +147,7 @@ pub fn put_body(out: &mut Vec<u8>, len: u32, start: u32, stop: u32) -> Result<()
 
 /// A module's place in the list, or `-` where there is none.
 #[tactic(auto, unfolding(crate::specs::FieldTexts::field))]
-fn put_module(out: &mut Vec<u8>, of_module: Option<usize>) -> Result<(), AllocError>
+pub fn put_module(out: &mut Vec<u8>, of_module: Option<usize>) -> Result<(), AllocError>
     ensures { OnOk result (out.new.items ≡ out.old.items ++ field (codes "module") (optional_text of_module)) }
 {
     match of_module {

@@ -1,6 +1,6 @@
 //! The fields of procedures and scopes.
 
-ghost use Rattle.std.specs.Prelude.{◌≡◌, ◌++◌, codes, drop, IfOk, OnOk};
+ghost use Rattle.std.specs.Prelude.{◌≡◌, ◌++◌, None, [], codes, drop, IfOk, OnOk};
 ghost use Rattle.pdb.specs.AnnotationViews.{annotation_bytes};
 ghost use Rattle.pdb.specs.Data.{shown};
 ghost use Rattle.pdb.specs.Forms.{Is, kind_at};
@@ -33,7 +33,7 @@ fn put_typed(out: &mut Vec<u8>, symbol: &ProcedureSymbol<'_>) -> Result<(), Allo
 
 /// The fields of a procedure.
 pub fn put_procedure(out: &mut Vec<u8>, symbol: &ProcedureSymbol<'_>) -> Result<(), AllocError>
-    ensures { OnOk result (out.new.items ≡ out.old.items ++ fields_text (shown (says.Procedure symbol.now))) }
+    ensures { OnOk result (out.new.items ≡ out.old.items ++ fields_text None [] (shown (says.Procedure symbol.now))) }
 {
     put_scope(out, symbol.parent, symbol.end, symbol.next)?;
     put_body(
@@ -49,7 +49,7 @@ pub fn put_procedure(out: &mut Vec<u8>, symbol: &ProcedureSymbol<'_>) -> Result<
 
 /// The fields of a label.
 pub fn put_label_symbol(out: &mut Vec<u8>, symbol: &LabelSymbol<'_>) -> Result<(), AllocError>
-    ensures { OnOk result (out.new.items ≡ out.old.items ++ fields_text (shown (says.Label symbol.now))) }
+    ensures { OnOk result (out.new.items ≡ out.old.items ++ fields_text None [] (shown (says.Label symbol.now))) }
 {
     put_place_field(out, b"offset", symbol.offset)?;
     put_procedure_flags(out, symbol.flags)
@@ -57,7 +57,7 @@ pub fn put_label_symbol(out: &mut Vec<u8>, symbol: &LabelSymbol<'_>) -> Result<(
 
 /// The fields of a block.
 pub fn put_block(out: &mut Vec<u8>, symbol: &BlockSymbol<'_>) -> Result<(), AllocError>
-    ensures { OnOk result (out.new.items ≡ out.old.items ++ fields_text (shown (says.Block symbol.now))) }
+    ensures { OnOk result (out.new.items ≡ out.old.items ++ fields_text None [] (shown (says.Block symbol.now))) }
 {
     put_span(out, symbol.parent, symbol.end, symbol.len)?;
     put_place_field(out, b"offset", symbol.offset)
@@ -66,7 +66,7 @@ pub fn put_block(out: &mut Vec<u8>, symbol: &BlockSymbol<'_>) -> Result<(), Allo
 /// The fields of a thunk.
 #[tactic(auto, unfolding(crate::specs::FieldTexts::field))]
 pub fn put_thunk(out: &mut Vec<u8>, symbol: &ThunkSymbol<'_>) -> Result<(), AllocError>
-    ensures { OnOk result (out.new.items ≡ out.old.items ++ fields_text (shown (says.Thunk symbol.now))) }
+    ensures { OnOk result (out.new.items ≡ out.old.items ++ fields_text None [] (shown (says.Thunk symbol.now))) }
 {
     put_scope(out, symbol.parent, symbol.end, symbol.next)?;
     put_place_field(out, b"offset", symbol.offset)?;
@@ -78,7 +78,7 @@ pub fn put_thunk(out: &mut Vec<u8>, symbol: &ThunkSymbol<'_>) -> Result<(), Allo
 /// The fields of a trampoline.
 #[tactic(auto, unfolding(crate::specs::FieldTexts::field))]
 pub fn put_trampoline_symbol(out: &mut Vec<u8>, symbol: &TrampolineSymbol) -> Result<(), AllocError>
-    ensures { OnOk result (out.new.items ≡ out.old.items ++ fields_text (shown (says.Trampoline symbol.now))) }
+    ensures { OnOk result (out.new.items ≡ out.old.items ++ fields_text None [] (shown (says.Trampoline symbol.now))) }
 {
     put_label(out, b"tramp_type")?;
     put_trampoline(out, symbol.tramp_type)?;
@@ -89,7 +89,7 @@ pub fn put_trampoline_symbol(out: &mut Vec<u8>, symbol: &TrampolineSymbol) -> Re
 
 /// The fields of separated code.
 pub fn put_separated_code(out: &mut Vec<u8>, symbol: &SeparatedCodeSymbol) -> Result<(), AllocError>
-    ensures { OnOk result (out.new.items ≡ out.old.items ++ fields_text (shown (says.SeparatedCode symbol.now))) }
+    ensures { OnOk result (out.new.items ≡ out.old.items ++ fields_text None [] (shown (says.SeparatedCode symbol.now))) }
 {
     put_span(out, symbol.parent, symbol.end, symbol.len)?;
     put_separated_code_flags(out, symbol.flags)?;
@@ -136,7 +136,7 @@ pub fn put_inline_site(
     symbol: &InlineSiteSymbol<'_>,
 ) -> Result<(), AllocError>
     requires { Is (symbol_of source.now).bytes (shown (says.InlineSite symbol.now)) }
-    ensures { OnOk result (out.new.items ≡ out.old.items ++ fields_text (shown (says.InlineSite symbol.now))) }
+    ensures { OnOk result (out.new.items ≡ out.old.items ++ fields_text None [] (shown (says.InlineSite symbol.now))) }
 {
     put_site(out, symbol)?;
     put_optional_number(out, b"invocations", symbol.invocations)?;

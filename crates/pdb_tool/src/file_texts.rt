@@ -5,13 +5,14 @@ ghost use Rattle.std.specs.Io.KnownBytes.{Appends};
 ghost use Rattle.pdb.specs.Container.{opens};
 ghost use Rattle.pdb.specs.Error.{Error};
 ghost use Rattle.pdb_text.specs.Written.{WroteFront};
-ghost use Rattle.pdb_tool.specs.FileTexts.{file_text};
+ghost use Rattle.pdb_tool.specs.FileTexts.{file_text, form_of};
 ghost use Rattle.pdb_tool.specs.declared.stop.Stop.{Stop};
 
 use crate::commands::{write_all_symbols, write_lines, write_scopes, write_symbols};
 use crate::lookups::{write_find, write_sources, write_where};
 use crate::module_lists::write_modules;
 use crate::operands::Operand;
+use crate::options::Form;
 use crate::question::Question;
 use crate::resolve::resolve_words;
 use crate::section_texts::write_sections;
@@ -42,12 +43,24 @@ pub enum FileText<'a> {
     Find(&'a [Operand<'a>]),
     /// Which addresses these lines of source files have.
     Where(&'a [SourceAsked<'a>]),
-    /// The list of modules.
-    Modules,
-    /// The section headers.
-    Sections,
-    /// The streams.
-    Streams,
+    /// The list of modules, in a form.
+    Modules(Form),
+    /// The section headers, in a form.
+    Sections(Form),
+    /// The streams, in a form.
+    Streams(Form),
+}
+
+impl FileText<'_> {
+    /// The form in which errors are written.
+    pub fn form(self) -> Form
+        ensures { result ≡ form_of self.entry }
+    {
+        match self {
+            FileText::Modules(form) | FileText::Sections(form) | FileText::Streams(form) => form,
+            _ => Form::Text,
+        }
+    }
 }
 
 /// Writes what a command writes of a source's file.
@@ -72,8 +85,8 @@ pub fn write_text<'s, S: Source<'s>, W: Write>(
         FileText::Sources(places) => write_sources(alloc, source, places, out),
         FileText::Find(words) => write_find(alloc, source, words, out),
         FileText::Where(asked) => write_where(alloc, source, asked, out),
-        FileText::Modules => write_modules(alloc, source, out),
-        FileText::Sections => write_sections(alloc, source, out),
-        FileText::Streams => write_streams(alloc, source, out),
+        FileText::Modules(form) => write_modules(alloc, source, form, out),
+        FileText::Sections(form) => write_sections(alloc, source, form, out),
+        FileText::Streams(form) => write_streams(alloc, source, form, out),
     }
 }

@@ -25,7 +25,7 @@ fn put_more_flags(out: &mut Vec<u8>, flags: &[(bool, &'static str)]) -> Result<(
 }
 
 /// The names of the flags that are set, joined by `+`, or `-` where none is.
-fn put_flags(out: &mut Vec<u8>, flags: &[(bool, &'static str)]) -> Result<(), AllocError>
+pub fn put_flags(out: &mut Vec<u8>, flags: &[(bool, &'static str)]) -> Result<(), AllocError>
     ensures { OnOk result (out.new.items ≡ out.old.items ++ flags_text (map (λ f. (f.0, f.1.now)) flags.now)) }
 {
     let Some(((is_set, name), behind)) = flags.split_first() else {
@@ -85,10 +85,14 @@ pub fn put_compile_flags(out: &mut Vec<u8>, flags: CompileFlags) -> Result<(), A
 }
 
 /// A local variable's flags, by the names of the bits in `cvinfo.h`, which from the fifth on aren't those of the
-/// fields.
+/// fields. Bit 10 has no field, and is that of the record's word.
 #[tactic(auto, unfolding(crate::specs::FieldTexts::field, crate::specs::Flags::local_flags))]
-pub fn put_local_flags(out: &mut Vec<u8>, flags: LocalVariableFlags) -> Result<(), AllocError>
-    ensures { OnOk result (out.new.items ≡ out.old.items ++ field (codes "flags") (local_flags flags)) }
+pub fn put_local_flags(
+    out: &mut Vec<u8>,
+    flags: LocalVariableFlags,
+    word: u16,
+) -> Result<(), AllocError>
+    ensures { OnOk result (out.new.items ≡ out.old.items ++ field (codes "flags") (local_flags flags word)) }
 {
     put_label(out, b"flags")?;
     put_flags(
@@ -104,6 +108,7 @@ pub fn put_local_flags(out: &mut Vec<u8>, flags: LocalVariableFlags) -> Result<(
             (flags.isoptimizedout, "retvalue"),
             (flags.isenreg_glob, "optimizedout"),
             (flags.isenreg_stat, "enreg_glob"),
+            (word & 0x400 != 0, "enreg_stat"),
         ],
     )
 }

@@ -33,13 +33,15 @@ pdb_tool prints what Microsoft symbol files (PDB) say about a program.
 
 K is the index of a module, counted from 0: modules lists them.
 
+With --json resolve, modules, sections, streams and key print a JSON object on each line.
+
 Exit status: 0, success; 1, a file of several could not be read, a file is damaged, or nothing
 was found; 2, a wrong argument; 3, a file can't be read; 4, it is no symbol file; 5, out of memory;
 6, standard output failed; 7, the file has another key than the wanted one.
 ";
 
 const RESOLVE: &str = "\
-pdb_tool resolve [--base=HEX] [--key=KEY | --image=IMAGE] [--addresses] FILE [ADDRESS..]
+pdb_tool resolve [--base=HEX] [--key=KEY | --image=IMAGE] [--addresses] [--json] FILE [ADDRESS..]
 
 Prints the code at each ADDRESS, innermost function first: the inlined functions, and then the
 function that contains them. Each function is its name on one line, and FILE:LINE:COLUMN on the
@@ -57,10 +59,12 @@ the same object file and no function that begins at it has ended.
               an EXE or DLL. FILE has to have the key of the PDB that it names. Its load address
               is the base where --base isn't given
   --addresses prints each ADDRESS on a line before its text
+  --json      prints each ADDRESS and its frames as a JSON object on one line. An unknown name or
+              file is null. A line of standard input that is no address has null for its frames
 
-Options stand before FILE or behind it. --base, --key and --image are given at most once, and not
-both --key and --image. --base HEX is --base=HEX. If FILE has another key than the wanted one,
-nothing is printed, and the status is 7.
+Options stand before FILE or behind it. --base, --key, --image and --json are given at most once,
+and not both --key and --image. --base HEX is --base=HEX. If FILE has another key than the wanted
+one, nothing is printed, and the status is 7.
 
 Without an ADDRESS each line of standard input is one. Its text is written before the next line is
 read. A line that is no address is printed as it is.
@@ -73,6 +77,8 @@ read. A line that is no address is printed as it is.
 
   $ pdb_tool resolve --image=app.exe app.pdb 0x140001108
   $ pdb_tool resolve --key=00112233445566778899AABBCCDDEEFF2 app.pdb 1108
+  $ pdb_tool resolve --json app.pdb 1:10c
+  {\"asked\":\"1:10c\",\"frames\":[{\"name\":\"main\",\"file\":\"a.c\",\"line\":2,\"column\":0}]}
 ";
 
 const FIND: &str = "\
@@ -163,18 +169,21 @@ the kind of the checksum of the file's contents (none, md5, sha1, sha256), the c
 ";
 
 const MODULES: &str = "\
-pdb_tool modules FILE
+pdb_tool modules [--json] FILE
 
 Prints the modules (object files) of which the image was linked: the index K, the number of bytes
 that came from the module, its name, and in brackets the library or the path that the linker read
-it from, if that is another one.
+it from, if that is another one. With --json that one is null if it is the name or unknown. A list
+that can't be read is a line `error N TEXT`, or an object with the members error and text.
 
   $ pdb_tool modules app.pdb
   0 48 a.obj
+  $ pdb_tool modules --json app.pdb
+  {\"module\":0,\"bytes\":48,\"name\":\"a.obj\",\"object\":null}
 ";
 
 const SECTIONS: &str = "\
-pdb_tool sections FILE
+pdb_tool sections [--json] FILE
 
 Prints the section headers of the image: the number in hex, counted from 1, the address relative to
 the load address, the size in memory, the characteristics in hex, and the name. `none` is printed if
@@ -182,10 +191,12 @@ the file has none.
 
   $ pdb_tool sections app.pdb
   0001 0x1000 4096 60000020 .text
+  $ pdb_tool sections --json app.pdb
+  {\"section\":1,\"rva\":\"0x1000\",\"size\":4096,\"flags\":\"60000020\",\"name\":\".text\"}
 ";
 
 const STREAMS: &str = "\
-pdb_tool streams FILE
+pdb_tool streams [--json] FILE
 
 Prints the streams of the file: the number, the size in bytes or - if the stream is absent, and what
 the stream is, or -. A stream can be several things: they are separated by commas.
@@ -194,20 +205,27 @@ the stream is, or -. A stream can be several things: they are separated by comma
   0 0 old directory
   1 67 information
   2 - types
+  $ pdb_tool streams --json app.pdb
+  {\"stream\":0,\"size\":0,\"what\":[\"old directory\"]}
+  {\"stream\":1,\"size\":67,\"what\":[\"information\"]}
+  {\"stream\":2,\"size\":null,\"what\":[\"types\"]}
 ";
 
 const KEY: &str = "\
-pdb_tool key FILE..
+pdb_tool key [--json] FILE..
 
 Prints the key under which a symbol server stores each FILE: of a PDB its GUID in 32 hex digits and
 its age in hex digits, a blank, and FILE. An image (EXE or DLL) has another key: its time stamp in
 eight hex digits and its size in hex digits. Behind FILE follow the key and the path of the PDB that
 it names, or - - if it names none. An error of a FILE is printed on standard error, and the status
-is then 1.
+is then 1. With --json each line is a JSON object, of an image with the members pdb_key and pdb too,
+which are null if it names no PDB.
 
   $ pdb_tool key app.pdb app.exe
   00112233445566778899AABBCCDDEEFF2 app.pdb
   112233443000 app.exe 00112233445566778899AABBCCDDEEFF2 C:\\app\\app.pdb
+  $ pdb_tool key --json app.pdb
+  {\"key\":\"00112233445566778899AABBCCDDEEFF2\",\"file\":\"app.pdb\"}
 ";
 
 const CHECK: &str = "\
@@ -227,7 +245,7 @@ anything is damaged.
 ";
 
 const RESOLVE_USAGE: &str =
-    "usage: pdb_tool resolve [--base=HEX] [--key=KEY | --image=IMAGE] [--addresses] FILE [ADDRESS..]\n";
+    "usage: pdb_tool resolve [--base=HEX] [--key=KEY | --image=IMAGE] [--addresses] [--json] FILE [ADDRESS..]\n";
 
 const FIND_USAGE: &str = "usage: pdb_tool find FILE NAME..\n";
 
@@ -235,11 +253,11 @@ const WHERE_USAGE: &str = "usage: pdb_tool where FILE SOURCE[:LINE[-LINE]]..\n";
 
 const SOURCES_USAGE: &str = "usage: pdb_tool sources FILE [K..]\n";
 
-const MODULES_USAGE: &str = "usage: pdb_tool modules FILE\n";
+const MODULES_USAGE: &str = "usage: pdb_tool modules [--json] FILE\n";
 
-const SECTIONS_USAGE: &str = "usage: pdb_tool sections FILE\n";
+const SECTIONS_USAGE: &str = "usage: pdb_tool sections [--json] FILE\n";
 
-const STREAMS_USAGE: &str = "usage: pdb_tool streams FILE\n";
+const STREAMS_USAGE: &str = "usage: pdb_tool streams [--json] FILE\n";
 
 const LINES_USAGE: &str = "usage: pdb_tool lines FILE [K..]\n";
 
@@ -247,7 +265,7 @@ const SCOPES_USAGE: &str = "usage: pdb_tool scopes FILE [K..]\n";
 
 const SYMBOLS_USAGE: &str = "usage: pdb_tool symbols [--all] FILE [K..]\n";
 
-const KEY_USAGE: &str = "usage: pdb_tool key FILE..\n";
+const KEY_USAGE: &str = "usage: pdb_tool key [--json] FILE..\n";
 
 const CHECK_USAGE: &str = "usage: pdb_tool check FILE..\n";
 

@@ -5,11 +5,13 @@ ghost use Rattle.std.specs.Option.{ForSome, option_map};
 ghost use Rattle.pdb.specs.Error.{Error};
 ghost use Rattle.pdb_image.specs.Headers.{is_image};
 ghost use Rattle.pdb_image.specs.Images.{image_of, reference, said};
-ghost use Rattle.pdb_tool.specs.KeyLines.{IsLine, image_line as image_line_of, image_text as text_of_image, key_line as key_line_of, own_key, pdb_named, pdb_text as text_of_pdb};
+ghost use Rattle.pdb_tool.specs.KeyLines.{IsLine, image_in as line_of_image, image_line as image_line_of, image_text as text_of_image, key_line as key_line_of, own_key, pdb_in as line_of_pdb, pdb_named, pdb_text as text_of_pdb};
 ghost use Rattle.pdb_tool.specs.Keys.{key_of_file};
 ghost use Rattle.pdb_tool.specs.declared.stop.Stop.{Stop};
 
 use crate::key::{key_in_parts, key_of, put_bytes, text};
+use crate::key_objects::{image_object, pdb_object};
+use crate::options::Form;
 use crate::stop::{Stop, stop_of_opening};
 use pdb::MemorySource;
 use pdb_file::ReadAt;
@@ -19,7 +21,12 @@ use std::alloc::{AllocError, Global};
 
 /// An image's own key: its time stamp in eight upper hex digits, and its size in lower ones.
 #[tactic(auto, unfolding(crate::specs::KeyLines::own_key))]
-fn put_own_key(alloc: Global, out: &mut Vec<u8>, stamp: u32, size: u32) -> Result<(), AllocError>
+pub fn put_own_key(
+    alloc: Global,
+    out: &mut Vec<u8>,
+    stamp: u32,
+    size: u32,
+) -> Result<(), AllocError>
     ensures { OnOk result (out.new.items ≡ out.old.items ++ own_key stamp size) }
 {
     let bytes = [
@@ -64,13 +71,23 @@ fn image_text(alloc: Global, image: Image<'_>, name: &[u8]) -> Result<Vec<u8>, A
     Ok(out)
 }
 
+/// The line of an image, in a form.
+fn image_in(alloc: Global, form: Form, image: Image<'_>, name: &[u8]) -> Result<Vec<u8>, AllocError>
+    ensures { IfOk result (λ v. v.items ≡ line_of_image form name.now (said image.entry)) }
+{
+    match form {
+        Form::Text => image_text(alloc, image, name),
+        Form::Json => image_object(alloc, image, name),
+    }
+}
+
 /// The line of an image's bytes.
-fn image_line(alloc: Global, bytes: &[u8], name: &[u8]) -> Result<Vec<u8>, Stop>
-    ensures line { IfOk result (λ v. image_line_of name.now (image_of bytes.now) ≡ Ok v.items) }
-    ensures stopped { (s : Stop) → s ≢ Stop.Memory → IsErrOf result s → image_line_of name.now (image_of bytes.now) ≡ Err s }
+fn image_line(alloc: Global, form: Form, bytes: &[u8], name: &[u8]) -> Result<Vec<u8>, Stop>
+    ensures line { IfOk result (λ v. image_line_of form name.now (image_of bytes.now) ≡ Ok v.items) }
+    ensures stopped { (s : Stop) → s ≢ Stop.Memory → IsErrOf result s → image_line_of form name.now (image_of bytes.now) ≡ Err s }
 {
     match Image::parse(bytes) {
-        Ok(image) => Ok(image_text(alloc, image, name)?),
+        Ok(image) => Ok(image_in(alloc, form, image, name)?),
         Err(e) => Err(Stop::Image(e)),
     }
 }
@@ -87,17 +104,27 @@ fn pdb_text(alloc: Global, key: &[u8], name: &[u8]) -> Result<Vec<u8>, AllocErro
     Ok(out)
 }
 
+/// The line of a PDB with this key, in a form.
+fn pdb_in(alloc: Global, form: Form, key: &[u8], name: &[u8]) -> Result<Vec<u8>, AllocError>
+    ensures { IfOk result (λ v. v.items ≡ line_of_pdb form name.now key.now) }
+{
+    match form {
+        Form::Text => pdb_text(alloc, key, name),
+        Form::Json => pdb_object(alloc, key, name),
+    }
+}
+
 /// The line of a file of these bytes and this name: of an image where it begins with `MZ`, else of a PDB.
 #[tactic(auto, unfolding(crate::specs::KeyLines::key_line), using(crate::proofs::RefusalIs::refusal_is))]
-pub fn key_line(alloc: Global, bytes: &[u8], name: &[u8]) -> Result<Vec<u8>, Stop>
-    ensures line { IfOk result (λ v. key_line_of name.now bytes.now ≡ Ok v.items) }
-    ensures stopped { (s : Stop) → s ≢ Stop.Memory → IsErrOf result s → key_line_of name.now bytes.now ≡ Err s }
+pub fn key_line(alloc: Global, form: Form, bytes: &[u8], name: &[u8]) -> Result<Vec<u8>, Stop>
+    ensures line { IfOk result (λ v. key_line_of form name.now bytes.now ≡ Ok v.items) }
+    ensures stopped { (s : Stop) → s ≢ Stop.Memory → IsErrOf result s → key_line_of form name.now bytes.now ≡ Err s }
 {
     if is_image(bytes) {
-        return image_line(alloc, bytes, name);
+        return image_line(alloc, form, bytes, name);
     }
     match key_of(alloc, MemorySource::new(bytes)) {
-        Ok(key) => Ok(pdb_text(alloc, &key, name)?),
+        Ok(key) => Ok(pdb_in(alloc, form, &key, name)?),
         Err(e) => Err(stop_of_opening(e)),
     }
 }
@@ -132,16 +159,17 @@ fn begins_as_image<R: ReadAt>(input: &R, size: u64) -> Result<bool, Stop>
 #[tactic(auto, unfolding(crate::specs::KeyLines::key_line))]
 pub fn line_in_parts<R: ReadAt>(
     alloc: Global,
+    form: Form,
     input: &R,
     size: u64,
     name: &[u8],
 ) -> Result<Option<Vec<u8>>, Stop>
-    ensures line { ForSome (R.known input.now) (λ G. length G ≡ size → IfOk result (λ o. IsLine name.now G (option_map (λ v. v.items) o))) }
+    ensures line { ForSome (R.known input.now) (λ G. length G ≡ size → IfOk result (λ o. IsLine form name.now G (option_map (λ v. v.items) o))) }
     ensures open { ForSome (R.known input.now) (λ G. length G ≡ size → (e : Error) → IsErrOf result (Stop.Open e) → (is_image G ≡ false) × (key_of_file G ≡ Err e)) }
 {
     if begins_as_image(input, size)? {
         return Ok(None);
     }
     let key = key_in_parts(alloc, input, size)?;
-    Ok(Some(pdb_text(alloc, &key, name)?))
+    Ok(Some(pdb_in(alloc, form, &key, name)?))
 }

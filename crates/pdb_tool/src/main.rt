@@ -11,6 +11,7 @@ mod checks;
 mod commands;
 mod depth;
 mod error_line;
+mod error_objects;
 mod fields;
 mod fields_code;
 mod fields_data;
@@ -21,24 +22,40 @@ mod find_texts;
 mod finder;
 mod findings;
 mod flags;
+mod frame_objects;
 mod help;
 mod host;
 mod in_parts;
+mod json_laws;
 mod key;
 mod key_line;
+mod key_objects;
 mod kind_names;
 mod line_texts;
 mod list_help;
 mod lookups;
 mod mistakes;
 mod module_lists;
+mod module_machine;
 mod module_sizes;
 mod module_texts;
+mod objects;
 mod opening;
 mod operands;
 mod options;
 mod output;
 mod question;
+mod record_code;
+mod record_fields;
+mod record_flags;
+mod record_image;
+mod record_lists;
+mod record_managed;
+mod record_ranges;
+mod record_texts;
+mod record_values;
+mod record_variables;
+mod register_names;
 mod report;
 mod resolve;
 mod scope_texts;
@@ -46,6 +63,7 @@ mod section_texts;
 mod source_texts;
 mod sources_asked;
 mod stop;
+mod stream_objects;
 mod stream_roles;
 mod stream_texts;
 mod symbol_texts;
@@ -66,7 +84,7 @@ use host::{Host, image_wants, size_in_parts};
 use key_line::{key_line, line_in_parts};
 use list_help::LIST;
 use operands::{Operand, all_questions};
-use options::{Options, Wanted};
+use options::{Form, Options, Wanted};
 use output::{Noticed, Output};
 use pdb_file::{read_all, size_of};
 use pdb_text::write_out;
@@ -220,7 +238,7 @@ fn print_listed<R: Files<File = File> + AllocGlobal, W: Write, E: Write>(
     streams: &mut Streams<'_, W, E>,
 ) -> Printed {
     let file = host.open(name)?;
-    let mut out = Noticed::new(streams.out);
+    let mut out = Noticed::new(streams.out, text.form());
     let written = write_text_of(host.alloc(), file, None, text, &mut out);
     let has_written = out.has_written();
     if out.has_error() {
@@ -243,16 +261,17 @@ fn print_all<R: Files<File = File> + AllocGlobal, W: Write, E: Write>(
 /// The line of a file: its key, and of an image that of its PDB.
 fn key_line_of<R: Files<File = File> + AllocGlobal>(
     host: &Host<'_, R>,
+    form: Form,
     name: Operand<'_>,
 ) -> Result<Vec<u8>, Stop> {
     let mut file = host.opened(name)?;
     if let Some(size) = size_of(&file) {
-        if let Some(line) = line_in_parts(host.alloc(), &file, size, name.word.as_bytes())? {
+        if let Some(line) = line_in_parts(host.alloc(), form, &file, size, name.word.as_bytes())? {
             return Ok(line);
         }
     }
     let bytes = read_all(host.alloc(), &mut file)?;
-    key_line(host.alloc(), &bytes, name.word.as_bytes())
+    key_line(host.alloc(), form, &bytes, name.word.as_bytes())
 }
 
 /// Writes why a file among several isn't read. The next one follows.
@@ -269,10 +288,11 @@ fn pass_over<R: Files<File = File> + AllocGlobal, E: Write>(
 /// Prints the key of a file. One that can't be read or opened has a message.
 fn print_key<R: Files<File = File> + AllocGlobal, W: Write, E: Write>(
     host: &Host<'_, R>,
+    form: Form,
     name: Operand<'_>,
     streams: &mut Streams<'_, W, E>,
 ) -> Printed {
-    match key_line_of(host, name) {
+    match key_line_of(host, form, name) {
         Ok(line) => {
             write_out(streams.out, &line)?;
             Ok(true)
@@ -288,13 +308,14 @@ fn print_key<R: Files<File = File> + AllocGlobal, W: Write, E: Write>(
 /// Prints the keys of files, one after another.
 fn print_keys<R: Files<File = File> + AllocGlobal, W: Write, E: Write>(
     host: &Host<'_, R>,
+    form: Form,
     first: Operand<'_>,
     others: &[Operand<'_>],
     streams: &mut Streams<'_, W, E>,
 ) -> Printed {
-    let mut all = print_key(host, first, streams)?;
+    let mut all = print_key(host, form, first, streams)?;
     for name in others {
-        all = print_key(host, *name, streams)? && all;
+        all = print_key(host, form, *name, streams)? && all;
     }
     Ok(all)
 }
@@ -357,7 +378,7 @@ fn run<R: Files<File = File> + Input + AllocGlobal, W: Write, E: Write>(
         Work::Help(topic) => print_own(help_of(topic), streams.out),
         Work::ListHelp => print_own(LIST, streams.out),
         Work::Version => print_own(VERSION, streams.out),
-        Work::Keys(first, others) => print_keys(host, first, &others, streams),
+        Work::Keys(form, first, others) => print_keys(host, form, first, &others, streams),
         Work::Checks(first, others) => print_checks(host, first, &others, streams),
         Work::Resolve(options, file, rest) => {
             print_code(host, options, file, &rest, words, streams)
@@ -372,9 +393,9 @@ fn run<R: Files<File = File> + Input + AllocGlobal, W: Write, E: Write>(
             print_listed(host, file, FileText::Find(&names), streams)
         }
         Work::Where(file, asked) => print_listed(host, file, FileText::Where(&asked), streams),
-        Work::Modules(file) => print_all(host, file, FileText::Modules, streams),
-        Work::Sections(file) => print_all(host, file, FileText::Sections, streams),
-        Work::Streams(file) => print_all(host, file, FileText::Streams, streams),
+        Work::Modules(form, file) => print_all(host, file, FileText::Modules(form), streams),
+        Work::Sections(form, file) => print_all(host, file, FileText::Sections(form), streams),
+        Work::Streams(form, file) => print_all(host, file, FileText::Streams(form), streams),
     }
 }
 

@@ -1,7 +1,9 @@
 //! The text of `modules`.
 
-ghost use Rattle.std.specs.Prelude.{◌≡◌, ℕ, ◌++◌, ◌⊎◌, true, Ok, Err, IfOk, IfErr, IsErrOf, OnOk, OnErr, codes};
+ghost use Rattle.std.specs.Prelude.{◌≡◌, ℕ, ◌∷◌, ◌++◌, ◌⊎◌, true, Ok, Err, IfOk, IfErr, IsErrOf, OnOk, OnErr, codes};
 ghost use Rattle.std.specs.Io.KnownBytes.{Appends};
+ghost use Rattle.json.specs.Token.{begin_object, key};
+ghost use Rattle.json.specs.Tree.{json_tokens, members_tokens};
 ghost use Rattle.pdb.specs.Container.{opens};
 ghost use Rattle.pdb.specs.Contributions.{contributions_in};
 ghost use Rattle.pdb.specs.DbiViews.{modules_left, modules_steps};
@@ -9,16 +11,19 @@ ghost use Rattle.pdb.specs.Error.{Error};
 ghost use Rattle.pdb.specs.Source.{Continues};
 ghost use Rattle.pdb_resolve.specs.AsIfEmpty.{items_of};
 ghost use Rattle.pdb_text.specs.Written.{WroteFront};
-ghost use Rattle.pdb_tool.specs.ModuleLists.{listed_line, module_list_text, modules_command, modules_of_stream, object_text};
+ghost use Rattle.pdb_tool.specs.ModuleLists.{listed_in, listed_line, listed_value, module_list_text, modules_command, modules_of_stream, object_member, object_text, object_value};
 ghost use Rattle.pdb_tool.specs.ModuleSizes.{bytes_of_module, size_in};
+ghost use Rattle.pdb_tool.specs.Objects.{Adds, json_line};
 ghost use Rattle.pdb_tool.specs.declared.stop.Stop.{Stop};
 
-use crate::error_line::put_error_line;
+use crate::error_objects::{put_error_in, put_refused_in};
 use crate::module_sizes::{size_of_module, sizes_of};
-use crate::module_texts::put_refused;
+use crate::objects::{begin_numbered, end_line, put_member, put_number, put_text, value_behind};
 use crate::opening::opened;
+use crate::options::Form;
 use crate::stop::Stop;
 use crate::values::put_behind_blank;
+use json::Writer;
 use pdb::{DebugInformation, FallibleIterator, Module, ModuleIter, PDB, Source};
 use pdb_text::{put_decimal, put_field, put_line_end, put_one_line, write_out};
 use std::alloc::{AllocError, Global};
@@ -66,17 +71,99 @@ fn put_listed(
     put_line_end(out)
 }
 
+/// The file from which a module came, as a JSON value.
+fn put_object_value(
+    alloc: Global,
+    writer: &mut Writer,
+    listed: &Module<'_>,
+) -> Result<(), AllocError>
+    ensures { Adds result writer.old writer.new (json_tokens (object_value listed.now)) }
+{
+    let object = listed.raw_object_file_name().as_bytes();
+    if object == b"".as_slice() || object == listed.raw_module_name().as_bytes() {
+        return writer.null();
+    }
+    put_text(alloc, writer, object)
+}
+
+/// The same, as the last member of an object.
+fn put_object_member(
+    alloc: Global,
+    writer: &mut Writer,
+    listed: &Module<'_>,
+) -> Result<(), AllocError>
+    ensures { Adds result writer.old writer.new (members_tokens (object_member listed.now)) }
+{
+    writer.key("object")?;
+    put_object_value(alloc, writer, listed)?;
+    writer.end_object()
+}
+
+/// The JSON object of module `k`.
+fn put_listed_value(
+    alloc: Global,
+    writer: &mut Writer,
+    sizes: &[u64],
+    k: u64,
+    listed: &Module<'_>,
+) -> Result<(), AllocError>
+    ensures { Adds result writer.old writer.new (json_tokens (listed_value (size_in sizes.now) k listed.now)) }
+{
+    begin_numbered(writer, "module", k)?;
+    put_number(writer, "bytes", size_of_module(sizes, k))?;
+    put_member(alloc, writer, "name", listed.raw_module_name().as_bytes())?;
+    put_object_member(alloc, writer, listed)?;
+    Ok(())
+}
+
+/// Its line, as an object.
+#[tactic(auto, unfolding(crate::specs::Objects::json_line))]
+fn put_listed_object(
+    out: &mut Vec<u8>,
+    sizes: &[u64],
+    k: u64,
+    listed: &Module<'_>,
+) -> Result<(), AllocError>
+    ensures { OnOk result (out.new.items ≡ out.old.items ++ json_line (listed_value (size_in sizes.now) k listed.now)) }
+{
+    let alloc = *out.allocator();
+    let mut writer = value_behind(out);
+    put_listed_value(alloc, &mut writer, sizes, k, listed)?;
+    end_line(out, writer)
+}
+
+/// The line of module `k`, in a form.
+fn put_listed_in(
+    out: &mut Vec<u8>,
+    form: Form,
+    sizes: &[u64],
+    k: u64,
+    listed: &Module<'_>,
+) -> Result<(), AllocError>
+    ensures { OnOk result (out.new.items ≡ out.old.items ++ listed_in form (size_in sizes.now) k listed.now) }
+{
+    match form {
+        Form::Text => put_listed(out, sizes, k, listed),
+        Form::Json => put_listed_object(out, sizes, k, listed),
+    }
+}
+
 /// The lines of the modules of a list, from its start, and then that of its fault.
-fn put_list(out: &mut Vec<u8>, sizes: &[u64], mut modules: ModuleIter<'_>) -> Result<(), AllocError>
+fn put_list(
+    out: &mut Vec<u8>,
+    form: Form,
+    sizes: &[u64],
+    mut modules: ModuleIter<'_>,
+) -> Result<(), AllocError>
     requires { modules_steps modules ≡ 0 }
-    ensures { OnOk result (out.new.items ≡ out.old.items ++ module_list_text (size_in sizes.now) 0 (modules_left modules.entry)) }
+    ensures { OnOk result (out.new.items ≡ out.old.items ++ module_list_text form (size_in sizes.now) 0 (modules_left modules.entry)) }
 {
     let mut k = 0;
     loop {
         match modules.next() {
-            Ok(Some(listed)) => put_listed(out, sizes, k, &listed)?,
+            Ok(Some(listed)) => put_listed_in(out, form, sizes, k, &listed)?,
             Ok(None) => return Ok(()),
-            Err(e) => return put_error_line(out, e),
+            Err(e) => return put_error_in(out, form, e),
         }
         k += 1;
     }
@@ -86,15 +173,16 @@ fn put_list(out: &mut Vec<u8>, sizes: &[u64], mut modules: ModuleIter<'_>) -> Re
 fn put_stream(
     alloc: Global,
     out: &mut Vec<u8>,
+    form: Form,
     information: &DebugInformation<'_>,
 ) -> Result<(), Stop>
-    ensures text { OnOk result (out.new.items ≡ out.old.items ++ modules_of_stream information.now) }
+    ensures text { OnOk result (out.new.items ≡ out.old.items ++ modules_of_stream form information.now) }
     ensures unwritten { IfErr result (λ e. (e ≡ Stop.Memory) ⊎ (e ≡ Stop.Read)) }
 {
     let sizes = module_sizes(alloc, information)?;
     match information.modules() {
-        Ok(modules) => Ok(put_list(out, &sizes, modules)?),
-        Err(e) => put_refused(out, e),
+        Ok(modules) => Ok(put_list(out, form, &sizes, modules)?),
+        Err(e) => put_refused_in(out, form, e),
     }
 }
 
@@ -103,15 +191,16 @@ fn put_stream(
 fn put_modules<'s, S: Source<'s>>(
     alloc: Global,
     pdb: &mut PDB<'s, S>,
+    form: Form,
     out: &mut Vec<u8>,
 ) -> Result<(), Stop>
     ensures continues { Continues pdb.old pdb.new }
-    ensures text { OnOk result (out.new.items ≡ out.old.items ++ modules_command pdb.old.file) }
+    ensures text { OnOk result (out.new.items ≡ out.old.items ++ modules_command form pdb.old.file) }
     ensures unwritten { IfErr result (λ e. (e ≡ Stop.Memory) ⊎ (e ≡ Stop.Read)) }
 {
     match pdb.debug_information() {
-        Ok(information) => put_stream(alloc, out, &information),
-        Err(e) => put_refused(out, e),
+        Ok(information) => put_stream(alloc, out, form, &information),
+        Err(e) => put_refused_in(out, form, e),
     }
 }
 
@@ -120,16 +209,17 @@ fn put_modules<'s, S: Source<'s>>(
 pub fn write_modules<'s, S: Source<'s>, W: Write>(
     alloc: Global,
     source: S,
+    form: Form,
     out: &mut W,
 ) -> Result<(), Stop>
     ensures opened { OnOk result (opens (S.state source).file ≡ Ok tt) }
-    ensures ok { OnOk result (Appends (W.contents out.old) (W.contents out.new) (modules_command (S.state source).file)) }
+    ensures ok { OnOk result (Appends (W.contents out.old) (W.contents out.new) (modules_command form (S.state source).file)) }
     ensures refused { (S.state source).steady ≡ true → (e : Error) → IsErrOf result (Stop.Open e) → opens (S.state source).file ≡ Err e }
-    ensures front { OnErr result (WroteFront (W.contents out.old) (W.contents out.new) (modules_command (S.state source).file)) }
+    ensures front { OnErr result (WroteFront (W.contents out.old) (W.contents out.new) (modules_command form (S.state source).file)) }
 {
     let mut pdb = opened(alloc, source)?;
     let mut text = Vec::new(alloc);
-    put_modules(alloc, &mut pdb, &mut text)?;
+    put_modules(alloc, &mut pdb, form, &mut text)?;
     write_out(out, &text)?;
     Ok(())
 }

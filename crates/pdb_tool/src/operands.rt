@@ -16,12 +16,12 @@ use crate::words::WordsError;
 use pdb_text::number_in;
 use std::alloc::{AllocError, Global};
 
-/// A word that is no option.
+/// An argument that is no option.
 #[derive(Clone, Copy, Debug)]
 pub struct Operand<'w> {
-    /// Its place among the program's words.
+    /// Its index among the program's arguments.
     pub place: usize,
-    /// The word.
+    /// Its text.
     pub word: &'w str,
 }
 
@@ -60,7 +60,7 @@ fn behind_word(next: Next, word: &[u8]) -> Next
     }
 }
 
-/// The arguments that are neither an option nor its value, of arguments of which the first stands at `place`.
+/// The arguments that are neither an option nor its value, of arguments of which the first has the index `place`.
 #[tactic(auto, using(crate::proofs::OperandWords::begins, crate::proofs::OperandWords::ends, crate::proofs::OperandWords::other_there, crate::proofs::OperandWords::operand_there))]
 pub fn operands_in<'w>(
     alloc: Global,
@@ -84,7 +84,7 @@ pub fn operands_in<'w>(
     Ok(all)
 }
 
-/// What the words ask for.
+/// The questions of operands.
 #[tactic(auto, using(crate::proofs::AllWords::all_there, crate::proofs::AllWords::begins, crate::proofs::AllWords::none_there, crate::proofs::AllWords::one_more))]
 pub fn all_questions<'w>(
     alloc: Global,
@@ -103,7 +103,7 @@ pub fn all_questions<'w>(
     Ok(all)
 }
 
-/// What numbers the words are.
+/// The numbers that operands are.
 #[tactic(auto, using(crate::proofs::AllWords::all_there, crate::proofs::AllWords::begins, crate::proofs::AllWords::none_there, crate::proofs::AllWords::one_more))]
 pub fn all_numbers(alloc: Global, words: &[Operand<'_>]) -> Result<Vec<u32>, WordsError>
     ensures { Tells (λ v. v.items) result (all_in number_in (map operand_view words.now)) }
@@ -118,7 +118,7 @@ pub fn all_numbers(alloc: Global, words: &[Operand<'_>]) -> Result<Vec<u32>, Wor
     Ok(all)
 }
 
-/// What lines of source files the words ask for.
+/// The lines of source files that operands name.
 #[tactic(auto, using(crate::proofs::AllWords::all_there, crate::proofs::AllWords::begins, crate::proofs::AllWords::none_there, crate::proofs::AllWords::one_more))]
 pub fn all_sources<'w>(
     alloc: Global,
@@ -136,7 +136,7 @@ pub fn all_sources<'w>(
     Ok(all)
 }
 
-/// The place of the first word that is empty.
+/// The index of the first operand that is empty.
 pub fn first_empty(words: &[Operand<'_>]) -> Option<usize>
     ensures { result ≡ first_empty (map operand_view words.now) }
 {

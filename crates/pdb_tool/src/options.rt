@@ -1,20 +1,30 @@
 //! What the options of a command say.
 
 ghost use Rattle.std.specs.Prelude.{◌≡◌, ◌+◌, ◌<◌, ◌^◌, map, string_bytes, length};
-ghost use Rattle.pdb_tool.specs.Options.{is_base, is_dashes, is_option, is_key, is_value, nothing_given, options_of, wanting_base, with_base, with_base_of, with_option, with_plain, with_resolve_option, with_symbols_option, with_wanted, with_wanted_option, with_word};
+ghost use Rattle.pdb_tool.specs.Options.{is_base, is_dashes, is_option, is_key, is_value, nothing_given, options_of, takes_json, wanting_base, with_base, with_base_of, with_json, with_option, with_plain, with_resolve_option, with_symbols_option, with_wanted, with_wanted_option, with_word};
 ghost use Rattle.std.specs.Char.{is_ascii_hexdigit};
 ghost use Rattle.pdb_tool.specs.Words.{Tells};
 
 use crate::asked::{address_number, is_all_hex};
 use crate::words::{Topic, WordsError};
 
-/// What names the PDB that is wanted: an option, by its place among the program's words, counted from 0.
+/// What names the PDB that is wanted: an option, by its index among the program's arguments, counted from 0.
 #[derive(Clone, Copy, Debug, PartialEq, Eq)]
 pub enum Wanted {
     /// `--key=KEY`: the one of this key.
     Key(usize),
     /// `--image=IMAGE`: the one that an image names.
     Image(usize),
+}
+
+/// How the output of a command is written.
+#[derive(Clone, Copy, Debug, Default, PartialEq, Eq)]
+pub enum Form {
+    /// Text for people.
+    #[default]
+    Text,
+    /// A JSON object a line.
+    Json,
 }
 
 /// What the options of a command say.
@@ -28,6 +38,8 @@ pub struct Options {
     pub addresses: bool,
     /// Whether the symbols of all modules are meant.
     pub all: bool,
+    /// How the output is written.
+    pub form: Form,
 }
 
 impl Options {
@@ -63,14 +75,14 @@ pub struct Given {
     has_file: bool,
 }
 
-/// Whether a word is an option's.
+/// Whether an argument is an option's.
 pub fn is_option(word: &[u8]) -> bool
     ensures { result ≡ is_option word.now }
 {
     word.starts_with(b"--")
 }
 
-/// Whether a word is the option whose value is the word behind it.
+/// Whether an argument is the option whose value is the argument behind it.
 pub fn is_base(word: &[u8]) -> bool
     ensures { result ≡ is_base word.now }
 {
@@ -84,7 +96,7 @@ pub fn is_dashes(word: &[u8]) -> bool
     word == b"--".as_slice()
 }
 
-/// With the next word as the base; none where there is a base.
+/// With the next argument as the base; none where there is a base.
 fn wanting_base(given: Given) -> Option<Given>
     ensures { result ≡ wanting_base given }
 {
@@ -97,7 +109,7 @@ fn wanting_base(given: Given) -> Option<Given>
     })
 }
 
-/// With this base; none where there is one, or where a word is no number.
+/// With this base; none where there is one, or where an argument is no number.
 fn with_base(given: Given, base: Option<u64>) -> Option<Given>
     ensures { result ≡ with_base given base }
 {
@@ -115,7 +127,7 @@ fn with_base(given: Given, base: Option<u64>) -> Option<Given>
     })
 }
 
-/// Whether a word is a key: 33 to 40 hex digits.
+/// Whether an argument is a key: 33 to 40 hex digits.
 fn is_key(word: &[u8]) -> bool
     ensures { result ≡ is_key word.now }
 {
@@ -186,10 +198,39 @@ fn with_symbols_option(given: Given, word: &[u8]) -> Option<Given>
     Some(Given { options, ..given })
 }
 
+/// Whether a command can write JSON.
+fn takes_json(topic: Topic) -> bool
+    ensures { result ≡ takes_json topic }
+{
+    match topic {
+        Topic::Resolve | Topic::Modules | Topic::Sections | Topic::Streams | Topic::Key => true,
+        _ => false,
+    }
+}
+
+/// With output in JSON; none where that was given before.
+fn with_json(given: Given) -> Option<Given>
+    ensures { result ≡ with_json given }
+{
+    match given.options.form {
+        Form::Json => None,
+        Form::Text => {
+            let options = Options {
+                form: Form::Json,
+                ..given.options
+            };
+            Some(Given { options, ..given })
+        }
+    }
+}
+
 /// With an option of a command.
 fn with_option(topic: Topic, given: Given, place: usize, word: &[u8]) -> Option<Given>
     ensures { result ≡ with_option topic given place word.now }
 {
+    if takes_json(topic) && word == b"--json".as_slice() {
+        return with_json(given);
+    }
     match topic {
         Topic::Resolve => with_resolve_option(given, place, word),
         Topic::Symbols => with_symbols_option(given, word),
@@ -241,8 +282,8 @@ fn is_value(next: Next) -> bool
     }
 }
 
-/// The options of a command, of whose words the first stands at `place` among the program's words. One of the words has
-/// to name a file.
+/// The options of a command, of whose arguments the first has the index `place` among the program's. One of them has to
+/// name a file.
 #[tactic(auto, using(crate::proofs::OptionWords::bad_there, crate::proofs::OptionWords::begins, crate::proofs::OptionWords::ends, crate::proofs::OptionWords::one_more))]
 pub fn options_in(topic: Topic, words: &[String], place: usize) -> Result<Options, WordsError>
     requires { place + length words.now < 2 ^ 64 }

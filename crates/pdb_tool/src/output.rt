@@ -1,5 +1,6 @@
 //! Standard output, whose reader may close it.
 
+use crate::options::Form;
 use bstr::ByteSlice;
 use std::io::{self, ErrorKind, Write};
 
@@ -49,10 +50,14 @@ const ERROR_LINE: &[u8] = b"error ";
 /// What stands before such a line inside a text.
 const NEXT_ERROR_LINE: &[u8] = b"\nerror ";
 
+/// What stands before the number in the JSON object of an error. Inside a string a quote stands behind a backslash.
+const ERROR_MEMBER: &[u8] = b",\"error\":";
+
 /// A writer that remembers whether anything was written, and whether a line of an error was.
 #[derive(Drop)]
 pub struct Noticed<'a, W: Write> {
     inner: &'a mut W,
+    form: Form,
     has_written: bool,
     has_error: bool,
     /// Whether the next byte begins a line.
@@ -60,10 +65,11 @@ pub struct Noticed<'a, W: Write> {
 }
 
 impl<'a, W: Write> Noticed<'a, W> {
-    /// Output to a writer, of which nothing was written yet.
-    pub fn new(inner: &'a mut W) -> Self {
+    /// Output in a form to a writer, of which nothing was written yet.
+    pub fn new(inner: &'a mut W, form: Form) -> Self {
         Noticed {
             inner,
+            form,
             has_written: false,
             has_error: false,
             at_line_start: true,
@@ -86,6 +92,17 @@ fn has_error_line(at_line_start: bool, bytes: &[u8]) -> bool {
     at_line_start && bytes.starts_with(ERROR_LINE) || bytes.find(NEXT_ERROR_LINE).is_some()
 }
 
+/// Whether the object of an error is in bytes. What isn't there has `null` in place of a number.
+fn has_error_object(bytes: &[u8]) -> bool {
+    for at in bytes.find_iter(ERROR_MEMBER) {
+        match bytes.get(at.saturating_add(ERROR_MEMBER.len())) {
+            Some(next) if next.is_ascii_digit() => return true,
+            _ => {}
+        }
+    }
+    false
+}
+
 /// Whether a line begins behind bytes.
 fn ends_line(at_line_start: bool, bytes: &[u8]) -> bool {
     match bytes.last() {
@@ -100,7 +117,11 @@ impl<'a, W: Write> Write for Noticed<'a, W> {
     fn write(&mut self, bytes: &[u8]) -> io::Result<usize> {
         let count = self.inner.write(bytes)?;
         let written = bytes.get(..count).unwrap_or(&[]);
-        self.has_error = self.has_error || has_error_line(self.at_line_start, written);
+        let has_error = match self.form {
+            Form::Text => has_error_line(self.at_line_start, written),
+            Form::Json => has_error_object(written),
+        };
+        self.has_error = self.has_error || has_error;
         self.at_line_start = ends_line(self.at_line_start, written);
         self.has_written = true;
         Ok(count)

@@ -1,26 +1,50 @@
 //! What a word or a line asks for.
 
 ghost use Rattle.std.specs.Prelude.{◌≡◌, option_map};
-ghost use Rattle.pdb_tool.specs.Questions.{question_of, question_view};
+ghost use Rattle.pdb_tool.specs.Questions.{answer_view, question_of, question_view, style_of};
 
 use crate::asked::{Asked, asked_in};
-use crate::options::Options;
+use crate::options::{Form, Options};
 
-/// What is asked for, and the word that asks, where it is written before the text.
+/// How the code at an address is written.
+#[derive(Clone, Copy, Debug)]
+pub enum Answer<'w> {
+    /// As text.
+    Frames,
+    /// As text behind a line with the argument.
+    Headed(&'w [u8]),
+    /// As a JSON object with the argument.
+    Object(&'w [u8]),
+}
+
+/// An address, and how its code is written.
 #[derive(Clone, Copy, Debug)]
 pub struct Question<'w> {
-    /// The word, if it is written.
-    pub heading: Option<&'w [u8]>,
-    /// What it asks for.
+    /// How it is written.
+    pub answer: Answer<'w>,
+    /// The address.
     pub asked: Asked,
 }
 
-/// What a word asks for; none where it is no address.
+/// How the code at the address is written that an argument is.
+fn answer_of(options: Options, word: &[u8]) -> Answer<'_>
+    ensures { answer_view result ≡ style_of options.form options.addresses word.now }
+{
+    match options.form {
+        Form::Json => Answer::Object(word),
+        Form::Text if options.addresses => Answer::Headed(word),
+        Form::Text => Answer::Frames,
+    }
+}
+
+/// The address that an argument is, and how its code is written; none where it is no address.
 #[tactic(auto, unfolding(crate::specs::Questions::question_of))]
 pub fn question_of(options: Options, word: &[u8]) -> Option<Question<'_>>
     ensures { option_map question_view result ≡ question_of options word.now }
 {
     let asked = asked_in(options.base, word)?;
-    let heading = if options.addresses { Some(word) } else { None };
-    Some(Question { heading, asked })
+    Some(Question {
+        answer: answer_of(options, word),
+        asked,
+    })
 }

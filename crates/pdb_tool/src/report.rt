@@ -17,13 +17,13 @@ pub type Kind = Option<(FileKind, u64)>;
 /// Why the program failed.
 #[derive(Clone, Copy, Debug, PartialEq, Eq)]
 pub enum Fault {
-    /// The word at this place is none that can stand there; their number where one is missing.
+    /// The argument of this index is wrong; the number of arguments where one is missing.
     BadWord(usize),
     /// The argument of this index isn't UTF-8.
     NotText(usize),
     /// Standard input, which is to be read, is closed.
     NoInput,
-    /// A command stopped over the file that the word at this place names.
+    /// A command stopped over the file that the argument of this index names.
     Stopped(Stop, usize),
     /// A file isn't the wanted one, and that was said.
     OtherKey,
@@ -137,7 +137,7 @@ pub fn write_damage<W: Write>(name: &str, err: &mut W) -> Result<(), WriteFailed
     )
 }
 
-/// The file that a word names: an image behind its option, or else the word itself.
+/// The file that an argument names: an image behind its option, or else the argument itself.
 pub fn file_in_word(word: &str) -> &str {
     word.strip_prefix("--image=").unwrap_or(word)
 }

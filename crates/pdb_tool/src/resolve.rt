@@ -1,26 +1,41 @@
 //! Texts of the code at addresses.
 
-ghost use Rattle.std.specs.Prelude.{◌≡◌, ◌≢◌, ◌<◌, ◌++◌, ◌⊎◌, ℕ, true, false, flat_map, IfOk, IfErr, IfSome, OnOk, OnErr, IsErrOf, IsErrAnd, Some, Ok, Err, length};
+ghost use Rattle.std.specs.Prelude.{◌≡◌, ◌≢◌, codes, ◌<◌, ◌++◌, ◌⊎◌, ℕ, true, false, flat_map, IfOk, IfErr, IfSome, OnOk, OnErr, IsErrOf, IsErrAnd, Some, Ok, Err, length};
 ghost use Rattle.std.specs.Io.KnownBytes.{Appends, IsAtEnd};
 ghost use Rattle.std.specs.Io.BufRead.{drop_through, strip_last, take_through};
 ghost use Rattle.pdb.specs.Container.{opens};
 ghost use Rattle.pdb.specs.Error.{Error};
 ghost use Rattle.pdb.specs.Source.{Continues};
 ghost use Rattle.pdb_text.specs.Written.{WroteFirst, WroteFront};
-ghost use Rattle.pdb_tool.specs.Questions.{asks_text, line_text, question_text, question_view};
+ghost use Rattle.pdb_tool.specs.Questions.{asked_line, asks_text, line_text, question_text, question_view, unasked_text};
 ghost use Rattle.pdb_tool.specs.Asked.{AnsweredUpTo, asked_place, asked_text, lines_of, of_first_line, without_blanks};
 ghost use Rattle.pdb_tool.specs.declared.stop.Stop.{Stop};
 
 use crate::asked::Asked;
+use crate::frame_objects::{put_asked_line, put_unasked_line};
 use crate::opening::opened;
-use crate::options::Options;
-use crate::question::{Question, question_of};
+use crate::options::{Form, Options};
+use crate::question::{Answer, Question, question_of};
 use crate::stop::{Stop, stop_of};
-use pdb::Source;
+use pdb::{PdbInternalSectionOffset, Source};
 use pdb_resolve::{Resolver, Streams};
 use pdb_text::{put_line_end, write_out};
-use std::alloc::Global;
+use std::alloc::{AllocError, Global};
 use std::io::{self, BufRead, ErrorKind, Write};
+
+/// The place of what is asked for.
+fn place_of<'s, S: Source<'s>>(
+    resolver: &Resolver<'_, 's, S>,
+    asked: Asked,
+) -> Option<PdbInternalSectionOffset>
+    ensures { result ≡ asked_place resolver.now.file asked }
+{
+    match asked {
+        Asked::Address(address) => resolver.place(address),
+        Asked::Place(place) => Some(place),
+        Asked::Nowhere => None,
+    }
+}
 
 // piece: put_asked
 /// The text of what is asked for.
@@ -34,14 +49,44 @@ pub fn put_asked<'s, S: Source<'s>>(
     ensures text { OnOk result (out.new.items ≡ out.old.items ++ asked_text resolver.old.file asked) }
     ensures unwritten { IfErr result (λ e. (e ≡ Stop.Memory) ⊎ (e ≡ Stop.Read)) }
 {
-    let place = match asked {
-        Asked::Address(address) => resolver.place(address),
-        Asked::Place(place) => Some(place),
-        Asked::Nowhere => None,
-    };
+    let place = place_of(resolver, asked);
     resolver.put_text(out, place).map_err(stop_of)
 }
 // end
+
+/// The text of what is asked for, behind a line with the argument.
+fn put_headed<'s, S: Source<'s>>(
+    resolver: &mut Resolver<'_, 's, S>,
+    out: &mut Vec<u8>,
+    word: &[u8],
+    asked: Asked,
+) -> Result<(), Stop>
+    ensures continues { Continues resolver.old resolver.new }
+    ensures text { OnOk result (out.new.items ≡ out.old.items ++ (word.now ++ codes "\n" ++ asked_text resolver.old.file asked)) }
+    ensures unwritten { IfErr result (λ e. (e ≡ Stop.Memory) ⊎ (e ≡ Stop.Read)) }
+{
+    out.extend_from_slice(word)?;
+    put_line_end(out)?;
+    put_asked(resolver, out, asked)
+}
+
+/// The JSON object of an argument, and of the frames of what it asks for.
+#[tactic(auto, unfolding(crate::specs::Questions::asked_line))]
+fn put_object<'s, S: Source<'s>>(
+    resolver: &mut Resolver<'_, 's, S>,
+    out: &mut Vec<u8>,
+    word: &[u8],
+    asked: Asked,
+) -> Result<(), Stop>
+    ensures continues { Continues resolver.old resolver.new }
+    ensures text { OnOk result (out.new.items ≡ out.old.items ++ asked_line resolver.old.file word.now asked) }
+    ensures unwritten { IfErr result (λ e. (e ≡ Stop.Memory) ⊎ (e ≡ Stop.Read)) }
+{
+    let place = place_of(resolver, asked);
+    let frames = resolver.frames(place).map_err(stop_of)?;
+    let alloc = *out.allocator();
+    Ok(put_asked_line(alloc, out, word, &frames)?)
+}
 
 /// The text of a question: what asks it, where that is written, and what code stands there.
 #[tactic(auto, unfolding(crate::specs::Questions::question_text))]
@@ -54,11 +99,11 @@ pub fn put_question<'s, S: Source<'s>>(
     ensures text { OnOk result (out.new.items ≡ out.old.items ++ asks_text resolver.old.file question.now) }
     ensures unwritten { IfErr result (λ e. (e ≡ Stop.Memory) ⊎ (e ≡ Stop.Read)) }
 {
-    if let Some(heading) = question.heading {
-        out.extend_from_slice(heading)?;
-        put_line_end(out)?;
+    match question.answer {
+        Answer::Frames => put_asked(resolver, out, question.asked),
+        Answer::Headed(word) => put_headed(resolver, out, word, question.asked),
+        Answer::Object(word) => put_object(resolver, out, word, question.asked),
     }
-    put_asked(resolver, out, question.asked)
 }
 
 // piece: write_asked
@@ -88,6 +133,22 @@ pub fn write_asked<'s, S: Source<'s>, W: Write>(
 }
 // end
 
+/// The answer to a line that is no address.
+fn put_unasked(form: Form, line: &[u8], out: &mut Vec<u8>) -> Result<(), AllocError>
+    ensures { OnOk result (out.new.items ≡ out.old.items ++ unasked_text form line.now) }
+{
+    match form {
+        Form::Text => {
+            out.extend_from_slice(line)?;
+            put_line_end(out)
+        }
+        Form::Json => {
+            let alloc = *out.allocator();
+            put_unasked_line(alloc, out, line)
+        }
+    }
+}
+
 /// The text that answers a line without its end.
 #[tactic(auto, unfolding(crate::specs::Questions::line_text), using(std::proofs::lemmas::Str::Ascii::trim_ascii_is))]
 fn put_answer<'s, S: Source<'s>>(
@@ -102,11 +163,7 @@ fn put_answer<'s, S: Source<'s>>(
 {
     match question_of(options, trimmed(line)) {
         Some(question) => put_question(resolver, out, &question),
-        None => {
-            out.extend_from_slice(line)?;
-            put_line_end(out)?;
-            Ok(())
-        }
+        None => Ok(put_unasked(options.form, line, out)?),
     }
 }
 

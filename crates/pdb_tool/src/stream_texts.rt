@@ -14,12 +14,15 @@ ghost use Rattle.pdb.specs.Source.{Continues};
 ghost use Rattle.pdb_text.specs.Written.{WroteFront};
 ghost use Rattle.pdb_tool.specs.StreamOrder.{is_of, rises};
 ghost use Rattle.pdb_tool.specs.StreamRoles.{hash_roles, known_text, role_view, stream_number};
-ghost use Rattle.pdb_tool.specs.StreamTexts.{debug_roles, information_roles, line_of, read_or_none, role_line, roles_by, roles_of, size_text, stream_line, streams_command, what_list};
+ghost use Rattle.pdb_tool.specs.StreamTexts.{debug_roles, information_roles, line_in, line_of, read_or_none, role_line, roles_by, roles_of, size_text, stream_line, stream_value, streams_command, what_list};
+ghost use Rattle.pdb_tool.specs.Objects.{json_line};
 ghost use Rattle.pdb_tool.specs.declared.stop.Stop.{Stop};
 
-use crate::module_texts::put_refused;
+use crate::error_objects::put_refused_in;
 use crate::opening::opened;
+use crate::options::Form;
 use crate::stop::Stop;
+use crate::stream_objects::put_line_object;
 use crate::stream_roles::{
     Known, Role, put_extra, put_fixed, put_hashes, put_header, put_modules, put_names, put_what,
     sort,
@@ -83,6 +86,23 @@ fn put_line(
     put_line_end(out)
 }
 
+/// The line of a stream, in a form. Texts are composed in `room`.
+fn put_line_in(
+    out: &mut Vec<u8>,
+    form: Form,
+    room: &mut Vec<u8>,
+    number: u32,
+    size: Option<u32>,
+    roles: &[Role<'_>],
+) -> Result<(), AllocError>
+    ensures { OnOk result (out.new.items ≡ out.old.items ++ line_in form number size (map role_view roles.now)) }
+{
+    match form {
+        Form::Text => put_line(out, number, size, roles),
+        Form::Json => put_line_object(out, room, number, size, roles),
+    }
+}
+
 /// How many of the first roles are those of a stream.
 fn count_of(roles: &[Role<'_>], number: u32) -> usize
     ensures count { result ≡ prefix_len (is_of stream_number number) roles.now }
@@ -102,15 +122,17 @@ fn count_of(roles: &[Role<'_>], number: u32) -> usize
 #[tactic(auto, using(crate::proofs::Refused::refused_is))]
 fn put_stream<'s, S: Source<'s>>(
     out: &mut Vec<u8>,
+    form: Form,
+    room: &mut Vec<u8>,
     pdb: &PDB<'s, S>,
     number: u32,
     roles: &[Role<'_>],
 ) -> Result<(), AllocError>
-    ensures { OnOk result (out.new.items ≡ out.old.items ++ line_of number (if_read (stream_size pdb.now.file number)) (map role_view roles.now)) }
+    ensures { OnOk result (out.new.items ≡ out.old.items ++ line_in form number (if_read (stream_size pdb.now.file number)) (map role_view roles.now)) }
 {
     match pdb.stream_size(number) {
-        Ok(size) => put_line(out, number, Some(size), roles),
-        Err(_) => put_line(out, number, None, roles),
+        Ok(size) => put_line_in(out, form, room, number, Some(size), roles),
+        Err(_) => put_line_in(out, form, room, number, None, roles),
     }
 }
 
@@ -128,17 +150,19 @@ fn here<'r, 'a>(roles: &'r [Role<'a>], at: usize, number: u32) -> &'r [Role<'a>]
 /// The lines of so many streams, by roles in the order of their streams.
 fn put_lines<'s, S: Source<'s>>(
     out: &mut Vec<u8>,
+    form: Form,
     pdb: &PDB<'s, S>,
     roles: &[Role<'_>],
     count: u32,
 ) -> Result<(), AllocError>
     requires { rises stream_number 0 roles.now ≡ true }
-    ensures { OnOk result (out.new.items ≡ out.old.items ++ flat_map (role_line pdb.now.file roles.now) (range_with_len 0 count)) }
+    ensures { OnOk result (out.new.items ≡ out.old.items ++ flat_map (role_line form pdb.now.file roles.now) (range_with_len 0 count)) }
 {
+    let mut room = Vec::new(*out.allocator());
     let mut at = 0;
     for number in 0..count {
         let here = here(roles, at, number);
-        put_stream(out, pdb, number, here)?;
+        put_stream(out, form, &mut room, pdb, number, here)?;
         at += here.len();
     }
     Ok(())
@@ -250,15 +274,16 @@ fn put_streams<'a, 's, S: Source<'s>>(
     pdb: &mut PDB<'s, S>,
     names: Option<&StreamNames<'a>>,
     count: u32,
+    form: Form,
     out: &mut Vec<u8>,
 ) -> Result<(), Stop>
-    ensures text { OnOk result (out.new.items ≡ out.old.items ++ flat_map (stream_line pdb.old.file (roles_by pdb.old.file (option_copied names.entry))) (range_with_len 0 count)) }
+    ensures text { OnOk result (out.new.items ≡ out.old.items ++ flat_map (stream_line form pdb.old.file (roles_by pdb.old.file (option_copied names.entry))) (range_with_len 0 count)) }
     ensures unwritten { IfErr result (λ e. (e ≡ Stop.Memory) ⊎ (e ≡ Stop.Read)) }
 {
     let mut roles = Vec::new(alloc);
     put_all(pdb, names, &mut roles)?;
     sort(&mut roles)?;
-    Ok(put_lines(out, pdb, &roles, count)?)
+    Ok(put_lines(out, form, pdb, &roles, count)?)
 }
 
 /// The lines of so many streams of a file.
@@ -266,14 +291,15 @@ fn put_counted<'s, S: Source<'s>>(
     alloc: Global,
     pdb: &mut PDB<'s, S>,
     count: u32,
+    form: Form,
     out: &mut Vec<u8>,
 ) -> Result<(), Stop>
-    ensures text { OnOk result (out.new.items ≡ out.old.items ++ flat_map (stream_line pdb.old.file (roles_of pdb.old.file)) (range_with_len 0 count)) }
+    ensures text { OnOk result (out.new.items ≡ out.old.items ++ flat_map (stream_line form pdb.old.file (roles_of pdb.old.file)) (range_with_len 0 count)) }
     ensures unwritten { IfErr result (λ e. (e ≡ Stop.Memory) ⊎ (e ≡ Stop.Read)) }
 {
     let information = if_read(pdb.pdb_information())?;
     let names = names_of(alloc, information.as_ref())?;
-    put_streams(alloc, pdb, names.as_ref(), count, out)
+    put_streams(alloc, pdb, names.as_ref(), count, form, out)
 }
 
 /// The lines of all streams of a file, or the line of the error of its directory.
@@ -281,14 +307,15 @@ fn put_counted<'s, S: Source<'s>>(
 fn put_command<'s, S: Source<'s>>(
     alloc: Global,
     pdb: &mut PDB<'s, S>,
+    form: Form,
     out: &mut Vec<u8>,
 ) -> Result<(), Stop>
-    ensures text { OnOk result (out.new.items ≡ out.old.items ++ streams_command pdb.old.file) }
+    ensures text { OnOk result (out.new.items ≡ out.old.items ++ streams_command form pdb.old.file) }
     ensures unwritten { IfErr result (λ e. (e ≡ Stop.Memory) ⊎ (e ≡ Stop.Read)) }
 {
     match pdb.stream_count() {
-        Ok(count) => put_counted(alloc, pdb, count, out),
-        Err(e) => put_refused(out, e),
+        Ok(count) => put_counted(alloc, pdb, count, form, out),
+        Err(e) => put_refused_in(out, form, e),
     }
 }
 
@@ -297,16 +324,17 @@ fn put_command<'s, S: Source<'s>>(
 pub fn write_streams<'s, S: Source<'s>, W: Write>(
     alloc: Global,
     source: S,
+    form: Form,
     out: &mut W,
 ) -> Result<(), Stop>
     ensures opened { OnOk result (opens (S.state source).file ≡ Ok tt) }
-    ensures ok { OnOk result (Appends (W.contents out.old) (W.contents out.new) (streams_command (S.state source).file)) }
+    ensures ok { OnOk result (Appends (W.contents out.old) (W.contents out.new) (streams_command form (S.state source).file)) }
     ensures refused { (S.state source).steady ≡ true → (e : Error) → IsErrOf result (Stop.Open e) → opens (S.state source).file ≡ Err e }
-    ensures front { OnErr result (WroteFront (W.contents out.old) (W.contents out.new) (streams_command (S.state source).file)) }
+    ensures front { OnErr result (WroteFront (W.contents out.old) (W.contents out.new) (streams_command form (S.state source).file)) }
 {
     let mut pdb = opened(alloc, source)?;
     let mut text = Vec::new(alloc);
-    put_command(alloc, &mut pdb, &mut text)?;
+    put_command(alloc, &mut pdb, form, &mut text)?;
     write_out(out, &text)?;
     Ok(())
 }

@@ -1,6 +1,6 @@
 //! The text of `symbols`.
 
-ghost use Rattle.std.specs.Prelude.{◌≡◌, ◌≢◌, ◌++◌, drop, flat_map, OnOk, codes, Err};
+ghost use Rattle.std.specs.Prelude.{◌≡◌, ◌≢◌, ◌++◌, drop, flat_map, IfOk, OnOk, codes, Ok, Err};
 ghost use Rattle.std.specs.Option.{option_map};
 ghost use Rattle.std.specs.Fmt.{decimal};
 ghost use Rattle.pdb.specs.Error.TheVariants.{OutOfMemory};
@@ -11,7 +11,12 @@ ghost use Rattle.pdb.specs.Views.{symbol_of, symbols_left};
 ghost use Rattle.pdb_text.specs.Digits.{hex};
 ghost use Rattle.pdb_tool.specs.Depth.{blanks, depth_at};
 ghost use Rattle.pdb_tool.specs.FieldTexts.{field, fields_text};
-ghost use Rattle.pdb_tool.specs.SymbolTexts.{damage_text, global_symbols_text, lacks_layout, name_text, record_text, symbol_line, symbol_list_text, symbols_text};
+ghost use Rattle.pdb_tool.specs.SymbolTexts.{damage_text, further_text, global_symbols_text, lacks_layout, name_text, parsed_text, record_text, symbol_line, symbol_list_text, symbols_text, unread_text};
+ghost use Rattle.pdb_tool.specs.ModuleMachines.{module_machine};
+ghost use Rattle.pdb.specs.Left.{Left};
+ghost use Rattle.pdb.specs.ModuleStream.{symbols_of};
+ghost use Rattle.pdb.specs.SymbolList.{Entry};
+ghost use Rattle.pdb_records.specs.RecordReading.{further_at};
 ghost use Rattle.pdb_tool.specs.Values.{behind_blank};
 ghost use Rattle.pdb_tool.specs.ValueTexts.{kind_text};
 
@@ -28,10 +33,13 @@ use crate::fields_data::{
 };
 use crate::fields_references::{put_compile_flags_symbol, put_export, put_procedure_reference};
 use crate::kind_names::kind_name;
+use crate::module_machine::machine_of_module;
+use crate::record_texts::put_record_says;
 use crate::values::put_behind_blank;
 use pdb::{
     Error, FallibleIterator, ModuleInfo, RawString, Symbol, SymbolData, SymbolIter, SymbolTable,
 };
+use pdb_records::{Machine, Record};
 use pdb_text::{put_decimal, put_hex_bytes, put_hex4, put_hex8, put_line_end};
 use std::alloc::{AllocError, Global};
 
@@ -48,24 +56,25 @@ fn put_kind(out: &mut Vec<u8>, kind: u16) -> Result<(), AllocError>
 /// The fields of what the record of a symbol says.
 fn put_fields(
     out: &mut Vec<u8>,
+    machine: Option<Machine>,
     symbol: &Symbol<'_>,
     parsed: &SymbolData<'_>,
 ) -> Result<(), AllocError>
     requires { Is (symbol_of symbol.now).bytes (shown parsed.now) }
-    ensures { OnOk result (out.new.items ≡ out.old.items ++ fields_text (shown parsed.now)) }
+    ensures { OnOk result (out.new.items ≡ out.old.items ++ fields_text machine (symbol_of symbol.now).bytes (shown parsed.now)) }
 {
     match parsed {
         SymbolData::ScopeEnd | SymbolData::InlineSiteEnd | SymbolData::ProcedureEnd => Ok(()),
         SymbolData::ObjName(s) => put_number(out, b"signature", s.signature),
-        SymbolData::RegisterVariable(s) => put_register_variable(out, s),
+        SymbolData::RegisterVariable(s) => put_register_variable(out, machine, s),
         SymbolData::Constant(s) => put_constant(out, s),
         SymbolData::UserDefinedType(s) => put_type(out, s.type_index),
-        SymbolData::MultiRegisterVariable(s) => put_multi_register_variable(out, s),
+        SymbolData::MultiRegisterVariable(s) => put_multi_register_variable(out, machine, s),
         SymbolData::Data(s) => put_data(out, s),
         SymbolData::Public(s) => put_public(out, s),
         SymbolData::Procedure(s) => put_procedure(out, s),
         SymbolData::ThreadStorage(s) => put_thread_storage(out, s),
-        SymbolData::CompileFlags(s) => put_compile_flags_symbol(out, s),
+        SymbolData::CompileFlags(s) => put_compile_flags_symbol(out, symbol, s),
         SymbolData::UsingNamespace(_) => Ok(()),
         SymbolData::ProcedureReference(s) => put_procedure_reference(out, s),
         SymbolData::DataReference(s) => put_reference(out, s.sum_name, s.symbol_index, s.module),
@@ -74,12 +83,12 @@ fn put_fields(
         }
         SymbolData::Trampoline(s) => put_trampoline_symbol(out, s),
         SymbolData::Export(s) => put_export(out, s),
-        SymbolData::Local(s) => put_local(out, s),
+        SymbolData::Local(s) => put_local(out, symbol, s),
         SymbolData::BuildInfo(s) => put_index(out, b"id", s.id.0),
         SymbolData::InlineSite(s) => put_inline_site(out, symbol, s),
         SymbolData::Label(s) => put_label_symbol(out, s),
         SymbolData::Block(s) => put_block(out, s),
-        SymbolData::RegisterRelative(s) => put_register_relative(out, s),
+        SymbolData::RegisterRelative(s) => put_register_relative(out, machine, s),
         SymbolData::Thunk(s) => put_thunk(out, s),
         SymbolData::SeparatedCode(s) => put_separated_code(out, s),
     }
@@ -98,13 +107,14 @@ fn put_name(out: &mut Vec<u8>, name: Option<RawString<'_>>) -> Result<(), AllocE
 /// What the record of a symbol says: its fields and its name.
 fn put_says(
     out: &mut Vec<u8>,
+    machine: Option<Machine>,
     symbol: &Symbol<'_>,
     parsed: &SymbolData<'_>,
 ) -> Result<(), AllocError>
     requires { Is (symbol_of symbol.now).bytes (shown parsed.now) }
-    ensures { OnOk result (out.new.items ≡ out.old.items ++ (fields_text (shown parsed.now) ++ name_text (name_of (shown parsed.now)))) }
+    ensures { OnOk result (out.new.items ≡ out.old.items ++ (fields_text machine (symbol_of symbol.now).bytes (shown parsed.now) ++ name_text (name_of (shown parsed.now)))) }
 {
-    put_fields(out, symbol, parsed)?;
+    put_fields(out, machine, symbol, parsed)?;
     put_name(out, parsed.name())
 }
 
@@ -126,9 +136,9 @@ fn put_damage(out: &mut Vec<u8>, e: Error) -> Result<(), AllocError>
     put_decimal(out, u64::from(e.number()))
 }
 
-/// A refusal in a symbol's line, and the record's bytes behind the kind; want of memory is passed on.
+/// An error in a symbol's line, and the record's bytes behind the kind; out of memory is passed on.
 fn put_refused(out: &mut Vec<u8>, e: Error, bytes: &[u8]) -> Result<(), AllocError>
-    ensures { OnOk result ((e ≢ OutOfMemory) × (out.new.items ≡ out.old.items ++ record_text bytes.now (Err e))) }
+    ensures { OnOk result ((e ≢ OutOfMemory) × (out.new.items ≡ out.old.items ++ unread_text bytes.now e)) }
 {
     match e {
         Error::OutOfMemory => Err(AllocError),
@@ -140,14 +150,49 @@ fn put_refused(out: &mut Vec<u8>, e: Error, bytes: &[u8]) -> Result<(), AllocErr
     }
 }
 
+/// A further record, or its error.
+fn put_further(
+    out: &mut Vec<u8>,
+    machine: Option<Machine>,
+    symbol: &Symbol<'_>,
+) -> Result<(), AllocError>
+    ensures { OnOk result (out.new.items ≡ out.old.items ++ further_text machine (symbol_of symbol.now).bytes (further_at (symbol_of symbol.now).bytes)) }
+{
+    match Record::parse(symbol) {
+        Ok(record) => put_record_says(out, machine, &record),
+        Err(e) => put_refused(out, e, symbol.raw_bytes()),
+    }
+}
+
+/// A record that couldn't be parsed: where its kind has no layout it may be a further record.
+fn put_unparsed(
+    out: &mut Vec<u8>,
+    machine: Option<Machine>,
+    symbol: &Symbol<'_>,
+    e: Error,
+) -> Result<(), AllocError>
+    ensures { OnOk result ((e ≢ OutOfMemory) × (out.new.items ≡ out.old.items ++ parsed_text machine (symbol_of symbol.now).bytes (Err e))) }
+{
+    if lacks_layout(e) {
+        put_further(out, machine, symbol)
+    } else {
+        put_refused(out, e, symbol.raw_bytes())
+    }
+}
+
 // piece: put_record
-/// What the record of a symbol says, or its refusal.
-fn put_record(alloc: Global, out: &mut Vec<u8>, symbol: &Symbol<'_>) -> Result<(), AllocError>
-    ensures { OnOk result (out.new.items ≡ out.old.items ++ record_text (symbol_of symbol.now).bytes (record_at (symbol_of symbol.now).bytes)) }
+/// What the record of a symbol says, or its error.
+fn put_record(
+    alloc: Global,
+    out: &mut Vec<u8>,
+    machine: Option<Machine>,
+    symbol: &Symbol<'_>,
+) -> Result<(), AllocError>
+    ensures { OnOk result (out.new.items ≡ out.old.items ++ record_text machine (symbol_of symbol.now).bytes) }
 {
     match symbol.parse(alloc) {
-        Ok(parsed) => put_says(out, symbol, &parsed),
-        Err(e) => put_refused(out, e, symbol.raw_bytes()),
+        Ok(parsed) => put_says(out, machine, symbol, &parsed),
+        Err(e) => put_unparsed(out, machine, symbol, e),
     }
 }
 // end
@@ -157,33 +202,35 @@ fn put_record(alloc: Global, out: &mut Vec<u8>, symbol: &Symbol<'_>) -> Result<(
 fn put_symbol(
     alloc: Global,
     out: &mut Vec<u8>,
+    machine: Option<Machine>,
     depth: usize,
     symbol: &Symbol<'_>,
 ) -> Result<(), AllocError>
-    ensures { OnOk result (out.new.items ≡ out.old.items ++ symbol_line depth (symbol_of symbol.now)) }
+    ensures { OnOk result (out.new.items ≡ out.old.items ++ symbol_line machine depth (symbol_of symbol.now)) }
 {
     put_blanks(out, depth)?;
     put_hex8(out, symbol.index().0)?;
     out.push(b' ')?;
     put_kind(out, symbol.raw_kind())?;
-    put_record(alloc, out, symbol)?;
+    put_record(alloc, out, machine, symbol)?;
     put_line_end(out)
 }
 
 /// The lines of the symbols that an iterator has left, and then that of its fault.
-pub fn put_symbol_list(
+fn put_symbol_list(
     alloc: Global,
     out: &mut Vec<u8>,
+    machine: Option<Machine>,
     mut symbols: SymbolIter<'_>,
 ) -> Result<(), AllocError>
-    ensures { OnOk result (out.new.items ≡ out.old.items ++ symbol_list_text 0 (symbols_left symbols.entry)) }
+    ensures { OnOk result (out.new.items ≡ out.old.items ++ symbol_list_text machine 0 (symbols_left symbols.entry)) }
 {
     let mut depth = 0usize;
     loop {
         match symbols.next() {
             Ok(Some(symbol)) => {
                 depth = depth_of(depth, &symbol);
-                put_symbol(alloc, out, depth, &symbol)?;
+                put_symbol(alloc, out, machine, depth, &symbol)?;
                 if symbol.starts_scope() {
                     depth += 1;
                 }
@@ -194,31 +241,49 @@ pub fn put_symbol_list(
     }
 }
 
+/// The machine of a module's symbols; the header's where they have an error.
+fn machine_in(
+    alloc: Global,
+    header: Option<Machine>,
+    info: &ModuleInfo<'_>,
+) -> Result<Option<Machine>, AllocError>
+    ensures { IfOk result (λ m. (left : Left Entry) → symbols_of info.now ≡ Ok left → m ≡ module_machine header left.items) }
+{
+    match info.symbols() {
+        Ok(symbols) => machine_of_module(alloc, header, symbols),
+        Err(_) => Ok(header),
+    }
+}
+
 // piece: put_symbols_of
-/// The text of `symbols` of a module: its symbols, or their refusal.
+/// The text of `symbols` of a module: its symbols, or their error. The header's machine counts where the symbols name
+/// none.
 #[tactic(auto, unfolding(crate::specs::SymbolTexts::symbols_text))]
 pub fn put_symbols_of(
     alloc: Global,
     out: &mut Vec<u8>,
+    header: Option<Machine>,
     info: &ModuleInfo<'_>,
 ) -> Result<(), AllocError>
-    ensures { OnOk result (out.new.items ≡ out.old.items ++ symbols_text info.now) }
+    ensures { OnOk result (out.new.items ≡ out.old.items ++ symbols_text header info.now) }
 {
+    let machine = machine_in(alloc, header, info)?;
     match info.symbols() {
-        Ok(symbols) => put_symbol_list(alloc, out, symbols),
+        Ok(symbols) => put_symbol_list(alloc, out, machine, symbols),
         Err(e) => put_refusal_line(out, e),
     }
 }
 // end
 
-/// The text of `symbols` of the stream of global symbols.
+/// The text of `symbols` of the stream of global symbols, on the machine of the header.
 #[tactic(auto, unfolding(crate::specs::SymbolTexts::global_symbols_text))]
 pub fn put_global_symbols(
     alloc: Global,
     out: &mut Vec<u8>,
+    header: Option<Machine>,
     symbols: &SymbolTable<'_>,
 ) -> Result<(), AllocError>
-    ensures { OnOk result (out.new.items ≡ out.old.items ++ global_symbols_text symbols.now) }
+    ensures { OnOk result (out.new.items ≡ out.old.items ++ global_symbols_text header symbols.now) }
 {
-    put_symbol_list(alloc, out, symbols.iter())
+    put_symbol_list(alloc, out, header, symbols.iter())
 }

@@ -160,7 +160,9 @@ impl TextAsked<'_> {
                 self.shared = is_missed(&pdb.type_information()) || ids;
             }
             FileText::Symbols(places) => {
-                self.shared = places.is_empty() && is_missed(&pdb.global_symbols());
+                let header = is_missed(&pdb.debug_information());
+                let globals = places.is_empty() && is_missed(&pdb.global_symbols());
+                self.shared = header || globals;
             }
             FileText::Find(_) => {
                 let names = is_missed(&pdb.id_information()) | is_missed(&pdb.type_information());
@@ -172,14 +174,15 @@ impl TextAsked<'_> {
                 let places = is_missed(&pdb.string_table()) | is_missed(&pdb.address_map());
                 self.shared = names | places;
             }
-            FileText::Modules => self.shared = is_missed(&pdb.debug_information()),
-            FileText::Sections => self.shared = is_missed(&pdb.sections()),
-            FileText::Streams => {
+            FileText::Modules(_) | FileText::AllSymbols => {
+                self.shared = is_missed(&pdb.debug_information());
+            }
+            FileText::Sections(_) => self.shared = is_missed(&pdb.sections()),
+            FileText::Streams(_) => {
                 let names = is_missed(&pdb.pdb_information()) | is_missed(&pdb.debug_information());
                 let items = is_missed(&pdb.type_information()) | is_missed(&pdb.id_information());
                 self.shared = names | items;
             }
-            FileText::AllSymbols => self.shared = false,
         }
     }
 
@@ -211,7 +214,7 @@ impl TextAsked<'_> {
             }
             FileText::AllSymbols => !ask_all(alloc, pdb, false),
             FileText::Find(_) | FileText::Where(_) => !ask_all(alloc, pdb, true),
-            FileText::Modules | FileText::Sections | FileText::Streams => false,
+            FileText::Modules(_) | FileText::Sections(_) | FileText::Streams(_) => false,
         };
     }
 }

@@ -4,16 +4,15 @@ ghost use Rattle.std.specs.Prelude.{◌≡◌, ◌++◌, codes, flat_map, OnOk};
 ghost use Rattle.std.specs.Fmt.{decimal, signed_decimal};
 ghost use Rattle.pdb.specs.Data.{shown_register, shown_registers, shown_thunk_kind};
 ghost use Rattle.pdb_symbols.specs.declared.thunks.ThunkKind.TheVariants as does;
-ghost use Rattle.pdb.specs.Languages.{language_text};
-ghost use Rattle.pdb.specs.Processors.{cpu_text};
 ghost use Rattle.pdb_text.specs.Digits.{hex};
-ghost use Rattle.pdb_tool.specs.ValueTexts.{bytes_text, more_registers, qfe_text, register_text, registers_text, thunk_text, trampoline_text, variant_text, version_text};
+ghost use Rattle.pdb_tool.specs.ValueTexts.{bytes_text, language_text, more_registers, processor_text, qfe_text, register_text, registers_text, thunk_text, trampoline_text, variant_text, version_text};
 
+use crate::register_names::put_register_name;
 use pdb::{
-    CPUType, CompilerVersion, RawString, Register, SourceLanguage, ThunkAdjustor, ThunkKind,
-    TrampolineType, Variant,
+    CompilerVersion, RawString, Register, ThunkAdjustor, ThunkKind, TrampolineType, Variant,
 };
-use pdb_text::{put_decimal, put_hex_bytes, put_hex4};
+use pdb_records::{Machine, language_name, processor_name};
+use pdb_text::{put_decimal, put_hex_bytes, put_hex2, put_hex4};
 use std::alloc::AllocError;
 
 /// A signed number in decimal digits.
@@ -41,20 +40,24 @@ pub fn put_variant(out: &mut Vec<u8>, value: Variant) -> Result<(), AllocError>
     }
 }
 
-/// A language's name.
-pub fn put_language(out: &mut Vec<u8>, language: SourceLanguage) -> Result<(), AllocError>
-    ensures { OnOk result (out.new.items ≡ out.old.items ++ language_text language) }
+/// The name of a language's number, or the number in two hex digits.
+pub fn put_language(out: &mut Vec<u8>, number: u8) -> Result<(), AllocError>
+    ensures { OnOk result (out.new.items ≡ out.old.items ++ language_text number) }
 {
-    let name = language.to_string(*out.allocator())?;
-    out.extend_from_slice(name.as_bytes())
+    match language_name(number) {
+        Some(name) => out.extend_from_slice(name.as_bytes()),
+        None => put_hex2(out, number),
+    }
 }
 
-/// A processor's name.
-pub fn put_cpu(out: &mut Vec<u8>, cpu: CPUType) -> Result<(), AllocError>
-    ensures { OnOk result (out.new.items ≡ out.old.items ++ cpu_text cpu) }
+/// The name of a processor's number, or the number in four hex digits.
+pub fn put_processor(out: &mut Vec<u8>, number: u16) -> Result<(), AllocError>
+    ensures { OnOk result (out.new.items ≡ out.old.items ++ processor_text number) }
 {
-    let name = cpu.to_string(*out.allocator())?;
-    out.extend_from_slice(name.as_bytes())
+    match processor_name(number) {
+        Some(name) => out.extend_from_slice(name.as_bytes()),
+        None => put_hex4(out, number),
+    }
 }
 
 /// The number of a quick fix behind a point, where there is one.
@@ -124,35 +127,41 @@ pub fn put_thunk_kind(out: &mut Vec<u8>, kind: ThunkKind<'_>) -> Result<(), Allo
     }
 }
 
-/// A register's number in hex digits, `:` and its name.
-fn put_register(out: &mut Vec<u8>, register: &(Register, RawString<'_>)) -> Result<(), AllocError>
-    ensures { OnOk result (out.new.items ≡ out.old.items ++ register_text (shown_register register.now)) }
+/// A register's name on a machine, `:` and the name of what is in it.
+fn put_register(
+    out: &mut Vec<u8>,
+    machine: Option<Machine>,
+    register: &(Register, RawString<'_>),
+) -> Result<(), AllocError>
+    ensures { OnOk result (out.new.items ≡ out.old.items ++ register_text machine (shown_register register.now)) }
 {
-    put_hex4(out, register.0.0)?;
+    put_register_name(out, machine, register.0)?;
     out.push(b':')?;
     out.extend_from_slice(register.1.as_bytes())
 }
 
-/// A register and its name behind a comma.
+/// A register and the name of what is in it, behind a comma.
 fn put_behind_comma(
     out: &mut Vec<u8>,
+    machine: Option<Machine>,
     register: &(Register, RawString<'_>),
 ) -> Result<(), AllocError>
-    ensures { OnOk result (out.new.items ≡ out.old.items ++ (codes "," ++ register_text (shown_register register.now))) }
+    ensures { OnOk result (out.new.items ≡ out.old.items ++ (codes "," ++ register_text machine (shown_register register.now))) }
 {
     out.push(b',')?;
-    put_register(out, register)
+    put_register(out, machine, register)
 }
 
 /// The registers, each behind a comma.
 fn put_more_registers(
     out: &mut Vec<u8>,
+    machine: Option<Machine>,
     registers: &[(Register, RawString<'_>)],
 ) -> Result<(), AllocError>
-    ensures { OnOk result (out.new.items ≡ out.old.items ++ more_registers (shown_registers registers.now)) }
+    ensures { OnOk result (out.new.items ≡ out.old.items ++ more_registers machine (shown_registers registers.now)) }
 {
     for register in registers {
-        put_behind_comma(out, register)?;
+        put_behind_comma(out, machine, register)?;
     }
     Ok(())
 }
@@ -160,15 +169,16 @@ fn put_more_registers(
 /// The registers joined by commas, or `-` where there is none.
 pub fn put_registers(
     out: &mut Vec<u8>,
+    machine: Option<Machine>,
     registers: &[(Register, RawString<'_>)],
 ) -> Result<(), AllocError>
-    ensures { OnOk result (out.new.items ≡ out.old.items ++ registers_text (shown_registers registers.now)) }
+    ensures { OnOk result (out.new.items ≡ out.old.items ++ registers_text machine (shown_registers registers.now)) }
 {
     let Some((register, behind)) = registers.split_first() else {
         return out.extend_from_slice(b"-");
     };
-    put_register(out, register)?;
-    put_more_registers(out, behind)
+    put_register(out, machine, register)?;
+    put_more_registers(out, machine, behind)
 }
 
 /// The bytes in two hex digits each, or `-` where there is none.

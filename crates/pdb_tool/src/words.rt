@@ -35,7 +35,7 @@ pub enum Topic {
     Streams,
 }
 
-/// What the words ask for.
+/// The request that arguments are.
 #[derive(Clone, Copy, Debug, PartialEq, Eq)]
 pub enum Request {
     /// What the program can do, or a command.
@@ -48,13 +48,13 @@ pub enum Request {
     Run(Topic, Options),
 }
 
-/// Why words ask for nothing.
+/// Why arguments are no request.
 #[derive(Clone, Copy, Debug, PartialEq, Eq)]
 pub enum WordsError {
-    /// The word at this place, counted from 0, is none that can stand there. It is the number of words where one is
-    /// missing at their end.
+    /// The argument of this index, counted from 0, is wrong. It is the number of arguments where one is missing at the
+    /// end.
     BadWord(usize),
-    /// Memory was refused.
+    /// Out of memory.
     OutOfMemory,
 }
 
@@ -78,7 +78,7 @@ impl<T: Drop> From<AllocFailed<T>> for WordsError {
     }
 }
 
-/// The command of a word, among those that look things up or list them.
+/// The command of a name, among those that look things up or list them.
 fn lookup_in(word: &str) -> Option<Topic>
     ensures { result ≡ lookup_in word.now }
 {
@@ -93,7 +93,7 @@ fn lookup_in(word: &str) -> Option<Topic>
     }
 }
 
-/// The command of a word.
+/// The command of a name.
 pub fn topic_in(word: &str) -> Option<Topic>
     ensures { result ≡ topic_in word.now }
 {
@@ -135,7 +135,7 @@ fn wants_help(words: &[String]) -> bool
     false
 }
 
-/// What is asked for, if no word stands at this place or behind it.
+/// This request, if no argument has this index or a greater one.
 fn alone(request: Request, words: &[String], place: usize) -> Result<Request, WordsError>
     ensures { Tells (λ r. r) result (alone request (map string_bytes words.now) place) }
 {
@@ -146,7 +146,7 @@ fn alone(request: Request, words: &[String], place: usize) -> Result<Request, Wo
     }
 }
 
-/// What words behind `help` ask for.
+/// The request of the arguments behind `help`.
 fn help_in(words: &[String]) -> Result<Request, WordsError>
     ensures { Tells (λ r. r) result (help_in (map string_bytes words.now)) }
 {
@@ -165,7 +165,7 @@ fn help_in(words: &[String]) -> Result<Request, WordsError>
     }
 }
 
-/// What words behind a command's word ask for.
+/// The request of the arguments behind the name of a command.
 fn front_of(topic: Topic, words: &[String]) -> Result<Request, WordsError>
     requires { 1 + length words.now < 2 ^ 64 }
     ensures { Tells (λ r. r) result (front_of topic (map string_bytes words.now)) }
@@ -179,7 +179,7 @@ fn front_of(topic: Topic, words: &[String]) -> Result<Request, WordsError>
     Ok(Request::Run(topic, options_in(topic, words, 1)?))
 }
 
-/// What words ask for.
+/// The request of arguments.
 pub fn request_in(words: &[String]) -> Result<Request, WordsError>
     ensures { Tells (λ r. r) result (request_in (map string_bytes words.now)) }
 {

@@ -8,7 +8,7 @@ ghost use Rattle.pdb_tool.specs.Words.{Tells};
 ghost use Rattle.pdb_tool.specs.declared.words.Topic.{Topic};
 
 use crate::operands::{Operand, all_numbers, all_questions, all_sources, first_empty, operands_in};
-use crate::options::{Options, Wanted};
+use crate::options::{Form, Options, Wanted};
 use crate::sources_asked::SourceAsked;
 use crate::words::{Request, Topic, WordsError, request_in};
 use std::alloc::Global;
@@ -23,7 +23,7 @@ pub enum Work<'w> {
     /// Print the program's version.
     Version,
     /// Print the keys of a file and of others.
-    Keys(Operand<'w>, Vec<Operand<'w>>),
+    Keys(Form, Operand<'w>, Vec<Operand<'w>>),
     /// Print what is damaged in a file and in others.
     Checks(Operand<'w>, Vec<Operand<'w>>),
     /// Print the code at the addresses that operands are, or else the lines of standard input.
@@ -43,11 +43,11 @@ pub enum Work<'w> {
     /// Print which addresses lines of source files have.
     Where(Operand<'w>, Vec<SourceAsked<'w>>),
     /// Print the list of modules.
-    Modules(Operand<'w>),
+    Modules(Form, Operand<'w>),
     /// Print the section headers.
-    Sections(Operand<'w>),
+    Sections(Form, Operand<'w>),
     /// Print the streams.
-    Streams(Operand<'w>),
+    Streams(Form, Operand<'w>),
 }
 
 /// The options by which addresses are judged before an image is read: any load address will do.
@@ -159,13 +159,13 @@ fn over_file<'w>(
         Topic::Scopes => Ok(Work::Scopes(file, all_numbers(alloc, &rest)?)),
         Topic::Symbols => symbols_work(alloc, options, file, &rest),
         Topic::Sources => Ok(Work::Sources(file, all_numbers(alloc, &rest)?)),
-        Topic::Key => Ok(Work::Keys(file, rest)),
+        Topic::Key => Ok(Work::Keys(options.form, file, rest)),
         Topic::Check => Ok(Work::Checks(file, rest)),
         Topic::Find => find_work(file, rest, count),
         Topic::Where => where_work(alloc, file, &rest, count),
-        Topic::Modules => ending(Work::Modules(file), &rest),
-        Topic::Sections => ending(Work::Sections(file), &rest),
-        Topic::Streams => ending(Work::Streams(file), &rest),
+        Topic::Modules => ending(Work::Modules(options.form, file), &rest),
+        Topic::Sections => ending(Work::Sections(options.form, file), &rest),
+        Topic::Streams => ending(Work::Streams(options.form, file), &rest),
     }
 }
 

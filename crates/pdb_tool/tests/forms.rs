@@ -397,7 +397,7 @@ fn references(rt: HostRuntime) -> Result<(), Fail> {
 #[test]
 fn refused_records(rt: HostRuntime) -> Result<(), Fail> {
     let rows: [(&[u8], &str); 5] = [
-        (b"\x12\x10\xab\xcd", "S_FRAMEPROC bytes=abcd"),
+        (b"\x12\x10\xab\xcd", "S_FRAMEPROC error 1 bytes=abcd"),
         (b"f\x11", "1166 bytes="),
         (b"\xcd\xab\x0f", "abcd bytes=0f"),
         (b"\x0e\x11\x01", "S_PUB32 error 1 bytes=01"),

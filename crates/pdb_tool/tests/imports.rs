@@ -5,7 +5,7 @@ use super::parts::both;
 use crate::asked::Asked;
 use crate::file_texts::FileText;
 use crate::operands::Operand;
-use crate::question::Question;
+use crate::question::{Answer, Question};
 use crate::sources_asked::source_of;
 use pdb::PdbInternalSectionOffset;
 use std::alloc::{AllocError, Global};
@@ -133,7 +133,7 @@ fn texts_are(
         offset: 0x108,
     };
     let asked = [Question {
-        heading: None,
+        answer: Answer::Frames,
         asked: Asked::Place(place),
     }];
     both(rt, &bytes, FileText::Code(&asked), wanted.0);

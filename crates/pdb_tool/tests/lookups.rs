@@ -3,11 +3,13 @@
 use super::files::{debug_stream, file_of, module_record};
 use super::streams::{Sizes, module_of, symbols_of};
 use crate::asking::Asking;
+use crate::error_objects::put_error_in;
 use crate::find_texts::put_found_symbols;
 use crate::finder::Finder;
 use crate::lookups::{write_find, write_sources, write_where};
 use crate::module_lists::write_modules;
 use crate::operands::{Operand, all_sources, first_empty};
+use crate::options::Form;
 use crate::section_texts::write_sections;
 use crate::source_texts::put_sources;
 use crate::sources_asked::{asks_for, source_of};
@@ -17,9 +19,10 @@ use crate::tests::fakes::is;
 use crate::where_texts::put_where;
 use crate::wildcards::matches;
 use crate::words::WordsError;
-use pdb::{ItemFinder, MemorySource, Stream, StringTable};
+use pdb::{Error, ItemFinder, MemorySource, Stream, StringTable};
 use pdb_resolve::{CallNames, GlobalIds, PlaceAddresses};
 use std::alloc::{AllocError, Global};
+use std::process::Abort;
 use std::test::Fail;
 
 /// The names `a.c` at place 1 and `Src\bc.h` at place 5.
@@ -282,21 +285,49 @@ static STREAMS: &[u8] = b"0 0 old directory, index of global symbols, index of p
     7 - -\n\
     8 - -\n";
 
+/// The JSON objects of the first streams of that file.
+static STREAM_OBJECTS: &[u8] =
+    b"{\"stream\":0,\"size\":0,\"what\":[\"old directory\",\"index of global symbols\",\"index of publics\"]}\n{\"stream\":1,\"size\":48,\"what\":[\"information\"]}\n{\"stream\":2,\"size\":null,\"what\":[\"types\"]}\n";
+
+/// What the commands over that file print as JSON.
+fn objects_of_lists(rt: &(impl Abort + AllocGlobal), bytes: &[u8]) -> Result<(), Fail> {
+    let mut out = Vec::new(rt.alloc());
+    write_modules(rt.alloc(), MemorySource::new(bytes), Form::Json, &mut out)?;
+    let wanted: &[u8] =
+        b"{\"module\":0,\"bytes\":263,\"name\":\"a\",\"object\":\"b\"}\n{\"module\":1,\"bytes\":526,\"name\":\"a\",\"object\":\"b\"}\n";
+    is(rt, "modules", &out.as_slice(), &wanted);
+    let mut out = Vec::new(rt.alloc());
+    write_sections(rt.alloc(), MemorySource::new(bytes), Form::Json, &mut out)?;
+    let wanted: &[u8] = b"{\"module\":null,\"error\":null,\"text\":\"none\"}\n";
+    is(rt, "sections", &out.as_slice(), &wanted);
+    let mut out = Vec::new(rt.alloc());
+    write_streams(rt.alloc(), MemorySource::new(bytes), Form::Json, &mut out)?;
+    is(rt, "streams", &out.starts_with(STREAM_OBJECTS), &true);
+    let last: &[u8] = b"\n{\"stream\":8,\"size\":null,\"what\":[]}\n";
+    is(rt, "last stream", &out.ends_with(last), &true);
+    let mut out = Vec::new(rt.alloc());
+    put_error_in(&mut out, Form::Json, Error::StreamNotFound(9))?;
+    let wanted: &[u8] = b"{\"module\":null,\"error\":6,\"text\":\"there is no stream 9\"}\n";
+    is(rt, "error", &out.as_slice(), &wanted);
+    Ok(())
+}
+
 #[test]
 fn commands_over_a_file(rt: HostRuntime) -> Result<(), Fail> {
     let file = file(rt.alloc())?;
     let bytes = file.as_slice();
     let mut out = Vec::new(rt.alloc());
-    write_modules(rt.alloc(), MemorySource::new(bytes), &mut out)?;
+    write_modules(rt.alloc(), MemorySource::new(bytes), Form::Text, &mut out)?;
     let wanted: &[u8] = b"0 263 a [b]\n1 526 a [b]\n";
     is(&rt, "modules", &out.as_slice(), &wanted);
     let mut out = Vec::new(rt.alloc());
-    write_sections(rt.alloc(), MemorySource::new(bytes), &mut out)?;
+    write_sections(rt.alloc(), MemorySource::new(bytes), Form::Text, &mut out)?;
     let wanted: &[u8] = b"none\n";
     is(&rt, "sections", &out.as_slice(), &wanted);
     let mut out = Vec::new(rt.alloc());
-    write_streams(rt.alloc(), MemorySource::new(bytes), &mut out)?;
+    write_streams(rt.alloc(), MemorySource::new(bytes), Form::Text, &mut out)?;
     is(&rt, "streams", &out.as_slice(), &STREAMS);
+    objects_of_lists(&rt, bytes)?;
     let mut out = Vec::new(rt.alloc());
     write_sources(rt.alloc(), MemorySource::new(bytes), &[1, 0, 2], &mut out)?;
     let wanted: &[u8] = b"module 1 a\nnone\nmodule 0 a\nnone\n";
@@ -316,7 +347,12 @@ fn commands_over_a_file(rt: HostRuntime) -> Result<(), Fail> {
     write_where(rt.alloc(), MemorySource::new(bytes), &asked, &mut out)?;
     let wanted: &[u8] = b"";
     is(&rt, "where", &out.as_slice(), &wanted);
-    let refused = write_modules(rt.alloc(), MemorySource::new(&bytes[..40]), &mut out);
+    let refused = write_modules(
+        rt.alloc(),
+        MemorySource::new(&bytes[..40]),
+        Form::Text,
+        &mut out,
+    );
     is(
         &rt,
         "a file that is none",

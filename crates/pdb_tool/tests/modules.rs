@@ -6,7 +6,10 @@ use crate::scope_texts::put_scopes;
 use crate::symbol_texts::put_symbols_of;
 use crate::tests::fakes::is;
 use pdb::{ItemFinder, Stream, StringTable};
+use pdb_records::Machine;
 use pdb_resolve::{CallNames, GlobalIds};
+use std::alloc::Global;
+use std::process::Abort;
 use std::test::Fail;
 
 /// Two files, four records with columns, and one without.
@@ -173,7 +176,7 @@ fn symbols_by_their_scopes(rt: HostRuntime) -> Result<(), Fail> {
     };
     let info = module_of(&rt, bytes.as_slice(), &sizes)?;
     let mut out = Vec::new(rt.alloc());
-    put_symbols_of(rt.alloc(), &mut out, &info)?;
+    put_symbols_of(rt.alloc(), &mut out, None, &info)?;
     let wanted: &[u8] = b"00000004 S_GPROC32 parent=- end=00000090 next=- len=33 \
         dbg_start_offset=4 dbg_end_offset=30 type_index=00001009 offset=0001:00000050 flags=- \
         global=true dpc=false f\n\
@@ -186,6 +189,58 @@ fn symbols_by_their_scopes(rt: HostRuntime) -> Result<(), Fail> {
     Ok(())
 }
 
+/// A record of a compiler for x64, one for a processor whose machine has no registers here, and a range.
+const FOR_X64: &[u8] =
+    b"\x3c\x11\x00\x00\x00\x00\xd0\x00\x01\x00\x02\x00\x03\x00\x04\x00\x05\x00\x06\x00\x07\x00\x08\x00c\x00";
+
+const FOR_EBC: &[u8] =
+    b"\x3c\x11\x00\x00\x00\x00\xe0\x00\x01\x00\x02\x00\x03\x00\x04\x00\x05\x00\x06\x00\x07\x00\x08\x00c\x00";
+
+const FOR_ARM64: &[u8] =
+    b"\x3c\x11\x00\x00\x00\x00\xf6\x00\x01\x00\x02\x00\x03\x00\x04\x00\x05\x00\x06\x00\x07\x00\x08\x00c\x00";
+
+const RANGE: &[u8] = b"\x41\x11\x11\x00\x00\x00\x10\x00\x00\x00\x01\x00\x05\x00";
+
+/// The register 17 of the range is this one in a module of these records whose file's header names this machine.
+fn register_is(
+    rt: &impl Abort,
+    alloc: Global,
+    header: Option<Machine>,
+    records: &[&[u8]],
+    wanted: &[u8],
+) -> Result<(), Fail> {
+    let bytes = symbols_of(rt, alloc, records)?;
+    let sizes = Sizes {
+        symbols: bytes.len(),
+        older_lines: 0,
+    };
+    let info = module_of(rt, bytes.as_slice(), &sizes)?;
+    let mut out = Vec::new(alloc);
+    put_symbols_of(alloc, &mut out, header, &info)?;
+    let start = b"00000004 S_DEFRANGE_REGISTER register=".len();
+    is(
+        rt,
+        "the register",
+        &out.get(start..start + wanted.len()).expect(rt, "a line"),
+        &wanted,
+    );
+    Ok(())
+}
+
+#[test]
+fn registers_by_the_machine_of_a_module(rt: HostRuntime) -> Result<(), Fail> {
+    let x86 = Some(Machine::X86);
+    let alloc = rt.alloc();
+    register_is(&rt, alloc, None, &[RANGE], b"0011 maybe")?;
+    register_is(&rt, alloc, x86, &[RANGE], b"eax maybe")?;
+    register_is(&rt, alloc, None, &[RANGE, FOR_X64], b"eax maybe")?;
+    register_is(&rt, alloc, None, &[RANGE, FOR_ARM64], b"w7 maybe")?;
+    register_is(&rt, alloc, x86, &[RANGE, FOR_ARM64], b"w7 maybe")?;
+    register_is(&rt, alloc, x86, &[RANGE, FOR_EBC], b"eax maybe")?;
+    register_is(&rt, alloc, x86, &[RANGE, FOR_EBC, FOR_ARM64], b"w7 maybe")?;
+    register_is(&rt, alloc, x86, &[RANGE, FOR_ARM64, FOR_X64], b"w7 maybe")
+}
+
 #[test]
 fn refused_symbols(rt: HostRuntime) -> Result<(), Fail> {
     let sizes = Sizes {
@@ -195,7 +250,7 @@ fn refused_symbols(rt: HostRuntime) -> Result<(), Fail> {
     let info = module_of(&rt, &[5, 0, 0, 0], &sizes)?;
     let ids = ItemFinder::empty(rt.alloc());
     let mut out = Vec::new(rt.alloc());
-    put_symbols_of(rt.alloc(), &mut out, &info)?;
+    put_symbols_of(rt.alloc(), &mut out, None, &info)?;
     let global = GlobalIds::empty(rt.alloc());
     let names = CallNames::new(&ids, &ids, &global);
     put_scopes(rt.alloc(), &mut out, &names, &info)?;

@@ -2,7 +2,8 @@
 
 use crate::asked::Asked;
 use crate::operands::{Operand, all_numbers, all_questions, operands_in};
-use crate::options::{Options, Wanted};
+use crate::options::{Form, Options, Wanted};
+use crate::question::Answer;
 use crate::tests::fakes::is;
 use crate::words::{Request, Topic, WordsError, request_in};
 use std::alloc::{AllocError, Global};
@@ -30,8 +31,52 @@ fn run(topic: Topic, base: Option<u64>, addresses: bool, all: bool) -> Result<Re
         wanted: None,
         addresses,
         all,
+        form: Form::Text,
     };
     Ok(Request::Run(topic, options))
+}
+
+/// A command whose output is JSON.
+fn run_json(topic: Topic, base: Option<u64>) -> Result<Request, WordsError> {
+    let options = Options {
+        base,
+        form: Form::Json,
+        ..Options::default()
+    };
+    Ok(Request::Run(topic, options))
+}
+
+#[test]
+fn json_is_given_once(rt: HostRuntime) {
+    let rows = [
+        ("resolve --json a", run_json(Topic::Resolve, None)),
+        ("resolve a 1 --json", run_json(Topic::Resolve, None)),
+        (
+            "resolve --base 7 --json a",
+            run_json(Topic::Resolve, Some(7)),
+        ),
+        (
+            "resolve --json --base=7 a",
+            run_json(Topic::Resolve, Some(7)),
+        ),
+        ("modules --json a", run_json(Topic::Modules, None)),
+        ("sections a --json", run_json(Topic::Sections, None)),
+        ("streams --json a", run_json(Topic::Streams, None)),
+        ("key a --json b", run_json(Topic::Key, None)),
+        ("key --json a --json", Err(WordsError::BadWord(3))),
+        ("resolve --json --json a", Err(WordsError::BadWord(2))),
+        ("resolve --json a --json", Err(WordsError::BadWord(3))),
+        ("resolve --json=1 a", Err(WordsError::BadWord(1))),
+        ("resolve --jso a", Err(WordsError::BadWord(1))),
+        ("resolve --json", Err(WordsError::BadWord(2))),
+        ("resolve --base --json a", Err(WordsError::BadWord(2))),
+        ("lines --json a", Err(WordsError::BadWord(1))),
+        ("scopes a --json", Err(WordsError::BadWord(2))),
+        ("symbols --json a", Err(WordsError::BadWord(1))),
+    ];
+    for (line, wanted) in rows {
+        is(&rt, line, &asked(rt.alloc(), line), &wanted);
+    }
 }
 
 /// `resolve` of a wanted file.
@@ -158,6 +203,22 @@ fn operands_are_neither_options_nor_their_values(rt: HostRuntime) -> Result<(), 
     operands_are(&rt, "a --base --base 3", &[(1, "a"), (4, "3")])
 }
 
+/// The line before a text.
+fn heading_of(answer: Answer<'_>) -> Option<&[u8]> {
+    match answer {
+        Answer::Headed(word) => Some(word),
+        _ => None,
+    }
+}
+
+/// The argument of an object.
+fn object_of(answer: Answer<'_>) -> Option<&[u8]> {
+    match answer {
+        Answer::Object(word) => Some(word),
+        _ => None,
+    }
+}
+
 /// Two operands.
 const OPERANDS: [Operand<'static>; 2] = [
     Operand {
@@ -184,14 +245,25 @@ fn operands_are_addresses_or_numbers(rt: HostRuntime) -> Result<(), Fail> {
     is(&rt, "count", &questions.len(), &2);
     for (question, (address, word)) in questions.iter().zip([(0x10, b"11".as_slice()), (1, b"2")]) {
         is(&rt, "asked", &question.asked, &Asked::Address(address));
-        is(&rt, "heading", &question.heading, &Some(word));
+        is(&rt, "heading", &heading_of(question.answer), &Some(word));
     }
     let plain = all_questions(alloc, Options::default(), &OPERANDS[1..])
         .ok()
         .expect(&rt, "plain");
     let first = plain.first().expect(&rt, "first");
     is(&rt, "asked", &first.asked, &Asked::Address(2));
-    is(&rt, "heading", &first.heading, &None);
+    is(&rt, "heading", &heading_of(first.answer), &None);
+    let options = Options {
+        form: Form::Json,
+        ..options
+    };
+    let objects = all_questions(alloc, options, &OPERANDS)
+        .ok()
+        .expect(&rt, "objects");
+    let last = objects.last().expect(&rt, "last");
+    is(&rt, "asked", &last.asked, &Asked::Address(1));
+    is(&rt, "heading", &heading_of(last.answer), &None);
+    is(&rt, "object", &object_of(last.answer), &Some(b"2"));
     let numbers = all_numbers(alloc, &OPERANDS).ok().expect(&rt, "numbers");
     is(&rt, "numbers", &numbers.as_slice(), &[11, 2].as_slice());
     let bad = Operand {

@@ -4,7 +4,7 @@ use super::files::{debug_stream, file_of, module_record};
 use crate::asked::Asked;
 use crate::file_texts::{FileText, write_text};
 use crate::in_parts::write_in_parts;
-use crate::question::Question;
+use crate::question::{Answer, Question};
 use crate::stop::Stop;
 use crate::tests::fakes::{Narrow, is};
 use pdb::{Error, MemorySource, PdbInternalSectionOffset};
@@ -24,7 +24,7 @@ static CONTRIBUTIONS: &[u8] =
     b"\x2d\xba\x2e\xf1\x01\x00\x00\x00\x40\x00\x00\x00\x40\x00\x00\x00\x20\x00\x00\x60\x00\x00\x00\x00\x00\x00\x00\x00\x00\x00\x00\x00";
 
 /// A file of one module.
-fn small(alloc: Global) -> Result<Vec<u8>, AllocError> {
+pub fn small(alloc: Global) -> Result<Vec<u8>, AllocError> {
     let module = module_record(6, 45, 0);
     let debug = debug_stream(alloc, 5, &module, CONTRIBUTIONS, b"")?;
     let streams: [Option<&[u8]>; 9] = [
@@ -59,14 +59,14 @@ fn texts_of_a_file(rt: HostRuntime) -> Result<(), Fail> {
     let bytes = small(rt.alloc())?;
     let asked = [
         Question {
-            heading: None,
+            answer: Answer::Frames,
             asked: Asked::Place(PdbInternalSectionOffset {
                 section: 1,
                 offset: 0x5f,
             }),
         },
         Question {
-            heading: Some(b"17"),
+            answer: Answer::Headed(b"17"),
             asked: Asked::Nowhere,
         },
     ];

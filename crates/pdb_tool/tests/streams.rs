@@ -3,6 +3,7 @@
 use crate::symbol_texts::put_global_symbols;
 use crate::tests::fakes::is;
 use pdb::{DebugInformation, FallibleIterator, ModuleInfo, Stream, SymbolTable};
+use pdb_records::Machine;
 use std::alloc::{AllocError, Global};
 use std::process::Abort;
 use std::test::Fail;
@@ -67,14 +68,25 @@ pub fn symbols_of(
     Ok(list)
 }
 
-/// The line of a record that stands alone in a list is this one, behind the record's index.
-pub fn line_is(rt: &impl Abort, alloc: Global, record: &[u8], wanted: &str) -> Result<(), Fail> {
+/// The line of a record that is alone in a list is this one, behind the record's index, on a machine.
+pub fn line_on(
+    rt: &impl Abort,
+    alloc: Global,
+    machine: Option<Machine>,
+    record: &[u8],
+    wanted: &str,
+) -> Result<(), Fail> {
     let mut list = Vec::new(alloc);
     put_record(rt, &mut list, record)?;
     let table = SymbolTable::new(Stream::new(list.as_slice()).expect(rt, "a short stream"));
     let mut out = Vec::new(alloc);
-    put_global_symbols(alloc, &mut out, &table)?;
+    put_global_symbols(alloc, &mut out, machine, &table)?;
     let wanted = format!(in alloc; "00000000 {wanted}\n")?;
     is(rt, "out.as_slice()", &out.as_slice(), &wanted.as_bytes());
     Ok(())
+}
+
+/// The same where no machine is known.
+pub fn line_is(rt: &impl Abort, alloc: Global, record: &[u8], wanted: &str) -> Result<(), Fail> {
+    line_on(rt, alloc, None, record, wanted)
 }

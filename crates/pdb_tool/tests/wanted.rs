@@ -4,8 +4,8 @@ use super::files::{debug_stream, file_of};
 use crate::asked::Asked;
 use crate::file_texts::FileText;
 use crate::key_line::{key_line, line_in_parts};
-use crate::options::Options;
-use crate::question::Question;
+use crate::options::{Form, Options};
+use crate::question::{Answer, Question};
 use crate::stop::Stop;
 use crate::tests::fakes::{Narrow, is};
 use crate::wanted::{answer_wanted, key_in_word, wants_in, write_wanted, write_wanted_in_parts};
@@ -90,25 +90,41 @@ fn lines_of_images(rt: HostRuntime) -> Result<(), Fail> {
     let alloc = rt.alloc();
     let mut bytes = image(alloc)?;
     let line = b"112233443000 x.exe 030201000504070608090A0B0C0D0E0F1 a.pdb\n".as_slice();
-    let given = key_line(alloc, &bytes, b"x.exe").ok().expect(&rt, "line");
+    let given = key_line(alloc, Form::Text, &bytes, b"x.exe")
+        .ok()
+        .expect(&rt, "line");
     is(&rt, "line", &given.as_slice(), &line);
-    let parts = line_in_parts(alloc, &bytes, 354, b"x.exe");
+    let parts = line_in_parts(alloc, Form::Text, &bytes, 354, b"x.exe");
     is(&rt, "in parts", &parts, &Ok(None));
+    let object =
+        b"{\"key\":\"112233443000\",\"file\":\"x.exe\",\"pdb_key\":\"030201000504070608090A0B0C0D0E0F1\",\"pdb\":\"a.pdb\"}\n".as_slice();
+    let given = key_line(alloc, Form::Json, &bytes, b"x.exe")
+        .ok()
+        .expect(&rt, "object");
+    is(&rt, "object", &given.as_slice(), &object);
     for size in 2..354 {
-        let given = key_line(alloc, &bytes[..size], b"x.exe");
+        let given = key_line(alloc, Form::Text, &bytes[..size], b"x.exe");
         let wanted = Err(Stop::Image(ImageError::UnexpectedEof));
         is(&rt, "cut", &given, &wanted);
     }
     put(&mut bytes, 72, 0xabcdef);
     put(&mut bytes, 144, 0xABC000);
     put(&mut bytes, 308, 16);
-    let given = key_line(alloc, &bytes, b"x.exe").ok().expect(&rt, "line");
+    let given = key_line(alloc, Form::Text, &bytes, b"x.exe")
+        .ok()
+        .expect(&rt, "line");
     is(
         &rt,
         "no PDB",
         &given.as_slice(),
         &b"00ABCDEFabc000 x.exe - -\n".as_slice(),
     );
+    let object =
+        b"{\"key\":\"00ABCDEFabc000\",\"file\":\"x.exe\",\"pdb_key\":null,\"pdb\":null}\n".as_slice();
+    let given = key_line(alloc, Form::Json, &bytes, b"x.exe")
+        .ok()
+        .expect(&rt, "object");
+    is(&rt, "object", &given.as_slice(), &object);
     is(
         &rt,
         "wants",
@@ -124,7 +140,9 @@ fn a_line_end_in_a_path_is_a_blank(rt: HostRuntime) -> Result<(), Fail> {
     let mut bytes = image(alloc)?;
     put_bytes(&mut bytes, 348, b"a\r\ndb");
     let line = b"112233443000 x 030201000504070608090A0B0C0D0E0F1 a  db\n".as_slice();
-    let given = key_line(alloc, &bytes, b"x").ok().expect(&rt, "line");
+    let given = key_line(alloc, Form::Text, &bytes, b"x")
+        .ok()
+        .expect(&rt, "line");
     is(&rt, "line", &given.as_slice(), &line);
     Ok(())
 }
@@ -134,21 +152,36 @@ fn lines_of_pdbs(rt: HostRuntime) -> Result<(), Fail> {
     let alloc = rt.alloc();
     let bytes = pdb(alloc, 1)?;
     let line = b"030201000504070608090A0B0C0D0E0F1 a.pdb\n".as_slice();
-    let given = key_line(alloc, &bytes, b"a.pdb").ok().expect(&rt, "line");
+    let given = key_line(alloc, Form::Text, &bytes, b"a.pdb")
+        .ok()
+        .expect(&rt, "line");
     is(&rt, "line", &given.as_slice(), &line);
-    let parts = line_in_parts(alloc, &bytes, 6144, b"a.pdb").ok().flatten();
+    let parts = line_in_parts(alloc, Form::Text, &bytes, 6144, b"a.pdb")
+        .ok()
+        .flatten();
     is(
         &rt,
         "in parts",
         &parts.expect(&rt, "parts").as_slice(),
         &line,
     );
+    let object =
+        b"{\"key\":\"030201000504070608090A0B0C0D0E0F1\",\"file\":\"a\\\\b.pdb\"}\n".as_slice();
+    let parts = line_in_parts(alloc, Form::Json, &bytes, 6144, b"a\\b.pdb")
+        .ok()
+        .flatten();
+    is(
+        &rt,
+        "object in parts",
+        &parts.expect(&rt, "parts").as_slice(),
+        &object,
+    );
     let refused = Err(Stop::Open(Error::UnrecognizedFileFormat));
     for bytes in [b"".as_slice(), b"M", b"mz", b"ZM"] {
         is(
             &rt,
             "no file",
-            &key_line(alloc, bytes, b"a").map(|_| ()),
+            &key_line(alloc, Form::Text, bytes, b"a").map(|_| ()),
             &refused,
         );
     }
@@ -188,7 +221,7 @@ fn what_is_wanted(rt: HostRuntime) -> Result<(), Fail> {
 fn nothing_is_told_of_another_file(rt: HostRuntime) -> Result<(), Fail> {
     let alloc = rt.alloc();
     let asked = [Question {
-        heading: None,
+        answer: Answer::Frames,
         asked: Asked::Nowhere,
     }];
     let text = FileText::Code(&asked);

@@ -51,7 +51,7 @@ fn work_seen(work: Work<'_>) -> Seen {
         Work::Help(Some(topic)) => ("help of one", topic as usize, 0, 0),
         Work::ListHelp => ("help of pdb_list", 0, 0, 0),
         Work::Version => ("version", 0, 0, 0),
-        Work::Keys(file, more) => operands_seen("keys", file, &more),
+        Work::Keys(_, file, more) => operands_seen("keys", file, &more),
         Work::Checks(file, more) => operands_seen("checks", file, &more),
         Work::Resolve(_, file, rest) => operands_seen("resolve", file, &rest),
         Work::Lines(file, numbers) => numbers_seen("lines", file, &numbers),
@@ -61,9 +61,9 @@ fn work_seen(work: Work<'_>) -> Seen {
         Work::Sources(file, numbers) => numbers_seen("sources", file, &numbers),
         Work::Find(file, names) => operands_seen("find", file, &names),
         Work::Where(file, asked) => ("where", file.place, 0, asked.len()),
-        Work::Modules(file) => ("modules", file.place, 0, 0),
-        Work::Sections(file) => ("sections", file.place, 0, 0),
-        Work::Streams(file) => ("streams", file.place, 0, 0),
+        Work::Modules(_, file) => ("modules", file.place, 0, 0),
+        Work::Sections(_, file) => ("sections", file.place, 0, 0),
+        Work::Streams(_, file) => ("streams", file.place, 0, 0),
     }
 }
 

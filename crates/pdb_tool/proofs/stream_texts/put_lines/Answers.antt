@@ -2,7 +2,7 @@ use Rattle.std.proofs.Common.{ap, map, ◌∙◌}
 use Rattle.pdb.specs.Container.{stream_size}
 use Rattle.pdb_resolve.specs.AsIfEmpty.{if_read}
 use Rattle.pdb_tool.specs.StreamRoles.{role_view, stream_number}
-use Rattle.pdb_tool.specs.StreamTexts.{line_of, role_line}
+use Rattle.pdb_tool.specs.StreamTexts.{line_in, role_line}
 use Rattle.pdb_tool.proofs.StreamOrder.{here_is, one_more, rises_next, same_next}
 use Rattle.pdb_tool.proofs.stream_texts.put_lines.Goals as goal
 
@@ -15,7 +15,7 @@ loop-number-preserved g c =
     let at = c.loop-number.at in
     let all = c.here-here.ensures.here ∙ here_is stream_number n at roles so_far.rises so_far.same in
     record {
-      told = one_more (role_line file roles) n c.args.out.now.items c.loop-number.out.items c.put_stream.new.out.items _ so_far.told c.in_ok-put_stream.ensures (ap (λ rs. line_of n (if_read (stream_size file n)) (map role_view rs)) all);
+      told = one_more (role_line c.args.form file roles) n c.args.out.now.items c.loop-number.out.items c.put_stream.new.out.items _ so_far.told c.in_ok-put_stream.ensures (ap (λ rs. line_in c.args.form n (if_read (stream_size file n)) (map role_view rs)) all);
       within = c.here-here.ensures.within;
       rises = rw c.here-here.ensures.count (rises_next stream_number n at roles so_far.rises);
       same = rw c.here-here.ensures.count (same_next stream_number n at roles so_far.same);

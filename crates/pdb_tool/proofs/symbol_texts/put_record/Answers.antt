@@ -5,10 +5,10 @@ use Rattle.pdb_tool.proofs.symbol_texts.put_record.Goals as goal
 -- piece: refused
 pub returns-in-Err : goal.returns-in-Err
 returns-in-Err c =
-    on_ok c.put_refused.result (λ h. (
+    on_ok c.put_unparsed.result (λ h. (
     let r = refused_is c.in-Err.e _ c.in-Err.ensures.reads h.0 in
     let t = h.1 in
-    rw r (rw c.raw_bytes.ensures at t)
-    )) c.put_refused.ensures
+    rw r t
+    )) c.put_unparsed.ensures
 
 -- end

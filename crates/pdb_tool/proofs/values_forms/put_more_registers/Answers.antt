@@ -6,4 +6,4 @@ use Rattle.pdb_tool.proofs.values_forms.put_more_registers.Goals as goal
 pub loop-register-preserved : goal.loop-register-preserved
 loop-register-preserved c =
     joined _ _ _ _ _ c.in_ok-put_behind_comma.ensures c.loop-register.invariant
-    ∙ ap (λ (xs : List ℕ). c.args.out.now.items ++ xs) (sym (registers_more c.args.registers.now c.loop-register.register-index _ c.loop-register-test.true))
+    ∙ ap (λ (xs : List ℕ). c.args.out.now.items ++ xs) (sym (registers_more c.args.machine c.args.registers.now c.loop-register.register-index _ c.loop-register-test.true))

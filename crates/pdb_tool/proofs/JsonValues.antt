@@ -1,0 +1,28 @@
+-- JSON values of names and of frames.
+use Rattle.std.proofs.Common.{◌≡◌, ℕ, ◌<◌, List, [], ◌∷◌, ◌++◌, append_assoc, flat_map, length, refl, sym, ap, ◌∙◌, arith}
+use Rattle.json.specs.Json.{null}
+use Rattle.json.specs.Token.{end_array}
+use Rattle.json.specs.Tree.{items_tokens, json_tokens}
+use Rattle.pdb_resolve.specs.Frames.{Frame}
+use Rattle.pdb_tool.specs.FrameObjects.{frame_items, frame_value}
+use Rattle.pdb_tool.specs.Objects.{known_value, text_value}
+use Rattle.pdb_tool.specs.StreamRoles.{StreamRole}
+use Rattle.pdb_tool.specs.StreamTexts.{what_items}
+
+pub known_none : (bytes : List ℕ) → length bytes ≡ 0 → known_value bytes ≡ null
+known_none [] h = refl
+known_none (b ∷ bytes) h = absurd (omega arith)
+
+pub known_some : (bytes : List ℕ) → 0 < length bytes → known_value bytes ≡ text_value bytes
+known_some [] h = absurd (omega arith)
+known_some (b ∷ bytes) h = refl
+
+-- the tokens of frames one after another, and the end of their array
+pub items_of_frames : (fs : List Frame) → items_tokens (frame_items fs) ≡ flat_map (λ f. json_tokens (frame_value f)) fs ++ end_array ∷ []
+items_of_frames [] = refl
+items_of_frames (f ∷ fs) = ap (λ ts. json_tokens (frame_value f) ++ ts) (items_of_frames fs) ∙ sym (append_assoc (json_tokens (frame_value f)) (flat_map (λ f. json_tokens (frame_value f)) fs) (end_array ∷ []))
+
+-- the same of the strings that say what a stream is
+pub items_of_roles : (rs : List StreamRole) → items_tokens (what_items rs) ≡ flat_map (λ r. json_tokens (text_value r.what)) rs ++ end_array ∷ []
+items_of_roles [] = refl
+items_of_roles (r ∷ rs) = ap (λ ts. json_tokens (text_value r.what) ++ ts) (items_of_roles rs) ∙ sym (append_assoc (json_tokens (text_value r.what)) (flat_map (λ r. json_tokens (text_value r.what)) rs) (end_array ∷ []))
