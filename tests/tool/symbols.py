@@ -11,7 +11,8 @@ from program import FILES, REAL, TOP, ran, tell
 from streams import File, u16, u32
 
 FILES_MADE = 60
-CORPUS = f"{TOP}/../shared/corpus/msvc"
+# A folder with further files, if the caller names one.
+CORPUS = os.environ.get("PDB_FILES")
 
 VARIABLE = "param addrtaken compgenx aggregate aggregated aliased alias retvalue optimizedout enreg_glob enreg_stat".split()
 FRAME = "alloca setjmp longjmp inline_asm eh inline_spec seh naked security_checks async_eh gs_no_stack_ordering was_inlined gs_check safe_buffers - - - - pogo_on valid_counts opt_speed guard_cf guard_cfw".split()
@@ -427,8 +428,9 @@ def random_file(chance):
 
 
 def symbols(room):
-    """Real files, those of Microsoft's tools where they are beside the repository, and random records."""
-    files = [f"{FILES}/{name}.pdb" for name in REAL] + sorted(glob.glob(f"{CORPUS}/*.pdb"))
+    """Real files, those of the folder PDB_FILES, and random records."""
+    further = sorted(glob.glob(f"{CORPUS}/*.pdb")) if CORPUS else []
+    files = [f"{FILES}/{name}.pdb" for name in REAL] + further
     kinds = set()
     for path in files:
         kinds |= compare_lists(os.path.basename(path), path, READ)
