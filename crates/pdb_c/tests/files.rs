@@ -202,21 +202,25 @@ fn name_of(it: &PdbStreamName) -> (usize, usize, u32) {
     (it.at, it.size, it.number)
 }
 
+// The code of a call, how many rows there are, and how many bytes of names.
+fn put_names(
+    alloc: Global,
+    bytes: &[u8],
+    rows: &mut [PdbStreamName],
+    names: &mut [u8],
+) -> (u32, usize, usize) {
+    let (mut count, mut size) = (77, 77);
+    let code = pdb_stream_names(alloc, bytes, rows, &mut count, names, &mut size);
+    (code, count, size)
+}
+
 #[test]
 fn stream_names(rt: HostRuntime) -> Result<(), AllocError> {
     let bytes = file(rt.alloc())?;
     let mut rows = [NO_NAME; 3];
     let mut names = [b'-'; 8];
-    let (mut count, mut size) = (77, 77);
-    let code = pdb_stream_names(
-        rt.alloc(),
-        &bytes,
-        &mut rows,
-        &mut count,
-        &mut names,
-        &mut size,
-    );
-    is(&rt, "code and sizes", &(code, count, size), &(0, 2, 7));
+    let got = put_names(rt.alloc(), &bytes, &mut rows, &mut names);
+    is(&rt, "code and sizes", &got, &(0, 2, 7));
     is(&rt, "names", &names, b"/namesa-");
     is(&rt, "first", &name_of(&rows[0]), &(0, 6, 4));
     is(&rt, "second", &name_of(&rows[1]), &(6, 1, 5));
@@ -229,28 +233,13 @@ fn stream_names_in_small_buffers(rt: HostRuntime) -> Result<(), AllocError> {
     let bytes = file(rt.alloc())?;
     let mut rows = [NO_NAME; 1];
     let mut names = [b'-'; 7];
-    let (mut count, mut size) = (77, 77);
-    let code = pdb_stream_names(
-        rt.alloc(),
-        &bytes,
-        &mut rows,
-        &mut count,
-        &mut names,
-        &mut size,
-    );
-    is(&rt, "rows", &(code, count, size), &(31, 2, 7));
+    let got = put_names(rt.alloc(), &bytes, &mut rows, &mut names);
+    is(&rt, "rows", &got, &(31, 2, 7));
     is(&rt, "names", &names, b"/namesa");
     let mut rows = [NO_NAME; 2];
     let mut names = [b'-'; 3];
-    let code = pdb_stream_names(
-        rt.alloc(),
-        &bytes,
-        &mut rows,
-        &mut count,
-        &mut names,
-        &mut size,
-    );
-    is(&rt, "names", &(code, count, size), &(31, 2, 7));
+    let got = put_names(rt.alloc(), &bytes, &mut rows, &mut names);
+    is(&rt, "names", &got, &(31, 2, 7));
     is(&rt, "names", &names, b"/na");
     is(&rt, "second", &name_of(&rows[1]), &(6, 1, 5));
     Ok(())
@@ -269,16 +258,8 @@ fn stream_names_in_error(rt: HostRuntime) -> Result<(), AllocError> {
         put_numbers(&mut bytes, at, &[number]);
         let mut rows = [NO_NAME; 2];
         let mut names = [b'-'; 7];
-        let (mut count, mut size) = (77, 77);
-        let code = pdb_stream_names(
-            rt.alloc(),
-            &bytes,
-            &mut rows,
-            &mut count,
-            &mut names,
-            &mut size,
-        );
-        is(&rt, "code and sizes", &(code, count, size), &(wanted, 0, 0));
+        let got = put_names(rt.alloc(), &bytes, &mut rows, &mut names);
+        is(&rt, "code and sizes", &got, &(wanted, 0, 0));
         is(&rt, "untouched", &names, b"-------");
         is(&rt, "untouched", &name_of(&rows[0]), &(99, 99, 99));
     }
