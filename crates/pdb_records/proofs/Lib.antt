@@ -6,3 +6,4 @@ pub mod RecordReadings
 pub mod RecordClauses
 pub mod KindLaws
 pub mod AnnotationRecords
+pub mod PieceRuns

@@ -15,3 +15,5 @@ pub mod RegistersMips
 pub mod RegistersCommon
 pub mod Machines
 pub mod CompilerNames
+pub mod RangePieces
+pub mod PieceOrder

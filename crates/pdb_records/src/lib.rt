@@ -15,6 +15,7 @@ mod managed;
 mod managed_variables;
 mod names;
 mod older;
+mod pieces;
 mod ranges;
 mod record;
 mod registers_arm;
@@ -46,6 +47,7 @@ pub use older::{
     Compile, Discard, Discarded, MiniReference, ModuleTypeReference, RegisterRelativeOld,
     StartSearch, VirtualTablePath, With,
 };
+pub use pieces::{Piece, Pieces};
 pub use ranges::{
     DefRange, DefRangeFramePointerRelative, DefRangeFramePointerRelativeFullScope,
     DefRangeRegister, DefRangeRegisterRelative, DefRangeSubfield, DefRangeSubfieldRegister,
