@@ -3,6 +3,7 @@
 mod damaged;
 mod further;
 mod names;
+mod pieces;
 mod registers;
 mod rows;
 mod support;

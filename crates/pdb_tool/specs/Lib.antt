@@ -15,7 +15,6 @@ pub mod ErrorObjects
 pub mod Values
 pub mod Depth
 pub mod LineTexts
-pub mod ScopeTexts
 pub mod KindNames
 pub mod Flags
 pub mod ValueTexts
@@ -25,6 +24,10 @@ pub mod RecordValues
 pub mod RecordTexts
 pub mod ModuleMachines
 pub mod SymbolTexts
+pub mod ScopeFrames
+pub mod VariablePlaces
+pub mod VariableViews
+pub mod ScopeTexts
 pub mod SectionTexts
 pub mod SourceTexts
 pub mod ModuleSizes

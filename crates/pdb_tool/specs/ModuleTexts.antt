@@ -114,7 +114,7 @@ lines_command file ks = modules_text (lines_text (if_read (string_table_in file)
 
 -- `scopes`: inlined functions have their names from ids and types
 abbrev pub scopes_in : List ItemEntry → List ItemEntry → List ℕ → ModuleBytes → List ℕ
-scopes_in ids types file m = scopes_text (call_name ids types file m) m
+scopes_in ids types file m = scopes_text (call_name ids types file m) (file_machine file) m
 
 abbrev pub scopes_command : List ℕ → List ℕ → List ℕ
 scopes_command file ks = modules_text (scopes_in (items_listed file 4) (items_listed file 2) file) file ks

@@ -58,18 +58,20 @@ impl<'a> ModuleText for Lines<'a> {
     }
 }
 
-/// The scopes of modules, with the names of inlined functions from ids and types.
+/// The scopes of modules, with the names of inlined functions from ids and types, by the machine of the header where a
+/// module names none.
 #[derive(Drop)]
 struct Scopes<'a> {
     ids: ItemFinder<'a>,
     types: ItemFinder<'a>,
+    header: Option<Machine>,
 }
 
 impl<'a> ModuleText for Scopes<'a> {
     ghost use Rattle.pdb_resolve.specs.AcrossModules.{names_by};
     ghost use Rattle.pdb_tool.specs.ScopeTexts.{scopes_text};
 
-    ghost text = { λ s ids. scopes_text (names_by s.ids s.types ids) };
+    ghost text = { λ s ids. scopes_text (names_by s.ids s.types ids) s.header };
 
     fn names_calls(&self) -> bool {
         true
@@ -83,7 +85,7 @@ impl<'a> ModuleText for Scopes<'a> {
         global: &GlobalIds<'_>,
     ) -> Result<(), AllocError> {
         let names = CallNames::new(&self.ids, &self.types, global);
-        put_scopes(alloc, out, &names, info)
+        put_scopes(alloc, out, &names, self.header, info)
     }
 }
 
@@ -206,14 +208,17 @@ fn scopes_by<'a>(
     alloc: Global,
     ids: Option<&'a IdInformation<'a>>,
     types: Option<&'a TypeInformation<'a>>,
+    header: Option<Machine>,
 ) -> Result<Scopes<'a>, Stop>
     ensures ids { IfOk result (λ s. s.ids ≡ items_where (option_copied ids.entry)) }
     ensures types { IfOk result (λ s. s.types ≡ items_where (option_copied types.entry)) }
+    ensures header { IfOk result (λ s. s.header ≡ header) }
     ensures unwritten { IfErr result (λ e. (e ≡ Stop.Memory) ⊎ (e ≡ Stop.Read)) }
 {
     Ok(Scopes {
         ids: ids_of(alloc, ids).map_err(stop_of)?,
         types: types_of(alloc, types).map_err(stop_of)?,
+        header,
     })
 }
 
@@ -233,7 +238,8 @@ pub fn write_scopes<'s, S: Source<'s>, W: Write>(
     let mut pdb = opened(alloc, source)?;
     let ids = ids_stream(&mut pdb)?;
     let types = types_stream(&mut pdb)?;
-    let scopes = scopes_by(alloc, ids.as_ref(), types.as_ref())?;
+    let header = machine_of_file(&mut pdb)?;
+    let scopes = scopes_by(alloc, ids.as_ref(), types.as_ref(), header)?;
     write_modules(alloc, &mut pdb, &scopes, places, out)
 }
 

@@ -134,11 +134,16 @@ pdb_tool scopes FILE [K..]
 
 Prints the scopes of the modules with these indices, counted from 0, or else of all modules:
 procedures, thunks, blocks and separated code with SECTION:OFFSET in hex and their size in bytes,
-data and labels with SECTION:OFFSET, variables, and inlined functions. Each scope is indented by
-two blanks, up to 64. Several modules and damage are printed as by lines.
+data and labels with SECTION:OFFSET, inlined functions, and variables with the register or the
+memory in which they are: eax, [rsp+40]. Behind a local stands a line for each stretch of code in
+which it is somewhere, with SECTION:OFFSET and a size in bytes; +4: is a part of it, from byte 4 on.
+Each scope is indented by two blanks, up to 64. Several modules and damage are printed as by lines.
 
   $ pdb_tool scopes app.pdb
   procedure 0001:00000100 48 main
+    relative [rsp+40] count
+    local index
+      ecx 0001:00000108 16
     inlined nested
 ";
 

@@ -35,7 +35,7 @@ pub fn put_register_name(
 }
 
 /// The register behind an encoded register of a frame.
-fn frame_register(machine: Option<Machine>, encoded: u8) -> Option<Register>
+pub fn frame_register(machine: Option<Machine>, encoded: u8) -> Option<Register>
     ensures { result ≡ frame_register_on machine encoded }
 {
     match machine {

@@ -1,25 +1,36 @@
 //! The text of `scopes`.
 
-ghost use Rattle.std.specs.Prelude.{◌≡◌, ◌≢◌, ◌++◌, [], OnOk, codes, Ok};
+ghost use Rattle.std.specs.Prelude.{◌≡◌, ◌≢◌, ◌++◌, ◌+◌, ◌<◌, ◌≤◌, ◌^◌, [], None, length, reverse, IfOk, OnOk, codes, Ok};
 ghost use Rattle.std.specs.Option.{option_map};
 ghost use Rattle.std.specs.Fmt.{decimal};
 ghost use Rattle.pdb.specs.Data.{shown};
 ghost use Rattle.pdb.specs.Forms.{kind_at, record_at};
 ghost use Rattle.pdb.specs.Qualified.{shown_qualified};
 ghost use Rattle.pdb.specs.Text.{name_bytes};
-ghost use Rattle.pdb.specs.Views.{symbol_of, symbols_left};
+ghost use Rattle.pdb.specs.Views.{symbol_of, symbols_bytes, symbols_left, symbols_place};
+ghost use Rattle.pdb.specs.Error.TheVariants.{OutOfMemory};
+ghost use Rattle.pdb_records.specs.RecordReading.{further_at};
+ghost use Rattle.pdb_records.specs.RecordViews.{shown_record};
 ghost use Rattle.pdb_resolve.specs.CallViews.{names_of_calls};
-ghost use Rattle.pdb_tool.specs.Depth.{blanks, depth_at};
-ghost use Rattle.pdb_tool.specs.ScopeTexts.{behind_qualified, behind_scoped, code_text, named_text, placed_text, scope_line, scopes_left, scopes_text};
+ghost use Rattle.pdb_tool.specs.Depth.{blanks};
+ghost use Rattle.pdb_tool.specs.ScopeFrames.{entered, open_at};
+ghost use Rattle.pdb_tool.specs.ScopeTexts.{behind_qualified, behind_scoped, code_text, further_line, held_text, named_text, parameter_by, placed_text, says_line, scope_line, scopes_left, scopes_text, symbol_lines, unread_line, unread_parameter, variable_behind};
 ghost use Rattle.pdb_tool.specs.Values.{behind_blank, place_text};
+ghost use Rattle.pdb_tool.specs.ValueTexts.{register_on};
+ghost use Rattle.pdb_tool.specs.VariablePlaces.{base_pointer, further_parameter_in, memory_text, parameter_in};
 
-use crate::depth::{depth_of, put_blanks};
+use crate::depth::put_blanks;
 use crate::error_line::{put_error_line, put_refusal_line};
+use crate::register_names::put_register_name;
+use crate::scope_frames::{Bases, bases_within, innermost};
+use crate::symbol_texts::{lacks_layout, machine_in};
 use crate::values::{put_behind_blank, put_place};
+use crate::variable_places::{RangeLines, is_of_ranges, put_at_base_pointer, put_at_register};
 use pdb::{
     Error, FallibleIterator, IdIndex, ModuleInfo, PdbInternalSectionOffset, QualifiedName,
-    RawString, Symbol, SymbolData, SymbolIter,
+    RawString, Register, Symbol, SymbolData, SymbolIter,
 };
+use pdb_records::{Machine, Record};
 use pdb_resolve::CallNames;
 use pdb_text::{put_field, put_line_end, put_one_line};
 use std::alloc::{AllocError, Global};
@@ -136,14 +147,67 @@ fn put_inlined(
     put_line_end(out)
 }
 
+/// The line of a variable at an offset from the value of a register.
+fn put_relative(
+    out: &mut Vec<u8>,
+    machine: Option<Machine>,
+    depth: usize,
+    register: Register,
+    offset: i32,
+    name: RawString<'_>,
+) -> Result<(), AllocError>
+    ensures { OnOk result (out.new.items ≡ out.old.items ++ (blanks depth ++ held_text (codes "relative") (memory_text (register_on machine register) offset) (name_bytes name.entry))) }
+{
+    put_blanks(out, depth)?;
+    out.extend_from_slice(b"relative ")?;
+    put_at_register(out, machine, register, offset)?;
+    put_behind_blank(out, name.as_bytes())?;
+    put_line_end(out)
+}
+
+/// The line of a variable at an offset from the base pointer.
+fn put_relative_to_base(
+    out: &mut Vec<u8>,
+    machine: Option<Machine>,
+    depth: usize,
+    offset: i32,
+    name: RawString<'_>,
+) -> Result<(), AllocError>
+    ensures { OnOk result (out.new.items ≡ out.old.items ++ (blanks depth ++ held_text (codes "relative") (memory_text (base_pointer machine) offset) (name_bytes name.entry))) }
+{
+    put_blanks(out, depth)?;
+    out.extend_from_slice(b"relative ")?;
+    put_at_base_pointer(out, machine, offset)?;
+    put_behind_blank(out, name.as_bytes())?;
+    put_line_end(out)
+}
+
+/// The line of a variable in a register.
+fn put_in_register(
+    out: &mut Vec<u8>,
+    machine: Option<Machine>,
+    depth: usize,
+    register: Register,
+    name: RawString<'_>,
+) -> Result<(), AllocError>
+    ensures { OnOk result (out.new.items ≡ out.old.items ++ (blanks depth ++ held_text (codes "register") (register_on machine register) (name_bytes name.entry))) }
+{
+    put_blanks(out, depth)?;
+    out.extend_from_slice(b"register ")?;
+    put_register_name(out, machine, register)?;
+    put_behind_blank(out, name.as_bytes())?;
+    put_line_end(out)
+}
+
 /// The line of what a record says, where it has one.
 fn put_says(
     out: &mut Vec<u8>,
     names: &CallNames<'_, '_>,
+    machine: Option<Machine>,
     depth: usize,
     parsed: &SymbolData<'_>,
 ) -> Result<(), AllocError>
-    ensures { OnOk result (out.new.items ≡ out.old.items ++ scope_line (names_of_calls names.now) depth (Ok (shown parsed.now))) }
+    ensures { OnOk result (out.new.items ≡ out.old.items ++ says_line (names_of_calls names.now) machine depth (shown parsed.now)) }
 {
     match parsed {
         SymbolData::Procedure(s) => {
@@ -166,27 +230,169 @@ fn put_says(
         SymbolData::ThreadStorage(s) => put_placed(out, depth, b"thread", s.offset, s.name),
         SymbolData::Label(s) => put_placed(out, depth, b"label", s.offset, s.name),
         SymbolData::Local(s) => put_named(out, depth, b"local", s.name),
-        SymbolData::RegisterVariable(s) => put_named(out, depth, b"register", s.name),
-        SymbolData::RegisterRelative(s) => put_named(out, depth, b"relative", s.name),
+        SymbolData::RegisterVariable(s) => put_in_register(out, machine, depth, s.register, s.name),
+        SymbolData::RegisterRelative(s) => {
+            put_relative(out, machine, depth, s.register, s.offset, s.name)
+        }
         _ => Ok(()),
     }
 }
 
-/// The line of a symbol, where it has one; want of memory is passed on.
+/// The line of what a further record says, where it has one.
+fn put_further_says(
+    out: &mut Vec<u8>,
+    machine: Option<Machine>,
+    depth: usize,
+    record: &Record<'_>,
+) -> Result<(), AllocError>
+    ensures { OnOk result (out.new.items ≡ out.old.items ++ further_line machine depth (Ok (shown_record record.now))) }
+{
+    match record {
+        Record::BasePointerRelative(s) => {
+            put_relative_to_base(out, machine, depth, s.offset, s.name)
+        }
+        Record::RegisterRelativeOld(s) => {
+            put_relative(out, machine, depth, s.register, s.offset, s.name)
+        }
+        Record::FileStatic(s) => put_named(out, depth, b"local", s.name),
+        Record::ManagedProcedure(s) => {
+            put_code(out, depth, b"procedure", s.offset, s.len, s.name.as_bytes())
+        }
+        _ => Ok(()),
+    }
+}
+
+/// Whether the variable that a record tells is a parameter; none for other records.
+fn parameter_in(parsed: &SymbolData<'_>) -> Option<bool>
+    ensures { result ≡ parameter_in (Ok (shown parsed.now)) }
+{
+    match parsed {
+        SymbolData::Local(s) => Some(s.flags.isparam),
+        _ => None,
+    }
+}
+
+/// The same of a further record.
+fn further_parameter_in(record: &Record<'_>) -> Option<bool>
+    ensures { result ≡ further_parameter_in (Ok (shown_record record.now)) }
+{
+    match record {
+        Record::FileStatic(s) => Some(s.flags.param),
+        _ => None,
+    }
+}
+
+/// The line of a further record, and whether the variable that it tells is a parameter.
+fn put_further(
+    out: &mut Vec<u8>,
+    machine: Option<Machine>,
+    depth: usize,
+    symbol: &Symbol<'_>,
+) -> Result<Option<bool>, AllocError>
+    ensures line { OnOk result (out.new.items ≡ out.old.items ++ further_line machine depth (further_at (symbol_of symbol.now).bytes)) }
+    ensures variable { IfOk result (λ v. v ≡ further_parameter_in (further_at (symbol_of symbol.now).bytes)) }
+{
+    match Record::parse(symbol) {
+        Ok(record) => {
+            put_further_says(out, machine, depth, &record)?;
+            Ok(further_parameter_in(&record))
+        }
+        Err(_) => Ok(None),
+    }
+}
+
+/// The line of a record that couldn't be parsed: one whose kind has no layout may be a further record. Out of memory is
+/// passed on.
+fn put_unread(
+    out: &mut Vec<u8>,
+    machine: Option<Machine>,
+    depth: usize,
+    symbol: &Symbol<'_>,
+    e: Error,
+) -> Result<Option<bool>, AllocError>
+    ensures line { OnOk result ((e ≢ OutOfMemory) × (out.new.items ≡ out.old.items ++ unread_line machine depth (symbol_of symbol.now).bytes e)) }
+    ensures variable { IfOk result (λ v. v ≡ unread_parameter (symbol_of symbol.now).bytes e) }
+{
+    if lacks_layout(e) {
+        return put_further(out, machine, depth, symbol);
+    }
+    match e {
+        Error::OutOfMemory => Err(AllocError),
+        _ => Ok(None),
+    }
+}
+
+/// The line of a symbol, where it has one, and whether the variable that it tells is a parameter.
+fn put_line(
+    alloc: Global,
+    out: &mut Vec<u8>,
+    names: &CallNames<'_, '_>,
+    machine: Option<Machine>,
+    depth: usize,
+    symbol: &Symbol<'_>,
+) -> Result<Option<bool>, AllocError>
+    ensures line { OnOk result (out.new.items ≡ out.old.items ++ scope_line (names_of_calls names.now) machine depth (symbol_of symbol.now).bytes (record_at (symbol_of symbol.now).bytes)) }
+    ensures variable { IfOk result (λ v. v ≡ parameter_by (symbol_of symbol.now).bytes (record_at (symbol_of symbol.now).bytes)) }
+{
+    match symbol.parse(alloc) {
+        Ok(parsed) => {
+            put_says(out, names, machine, depth, &parsed)?;
+            Ok(parameter_in(&parsed))
+        }
+        Err(e) => put_unread(out, machine, depth, symbol, e),
+    }
+}
+
+/// The lines of a symbol in the scopes that are open, behind a variable; and the variable behind it.
 fn put_symbol(
     alloc: Global,
     out: &mut Vec<u8>,
     names: &CallNames<'_, '_>,
-    depth: usize,
+    machine: Option<Machine>,
+    ranges: &mut RangeLines,
+    open: &[Bases],
+    variable: Option<bool>,
+    symbol: &Symbol<'_>,
+) -> Result<Option<bool>, AllocError>
+    ensures lines { OnOk result (out.new.items ≡ out.old.items ++ symbol_lines (names_of_calls names.now) machine (reverse open.now) variable (symbol_of symbol.now).bytes) }
+    ensures variable { IfOk result (λ v. v ≡ variable_behind variable (symbol_of symbol.now).bytes) }
+{
+    if !is_of_ranges(symbol.raw_kind()) {
+        return put_line(alloc, out, names, machine, open.len(), symbol);
+    }
+    let depth = open.len().saturating_add(1);
+    ranges.put_behind(out, machine, innermost(open), depth, variable, symbol)?;
+    Ok(variable)
+}
+
+/// Leaves the innermost scope where a symbol ends it.
+fn leave(open: &mut Vec<Bases>, symbol: &Symbol<'_>)
+    ensures is { reverse open.new.items ≡ open_at (reverse open.old.items) (kind_at (symbol_of symbol.now).bytes) }
+    ensures bound { length open.new.items ≤ length open.old.items }
+{
+    if symbol.ends_scope() {
+        let _ = open.pop();
+    }
+}
+
+/// Opens a scope where a symbol, which an iterator has just given, starts one.
+fn enter(
+    open: &mut Vec<Bases>,
+    symbols: &mut SymbolIter<'_>,
     symbol: &Symbol<'_>,
 ) -> Result<(), AllocError>
-    ensures { OnOk result (out.new.items ≡ out.old.items ++ scope_line (names_of_calls names.now) depth (record_at (symbol_of symbol.now).bytes)) }
+    requires place { symbols_place symbols.old ≡ (symbol_of symbol.now).index + 2 + length (symbol_of symbol.now).bytes }
+    requires inside { symbols_place symbols.old ≤ length (symbols_bytes symbols.old) }
+    requires small { length (symbols_bytes symbols.old) < 2 ^ 32 }
+    ensures is { OnOk result (reverse open.new.items ≡ entered (reverse open.old.items) (kind_at (symbol_of symbol.now).bytes) (symbols_left symbols.old).items) }
+    ensures bound { length open.new.items ≤ length open.old.items + 1 }
+    ensures left { symbols_left symbols.new ≡ symbols_left symbols.old }
 {
-    match symbol.parse(alloc) {
-        Ok(parsed) => put_says(out, names, depth, &parsed),
-        Err(Error::OutOfMemory) => Err(AllocError),
-        Err(_) => Ok(()),
+    if symbol.starts_scope() {
+        let bases = bases_within(symbols, open.as_slice(), symbol);
+        open.push(bases)?;
     }
+    Ok(())
 }
 
 // piece: put_symbols
@@ -195,19 +401,29 @@ fn put_symbols(
     alloc: Global,
     out: &mut Vec<u8>,
     names: &CallNames<'_, '_>,
+    machine: Option<Machine>,
     mut symbols: SymbolIter<'_>,
 ) -> Result<(), AllocError>
-    ensures { OnOk result (out.new.items ≡ out.old.items ++ scopes_left (names_of_calls names.now) 0 (symbols_left symbols.entry)) }
+    ensures { OnOk result (out.new.items ≡ out.old.items ++ scopes_left (names_of_calls names.now) machine [] None (symbols_left symbols.entry)) }
 {
-    let mut depth = 0usize;
+    let mut open = Vec::new(alloc);
+    let mut ranges = RangeLines::new(alloc);
+    let mut variable = None;
     loop {
         match symbols.next() {
             Ok(Some(symbol)) => {
-                depth = depth_of(depth, &symbol);
-                put_symbol(alloc, out, names, depth, &symbol)?;
-                if symbol.starts_scope() {
-                    depth += 1;
-                }
+                leave(&mut open, &symbol);
+                variable = put_symbol(
+                    alloc,
+                    out,
+                    names,
+                    machine,
+                    &mut ranges,
+                    open.as_slice(),
+                    variable,
+                    &symbol,
+                )?;
+                enter(&mut open, &mut symbols, &symbol)?;
             }
             Ok(None) => return Ok(()),
             Err(e) => return put_error_line(out, e),
@@ -216,19 +432,21 @@ fn put_symbols(
 }
 // end
 
-/// The text of `scopes` of a module: its symbols by their scopes, or their refusal. The names of inlined functions are
-/// found by the ids of their calls.
+/// The text of `scopes` of a module: its symbols by their scopes, or their error. The names of inlined functions are
+/// found by the ids of their calls. The header's machine counts where the symbols name none.
 #[tactic(auto, unfolding(crate::specs::ScopeTexts::scopes_text))]
 pub fn put_scopes(
     alloc: Global,
     out: &mut Vec<u8>,
     names: &CallNames<'_, '_>,
+    header: Option<Machine>,
     info: &ModuleInfo<'_>,
 ) -> Result<(), AllocError>
-    ensures { OnOk result (out.new.items ≡ out.old.items ++ scopes_text (names_of_calls names.now) info.now) }
+    ensures { OnOk result (out.new.items ≡ out.old.items ++ scopes_text (names_of_calls names.now) header info.now) }
 {
+    let machine = machine_in(alloc, header, info)?;
     match info.symbols() {
-        Ok(symbols) => put_symbols(alloc, out, names, symbols),
+        Ok(symbols) => put_symbols(alloc, out, names, machine, symbols),
         Err(e) => put_refusal_line(out, e),
     }
 }

@@ -119,7 +119,7 @@ fn put_says(
 }
 
 /// Whether a record isn't read since its kind has no layout here, which is no damage.
-fn lacks_layout(e: Error) -> bool
+pub fn lacks_layout(e: Error) -> bool
     ensures { result ≡ lacks_layout e }
 {
     matches!(e, Error::UnimplementedSymbolKind(_))
@@ -242,7 +242,7 @@ fn put_symbol_list(
 }
 
 /// The machine of a module's symbols; the header's where they have an error.
-fn machine_in(
+pub fn machine_in(
     alloc: Global,
     header: Option<Machine>,
     info: &ModuleInfo<'_>,

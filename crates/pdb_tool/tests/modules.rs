@@ -141,7 +141,7 @@ fn scopes_as_a_tree(rt: HostRuntime) -> Result<(), Fail> {
     let global = GlobalIds::empty(rt.alloc());
     let names = CallNames::new(&ids, &types, &global);
     let mut out = Vec::new(rt.alloc());
-    put_scopes(rt.alloc(), &mut out, &names, &info)?;
+    put_scopes(rt.alloc(), &mut out, &names, None, &info)?;
     let wanted: &[u8] = b"procedure 0001:00000050 33 f\n\
         \x20 block 0001:00000070 18\n\
         \x20   inlined ns::ab\n\
@@ -253,7 +253,7 @@ fn refused_symbols(rt: HostRuntime) -> Result<(), Fail> {
     put_symbols_of(rt.alloc(), &mut out, None, &info)?;
     let global = GlobalIds::empty(rt.alloc());
     let names = CallNames::new(&ids, &ids, &global);
-    put_scopes(rt.alloc(), &mut out, &names, &info)?;
+    put_scopes(rt.alloc(), &mut out, &names, None, &info)?;
     let wanted: &[u8] = b"error 2 not supported: Unsupported symbol data format\n\
         error 2 not supported: Unsupported symbol data format\n";
     is(&rt, "out.as_slice()", &out.as_slice(), &wanted);
