@@ -28,7 +28,7 @@ held_run gaps (suc k) n i m h =
     ∙ (ap (λ (b : Bool). cond b (pieces_from gaps (suc n) (i + 1) (k + m)) (run_to i n ++ pieces_from gaps 0 (i + 1) (k + m))) (h i (omega arith) (omega arith))
     ∙ (held_run gaps k (suc n) (i + 1) m (λ j l u. h j (omega arith) (omega arith))
     ∙ (let a : suc n + k ≡ n + suc k = omega arith in let b : i + 1 + k ≡ i + suc k = omega arith in
-       ap (λ (x : ℕ). pieces_from gaps x (i + 1 + k) m) a ∙ ap (λ (x : ℕ). pieces_from gaps (n + suc k) x m) b)))
+    ap (λ (x : ℕ). pieces_from gaps x (i + 1 + k) m) a ∙ ap (λ (x : ℕ). pieces_from gaps (n + suc k) x m) b)))
 
 first_run : (gaps : List AddressGap) (k i m : ℕ) → AllHeld gaps true i (i + k) → pieces_from gaps 0 i (k + m) ≡ pieces_from gaps k (i + k) m
 first_run gaps k i m h = held_run gaps k 0 i m h ∙ (let e : 0 + k ≡ k = omega arith in ap (λ (x : ℕ). pieces_from gaps x (i + k) m) e)
@@ -97,22 +97,22 @@ to_start : (gaps : List AddressGap) (g : AddressGap) (gs : List AddressGap) (len
     → pieces_from gaps 0 at (len - at) ≡ run_between at (min g.start len) ++ pieces_from gaps 0 (max at (min g.start len)) (len - max at (min g.start len))
 to_start gaps g gs len at le up agree some = elim (cases_lt at (min g.start len)) [
   | inl before ↦ (
-    let s : ℕ = min g.start len in
-    let held : AllHeld gaps true at (at + (s - at)) = λ j l u. agree j l (omega arith) ∙ held_before (g ∷ gs) j (all_before g gs j up (omega arith)) in
-    let whole : len - at ≡ (s - at) + (len - s) = omega arith in
-    let to : at + (s - at) ≡ s = omega arith in
-    let top : max at s ≡ s = omega arith in
-    let ends : 0 < len - s → is_held gaps s ≡ false = λ more. agree s (omega arith) (omega arith) ∙ held_by_none g gs s (gap_has s g (omega arith) (omega arith)) in
-    ap (λ (m : ℕ). pieces_from gaps 0 at m) whole
-    ∙ (first_run gaps (s - at) at (len - s) held
-    ∙ (ap (λ (i : ℕ). pieces_from gaps (s - at) i (len - s)) to
-    ∙ (up_to_gap gaps (s - at) s (len - s) ends
-    ∙ ap (λ (i : ℕ). run_between at s ++ pieces_from gaps 0 i (len - i)) (sym top)))))
+      let s : ℕ = min g.start len in
+      let held : AllHeld gaps true at (at + (s - at)) = λ j l u. agree j l (omega arith) ∙ held_before (g ∷ gs) j (all_before g gs j up (omega arith)) in
+      let whole : len - at ≡ (s - at) + (len - s) = omega arith in
+      let to : at + (s - at) ≡ s = omega arith in
+      let top : max at s ≡ s = omega arith in
+      let ends : 0 < len - s → is_held gaps s ≡ false = λ more. agree s (omega arith) (omega arith) ∙ held_by_none g gs s (gap_has s g (omega arith) (omega arith)) in
+      ap (λ (m : ℕ). pieces_from gaps 0 at m) whole
+      ∙ (first_run gaps (s - at) at (len - s) held
+      ∙ (ap (λ (i : ℕ). pieces_from gaps (s - at) i (len - s)) to
+      ∙ (up_to_gap gaps (s - at) s (len - s) ends
+      ∙ ap (λ (i : ℕ). run_between at s ++ pieces_from gaps 0 i (len - i)) (sym top)))))
   | inr behind ↦ (
-    let s : ℕ = min g.start len in
-    let none : s - at ≡ 0 = omega arith in
-    let top : max at s ≡ at = omega arith in
-    sym (ap (λ (n : ℕ). run_to s n ++ pieces_from gaps 0 (max at s) (len - max at s)) none ∙ ap (λ (i : ℕ). pieces_from gaps 0 i (len - i)) top))
+      let s : ℕ = min g.start len in
+      let none : s - at ≡ 0 = omega arith in
+      let top : max at s ≡ at = omega arith in
+      sym (ap (λ (n : ℕ). run_to s n ++ pieces_from gaps 0 (max at s) (len - max at s)) none ∙ ap (λ (i : ℕ). pieces_from gaps 0 i (len - i)) top))
 ]
 
 -- bytes of the gap are passed

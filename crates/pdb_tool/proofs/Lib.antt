@@ -21,3 +21,5 @@ pub mod StreamFilters
 pub mod StreamNames
 pub mod JsonValues
 pub mod ReadBack
+pub mod OpenScopes
+pub mod GlobalKinds

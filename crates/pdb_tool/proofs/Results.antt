@@ -1,5 +1,5 @@
 -- What is put piece after piece, by calls of which the last may want memory.
-use Rattle.std.proofs.Common.{◌≡◌, ℕ, List, ◌++◌, Result, Ok, Err, OnOk, ap, ◌∙◌, append_assoc}
+use Rattle.std.proofs.Common.{◌≡◌, ℕ, List, ◌++◌, Result, Ok, Err, OnOk, IfOk, ap, ◌∙◌, append_assoc}
 
 pub on_ok : {A E : Type 0} {P Q : Type 0} (r : Result A E) → (P → Q) → OnOk r P → OnOk r Q
 on_ok (Ok x) f h = f h
@@ -11,3 +11,7 @@ more r o m n a b h first = on_ok r (λ e. e ∙ ap (λ (xs : List ℕ). xs ++ b)
 
 pub joined : (o m n a b : List ℕ) → n ≡ m ++ b → m ≡ o ++ a → n ≡ o ++ (a ++ b)
 joined o m n a b e first = e ∙ ap (λ (xs : List ℕ). xs ++ b) first ∙ append_assoc o a b
+
+pub if_ok : {A E : Type 0} {P Q : A → Type 0} (r : Result A E) → ((x : A) → P x → Q x) → IfOk r P → IfOk r Q
+if_ok (Ok x) f h = f x h
+if_ok (Err e) f h = tt

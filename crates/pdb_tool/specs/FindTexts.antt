@@ -76,6 +76,12 @@ global_line x86 f (Ok (DataItem true managed type_index offset name)) = line_if_
 global_line x86 f (Ok (ThreadStorage true type_index offset name)) = line_if_asked (codes "thread") f offset None name
 global_line x86 f r = []
 
+-- the kinds of such records
+abbrev pub global_kinds : List ℕ
+global_kinds =
+    0x110e ∷ 0x110d ∷ 0x110c ∷ 0x1113 ∷ 0x1112 ∷ 0x111d ∷ 0x111c
+    ∷ 0x1009 ∷ 0x1007 ∷ 0x1008 ∷ 0x1020 ∷ 0x1021 ∷ 0x100e ∷ 0x100f ∷ []
+
 abbrev pub global_lines : Bool → Finding → Left Entry → List ℕ
 global_lines x86 f left = flat_map (λ s. global_line x86 f (record_at s.bytes)) left.items ++ fault_line left.fault
 

@@ -41,23 +41,23 @@ has_frame kind =
 -- those of the innermost of the scopes that are open
 abbrev pub innermost : List Bases → Bases
 innermost [] = no_bases
-innermost (bases ∷ open) = bases
+innermost (bases ∷ around) = bases
 
 -- those of a scope that a record of a kind starts, before these records: its own, looked for in the outermost eight scopes; else those around it
 abbrev pub bases_within : List Bases → ℕ → List Entry → Bases
-bases_within open kind ss = if has_frame kind then (if nat_lt (length open) 8 then first_bases 0 ss else no_bases) else innermost open
+bases_within around kind ss = if has_frame kind then (if nat_lt (length around) 8 then first_bases 0 ss else no_bases) else innermost around
 
 -- the scopes that are open at a record of a kind, the innermost first
 abbrev pub outer : List Bases → List Bases
 outer [] = []
-outer (bases ∷ open) = open
+outer (bases ∷ around) = around
 
 abbrev pub open_at : List Bases → ℕ → List Bases
-open_at open kind = if ends_of kind then outer open else open
+open_at around kind = if ends_of kind then outer around else around
 
 -- behind a record of a kind that stands in these scopes, before these records
 abbrev pub entered : List Bases → ℕ → List Entry → List Bases
-entered open kind ss = if starts_of kind then bases_within open kind ss ∷ open else open
+entered around kind ss = if starts_of kind then bases_within around kind ss ∷ around else around
 
 abbrev pub open_behind : List Bases → ℕ → List Entry → List Bases
-open_behind open kind ss = entered (open_at open kind) kind ss
+open_behind around kind ss = entered (open_at around kind) kind ss

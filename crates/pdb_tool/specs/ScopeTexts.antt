@@ -96,21 +96,21 @@ variable_behind variable b = if is_of_ranges (kind_at b) then variable else para
 -- piece: scope_lines
 -- the lines of a symbol in these scopes: those of a range stand one deeper, behind its variable
 abbrev pub symbol_lines : (ℕ → Option Qualified) → Option Machine → List Bases → Option Bool → List ℕ → List ℕ
-symbol_lines names machine open variable b =
-    if is_of_ranges (kind_at b) then behind_lines machine (innermost open) (length open + 1) variable b else scope_line names machine (length open) b (record_at b)
+symbol_lines names machine around variable b =
+    if is_of_ranges (kind_at b) then behind_lines machine (innermost around) (length around + 1) variable b else scope_line names machine (length around) b (record_at b)
 
 -- the lines of symbols behind records that leave these scopes open, the last of which told this variable
 abbrev pub scope_lines : (ℕ → Option Qualified) → Option Machine → List Bases → Option Bool → List Entry → List ℕ
-scope_lines names machine open variable [] = []
-scope_lines names machine open variable (s ∷ ss) =
-    symbol_lines names machine (open_at open (kind_at s.bytes)) variable s.bytes
-    ++ scope_lines names machine (open_behind open (kind_at s.bytes) ss) (variable_behind variable s.bytes) ss
+scope_lines names machine around variable [] = []
+scope_lines names machine around variable (s ∷ ss) =
+    symbol_lines names machine (open_at around (kind_at s.bytes)) variable s.bytes
+    ++ scope_lines names machine (open_behind around (kind_at s.bytes) ss) (variable_behind variable s.bytes) ss
 
 -- end
 
 -- the lines of the symbols that are left, and then that of the fault
 abbrev pub scopes_left : (ℕ → Option Qualified) → Option Machine → List Bases → Option Bool → Left Entry → List ℕ
-scopes_left names machine open variable left = scope_lines names machine open variable left.items ++ fault_line left.fault
+scopes_left names machine around variable left = scope_lines names machine around variable left.items ++ fault_line left.fault
 
 -- those of a module, on its machine
 abbrev pub module_scopes : (ℕ → Option Qualified) → Option Machine → Left Entry → List ℕ

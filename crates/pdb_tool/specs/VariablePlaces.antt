@@ -1,5 +1,5 @@
 -- Where variables are, in words.
-use Rattle.std.specs.Prelude.{ℕ, ℤ, unsigned_abs, ◌+◌, ◌==◌, ◌||◌, ◌&&◌, nat_le, Bool, true, false, if◌then◌else◌, List, [], ◌∷◌, ◌++◌, flat_map, codes, Option, Some, None, Result, Ok, Err}
+use Rattle.std.specs.Prelude.{ℕ, ℤ, unsigned_abs, ◌+◌, ◌%◌, ◌^◌, ◌==◌, ◌||◌, ◌&&◌, nat_le, Bool, true, false, if◌then◌else◌, List, [], ◌∷◌, ◌++◌, flat_map, codes, Option, Some, None, Result, Ok, Err}
 use Rattle.std.specs.Fmt.{decimal}
 use Rattle.std.specs.Int.{is_negative}
 use Rattle.pdb.specs.Data.{Data}
@@ -16,10 +16,10 @@ use Rattle.pdb_records.specs.declared.lists.AddressRange.{AddressRange}
 use Rattle.pdb_records.specs.declared.machine.Machine.{Machine}
 use Rattle.pdb_records.specs.declared.machine.Machine.TheVariants as on
 use Rattle.pdb_records.specs.declared.pieces.Piece.{Piece}
-use Rattle.pdb_text.specs.Digits.{hex}
 use Rattle.pdb_tool.specs.Depth.{blanks}
 use Rattle.pdb_tool.specs.RecordValues.{frame_register_on}
 use Rattle.pdb_tool.specs.declared.scope_frames.Bases.{Bases}
+use Rattle.pdb_tool.specs.Values.{place_text}
 use Rattle.pdb_tool.specs.ValueTexts.{register_on}
 
 -- ---- a place in memory
@@ -91,10 +91,12 @@ extent_of (DefRangeFramePointerRelativeFullScope offset) = Everywhere
 extent_of (DefRangeRegisterRelative register subfield offset range gaps) = Within range gaps
 extent_of says = Nowhere
 
--- the line of a piece of a range that starts at this place
+-- where a piece of a range stands that starts at this place; offsets have 32 bits
+abbrev pub place_of : PdbInternalSectionOffset → Piece → PdbInternalSectionOffset
+place_of start piece = record { offset = (start.offset + piece.start) % 2 ^ 32; section = start.section }
+
 abbrev pub piece_line : ℕ → List ℕ → PdbInternalSectionOffset → Piece → List ℕ
-piece_line depth word start piece =
-    blanks depth ++ word ++ codes " " ++ hex 4 start.section ++ codes ":" ++ hex 8 (start.offset + piece.start) ++ codes " " ++ decimal piece.len ++ codes "\n"
+piece_line depth word start piece = blanks depth ++ word ++ codes " " ++ place_text (place_of start piece) ++ codes " " ++ decimal piece.len ++ codes "\n"
 
 -- the lines of a range's pieces; one line alone where it holds everywhere in the scope
 abbrev pub extent_lines : ℕ → List ℕ → Extent → List ℕ

@@ -1,5 +1,5 @@
 -- The command and the options that arguments name.
-use Rattle.std.specs.Prelude.{◌≡◌, ℕ, List, [], ◌∷◌, codes, Bool, true, false, ◌||◌, Option, Some, None, Result, Ok, Err, if◌then◌else◌}
+use Rattle.std.specs.Prelude.{◌≡◌, ℕ, List, [], ◌∷◌, codes, take, drop, Bool, true, false, ◌||◌, Option, Some, None, Result, Ok, Err, if◌then◌else◌}
 use Rattle.std.specs.Str.{bytes_eq}
 use Rattle.pdb_tool.specs.Options.{is_dashes, options_of, nothing_given}
 use Rattle.pdb_tool.specs.declared.options.Options.{Options}
@@ -90,3 +90,7 @@ abbrev pub Tells : {X Y : Type 0} → (X → Y) → Result X WordsError → Resu
 Tells view (Ok x) told = told ≡ Ok (view x)
 Tells view (Err (BadWord p)) told = told ≡ Err p
 Tells view (Err OutOfMemory) told = Unit {0}
+
+-- the file that an argument names: behind the option of an image, or the argument itself
+abbrev pub file_in_word : List ℕ → List ℕ
+file_in_word word = if bytes_eq (take 8 word) (codes "--image=") then drop 8 word else word

@@ -11,8 +11,9 @@ ghost use Rattle.pdb.specs.SymbolList.{symbols_from};
 ghost use Rattle.pdb.specs.Text.{name_bytes};
 ghost use Rattle.pdb.specs.Views.{symbol_of, symbols_left};
 ghost use Rattle.pdb_resolve.specs.CallViews.{names_of_calls};
+ghost use Rattle.pdb_symbols.specs.Kinds.{is_in};
 ghost use Rattle.pdb_names.specs.Spelling.{spelled, text_of};
-ghost use Rattle.pdb_tool.specs.FindTexts.{find_text, found_line, global_line, global_lines, has_bytes, inlined_at, more_than_none, parent_said, public_line, public_name, site_records, symbol_line, symbols_left_text};
+ghost use Rattle.pdb_tool.specs.FindTexts.{find_text, found_line, global_kinds, global_line, global_lines, has_bytes, inlined_at, more_than_none, parent_said, public_line, public_name, site_records, symbol_line, symbols_left_text};
 ghost use Rattle.pdb_tool.specs.Finders.{parent_view};
 
 use crate::error_line::{put_error_line, put_refusal_line};
@@ -90,7 +91,32 @@ fn put_global_says(
     }
 }
 
+/// Whether records of a kind may be global symbols that have a line. A program has as many constants, types and
+/// references beside them, whose records needn't be read.
+fn may_have_line(kind: u16) -> bool
+    ensures { result ≡ is_in global_kinds kind }
+{
+    matches!(
+        kind,
+        0x110e
+            | 0x110d
+            | 0x110c
+            | 0x1113
+            | 0x1112
+            | 0x111d
+            | 0x111c
+            | 0x1009
+            | 0x1007
+            | 0x1008
+            | 0x1020
+            | 0x1021
+            | 0x100e
+            | 0x100f
+    )
+}
+
 /// The line of a global symbol, where it has one; out of memory is passed on.
+#[tactic(auto, using(crate::proofs::GlobalKinds::other_kind))]
 fn put_global(
     alloc: Global,
     out: &mut Vec<u8>,
@@ -101,6 +127,9 @@ fn put_global(
 ) -> Result<(), AllocError>
     ensures { OnOk result (out.new.items ≡ out.old.items ++ global_line x86 finder.now (record_at (symbol_of symbol.now).bytes)) }
 {
+    if !may_have_line(symbol.raw_kind()) {
+        return Ok(());
+    }
     match symbol.parse(alloc) {
         Ok(parsed) => put_global_says(out, finder, x86, &parsed, spells),
         Err(Error::OutOfMemory) => Err(AllocError),

@@ -1,7 +1,8 @@
 //! What is told on standard error.
 
-ghost use Rattle.std.specs.Prelude.{◌≡◌};
+ghost use Rattle.std.specs.Prelude.{◌≡◌, [], map, slice_index_or, string_bytes};
 ghost use Rattle.pdb_tool.specs.Stops.{status_of, status_of_stop};
+ghost use Rattle.pdb_tool.specs.Words.{file_in_word};
 
 use crate::file_kind::{FileKind, put_kind};
 use crate::mistakes::write_mistake;
@@ -138,8 +139,13 @@ pub fn write_damage<W: Write>(name: &str, err: &mut W) -> Result<(), WriteFailed
 }
 
 /// The file that an argument names: an image behind its option, or else the argument itself.
-pub fn file_in_word(word: &str) -> &str {
-    word.strip_prefix("--image=").unwrap_or(word)
+pub fn file_in_word(word: &str) -> &str
+    ensures { result.now ≡ file_in_word word.now }
+{
+    match word.strip_prefix("--image=") {
+        Some(file) => file,
+        None => word,
+    }
 }
 
 /// Writes that a file has this key, and another is wanted.
@@ -183,7 +189,9 @@ fn write_fault<W: Write>(
 }
 
 /// The argument of an index; nothing where there is none.
-pub fn word_at(words: &[String], place: usize) -> &str {
+pub fn word_at(words: &[String], place: usize) -> &str
+    ensures { result.now ≡ slice_index_or (map string_bytes words.now) place [] }
+{
     match words.get(place) {
         Some(word) => word.as_str(),
         None => "",

@@ -87,6 +87,7 @@ fn bases_ahead(symbols: &mut SymbolIter<'_>) -> Bases
 }
 
 /// The same, of an iterator that stands at an offset, and stands there again afterwards.
+#[tactic(auto, using(crate::proofs::OpenScopes::back_again))]
 fn first_bases(symbols: &mut SymbolIter<'_>, at: SymbolIndex) -> Bases
     requires place { symbols_place symbols.old ≡ at.0 }
     requires inside { at.0 ≤ length (symbols_bytes symbols.old) }
@@ -109,27 +110,28 @@ fn has_frame(kind: u16) -> bool
 }
 
 /// The registers of the innermost scope that is open; they stand behind those of the scopes around it.
-pub fn innermost(open: &[Bases]) -> Bases
-    ensures { result ≡ innermost (reverse open.now) }
+#[tactic(auto, using(crate::proofs::OpenScopes::last_is))]
+pub fn innermost(around: &[Bases]) -> Bases
+    ensures { result ≡ innermost (reverse around.now) }
 {
-    match open.last() {
+    match around.last() {
         Some(bases) => *bases,
         None => no_bases(),
     }
 }
 
 /// The registers of a scope that a symbol starts, whose symbols an iterator has left.
-pub fn bases_within(symbols: &mut SymbolIter<'_>, open: &[Bases], symbol: &Symbol<'_>) -> Bases
+pub fn bases_within(symbols: &mut SymbolIter<'_>, around: &[Bases], symbol: &Symbol<'_>) -> Bases
     requires place { symbols_place symbols.old ≡ (symbol_of symbol.now).index + 2 + length (symbol_of symbol.now).bytes }
     requires inside { symbols_place symbols.old ≤ length (symbols_bytes symbols.old) }
     requires small { length (symbols_bytes symbols.old) < 2 ^ 32 }
-    ensures is { result ≡ bases_within (reverse open.now) (kind_at (symbol_of symbol.now).bytes) (symbols_left symbols.old).items }
+    ensures is { result ≡ bases_within (reverse around.now) (kind_at (symbol_of symbol.now).bytes) (symbols_left symbols.old).items }
     ensures left { symbols_left symbols.new ≡ symbols_left symbols.old }
 {
     if !has_frame(symbol.raw_kind()) {
-        return innermost(open);
+        return innermost(around);
     }
-    if open.len() >= DEPTH {
+    if around.len() >= DEPTH {
         return no_bases();
     }
     let behind = symbol.index().0 + 2 + symbol.raw_bytes().len() as u32;

@@ -243,11 +243,11 @@ fn put_further_says(
     out: &mut Vec<u8>,
     machine: Option<Machine>,
     depth: usize,
-    record: &Record<'_>,
+    parsed: &Record<'_>,
 ) -> Result<(), AllocError>
-    ensures { OnOk result (out.new.items ≡ out.old.items ++ further_line machine depth (Ok (shown_record record.now))) }
+    ensures { OnOk result (out.new.items ≡ out.old.items ++ further_line machine depth (Ok (shown_record parsed.now))) }
 {
-    match record {
+    match parsed {
         Record::BasePointerRelative(s) => {
             put_relative_to_base(out, machine, depth, s.offset, s.name)
         }
@@ -273,10 +273,10 @@ fn parameter_in(parsed: &SymbolData<'_>) -> Option<bool>
 }
 
 /// The same of a further record.
-fn further_parameter_in(record: &Record<'_>) -> Option<bool>
-    ensures { result ≡ further_parameter_in (Ok (shown_record record.now)) }
+fn further_parameter_in(parsed: &Record<'_>) -> Option<bool>
+    ensures { result ≡ further_parameter_in (Ok (shown_record parsed.now)) }
 {
-    match record {
+    match parsed {
         Record::FileStatic(s) => Some(s.flags.param),
         _ => None,
     }
@@ -293,9 +293,9 @@ fn put_further(
     ensures variable { IfOk result (λ v. v ≡ further_parameter_in (further_at (symbol_of symbol.now).bytes)) }
 {
     match Record::parse(symbol) {
-        Ok(record) => {
-            put_further_says(out, machine, depth, &record)?;
-            Ok(further_parameter_in(&record))
+        Ok(parsed) => {
+            put_further_says(out, machine, depth, &parsed)?;
+            Ok(further_parameter_in(&parsed))
         }
         Err(_) => Ok(None),
     }
@@ -311,7 +311,7 @@ fn put_unread(
     e: Error,
 ) -> Result<Option<bool>, AllocError>
     ensures line { OnOk result ((e ≢ OutOfMemory) × (out.new.items ≡ out.old.items ++ unread_line machine depth (symbol_of symbol.now).bytes e)) }
-    ensures variable { IfOk result (λ v. v ≡ unread_parameter (symbol_of symbol.now).bytes e) }
+    ensures variable { IfOk result (λ v. (e ≢ OutOfMemory) × (v ≡ unread_parameter (symbol_of symbol.now).bytes e)) }
 {
     if lacks_layout(e) {
         return put_further(out, machine, depth, symbol);
@@ -350,47 +350,49 @@ fn put_symbol(
     names: &CallNames<'_, '_>,
     machine: Option<Machine>,
     ranges: &mut RangeLines,
-    open: &[Bases],
+    around: &[Bases],
     variable: Option<bool>,
     symbol: &Symbol<'_>,
 ) -> Result<Option<bool>, AllocError>
-    ensures lines { OnOk result (out.new.items ≡ out.old.items ++ symbol_lines (names_of_calls names.now) machine (reverse open.now) variable (symbol_of symbol.now).bytes) }
+    ensures lines { OnOk result (out.new.items ≡ out.old.items ++ symbol_lines (names_of_calls names.now) machine (reverse around.now) variable (symbol_of symbol.now).bytes) }
     ensures variable { IfOk result (λ v. v ≡ variable_behind variable (symbol_of symbol.now).bytes) }
 {
     if !is_of_ranges(symbol.raw_kind()) {
-        return put_line(alloc, out, names, machine, open.len(), symbol);
+        return put_line(alloc, out, names, machine, around.len(), symbol);
     }
-    let depth = open.len().saturating_add(1);
-    ranges.put_behind(out, machine, innermost(open), depth, variable, symbol)?;
+    let depth = around.len().saturating_add(1);
+    ranges.put_behind(out, machine, innermost(around), depth, variable, symbol)?;
     Ok(variable)
 }
 
 /// Leaves the innermost scope where a symbol ends it.
-fn leave(open: &mut Vec<Bases>, symbol: &Symbol<'_>)
-    ensures is { reverse open.new.items ≡ open_at (reverse open.old.items) (kind_at (symbol_of symbol.now).bytes) }
-    ensures bound { length open.new.items ≤ length open.old.items }
+#[tactic(auto, using(crate::proofs::OpenScopes::one_fewer))]
+fn leave(around: &mut Vec<Bases>, symbol: &Symbol<'_>)
+    ensures is { reverse around.new.items ≡ open_at (reverse around.old.items) (kind_at (symbol_of symbol.now).bytes) }
+    ensures bound { length around.new.items ≤ length around.old.items }
 {
     if symbol.ends_scope() {
-        let _ = open.pop();
+        let _ = around.pop();
     }
 }
 
 /// Opens a scope where a symbol, which an iterator has just given, starts one.
+#[tactic(auto, using(crate::proofs::OpenScopes::one_more))]
 fn enter(
-    open: &mut Vec<Bases>,
+    around: &mut Vec<Bases>,
     symbols: &mut SymbolIter<'_>,
     symbol: &Symbol<'_>,
 ) -> Result<(), AllocError>
     requires place { symbols_place symbols.old ≡ (symbol_of symbol.now).index + 2 + length (symbol_of symbol.now).bytes }
     requires inside { symbols_place symbols.old ≤ length (symbols_bytes symbols.old) }
     requires small { length (symbols_bytes symbols.old) < 2 ^ 32 }
-    ensures is { OnOk result (reverse open.new.items ≡ entered (reverse open.old.items) (kind_at (symbol_of symbol.now).bytes) (symbols_left symbols.old).items) }
-    ensures bound { length open.new.items ≤ length open.old.items + 1 }
+    ensures is { OnOk result (reverse around.new.items ≡ entered (reverse around.old.items) (kind_at (symbol_of symbol.now).bytes) (symbols_left symbols.old).items) }
+    ensures bound { length around.new.items ≤ length around.old.items + 1 }
     ensures left { symbols_left symbols.new ≡ symbols_left symbols.old }
 {
     if symbol.starts_scope() {
-        let bases = bases_within(symbols, open.as_slice(), symbol);
-        open.push(bases)?;
+        let bases = bases_within(symbols, around.as_slice(), symbol);
+        around.push(bases)?;
     }
     Ok(())
 }
@@ -406,24 +408,24 @@ fn put_symbols(
 ) -> Result<(), AllocError>
     ensures { OnOk result (out.new.items ≡ out.old.items ++ scopes_left (names_of_calls names.now) machine [] None (symbols_left symbols.entry)) }
 {
-    let mut open = Vec::new(alloc);
+    let mut around = Vec::new(alloc);
     let mut ranges = RangeLines::new(alloc);
     let mut variable = None;
     loop {
         match symbols.next() {
             Ok(Some(symbol)) => {
-                leave(&mut open, &symbol);
+                leave(&mut around, &symbol);
                 variable = put_symbol(
                     alloc,
                     out,
                     names,
                     machine,
                     &mut ranges,
-                    open.as_slice(),
+                    around.as_slice(),
                     variable,
                     &symbol,
                 )?;
-                enter(&mut open, &mut symbols, &symbol)?;
+                enter(&mut around, &mut symbols, &symbol)?;
             }
             Ok(None) => return Ok(()),
             Err(e) => return put_error_line(out, e),

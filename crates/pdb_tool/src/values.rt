@@ -5,16 +5,27 @@ ghost use Rattle.pdb_text.specs.Digits.{hex, short_hex};
 ghost use Rattle.pdb_tool.specs.Values.{address_text, behind_blank, optional_text, place_text};
 
 use pdb::PdbInternalSectionOffset;
-use pdb_text::{put_decimal, put_hex4, put_hex8, put_one_line, put_short_hex};
+use pdb_text::{hex4, hex8, put_decimal, put_one_line, put_short_hex};
 use std::alloc::AllocError;
 
 /// A section, `:` and an offset in it, in hex digits.
+#[inline(always)]
+#[tactic(auto, unfolding(pdb_text::specs::Digits::hex))]
+fn place_digits(place: PdbInternalSectionOffset) -> [u8; 13]
+    ensures { result ≡ place_text place }
+{
+    let s = hex4(place.section);
+    let o = hex8(place.offset);
+    [
+        s[0], s[1], s[2], s[3], b':', o[0], o[1], o[2], o[3], o[4], o[5], o[6], o[7],
+    ]
+}
+
+/// Appends a section, `:` and an offset in it, in hex digits.
 pub fn put_place(out: &mut Vec<u8>, place: PdbInternalSectionOffset) -> Result<(), AllocError>
     ensures { OnOk result (out.new.items ≡ out.old.items ++ place_text place) }
 {
-    put_hex4(out, place.section)?;
-    out.push(b':')?;
-    put_hex8(out, place.offset)
+    out.extend_from_slice(&place_digits(place))
 }
 
 /// A number, or `-` where there is none.

@@ -6,14 +6,15 @@ ghost use Rattle.pdb_tool.specs.RecordValues.{frame_register_on};
 ghost use Rattle.pdb_tool.specs.ValueTexts.{register_on};
 ghost use Rattle.pdb.specs.Views.{symbol_of};
 ghost use Rattle.pdb_tool.specs.VariableViews.{shown_extent};
-ghost use Rattle.pdb_tool.specs.VariablePlaces.{base_of, base_pointer, behind_lines, extent_lines, extent_of, frame_text, in_frame, is_of_ranges, memory_text, offset_text, part_if, part_text, piece_line, program_text, range_lines, where_text};
+ghost use Rattle.pdb_tool.specs.VariablePlaces.{base_of, base_pointer, behind_lines, extent_lines, extent_of, frame_text, in_frame, is_of_ranges, memory_text, offset_text, part_if, part_text, piece_line, place_of, program_text, range_lines, where_text};
 
 use crate::depth::put_blanks;
 use crate::register_names::{frame_register, put_register_name};
 use crate::scope_frames::Bases;
+use crate::values::put_place;
 use pdb::{PdbInternalSectionOffset, Register, Symbol};
 use pdb_records::{AddressRange, Gaps, Machine, Piece, Pieces, Record};
-use pdb_text::{put_decimal, put_field, put_hex4, put_hex8, put_line_end};
+use pdb_text::{put_decimal, put_field, put_line_end};
 use std::alloc::{AllocError, Global};
 
 /// An offset behind a register's name: with its sign, and nothing for 0.
@@ -169,11 +170,11 @@ fn put_where(
     out: &mut Vec<u8>,
     machine: Option<Machine>,
     base: u8,
-    record: &Record<'_>,
+    parsed: &Record<'_>,
 ) -> Result<(), AllocError>
-    ensures { OnOk result (out.new.items ≡ out.old.items ++ where_text machine base (shown_record record.now)) }
+    ensures { OnOk result (out.new.items ≡ out.old.items ++ where_text machine base (shown_record parsed.now)) }
 {
-    match record {
+    match parsed {
         Record::DefRange(s) => put_program(out, s.program),
         Record::DefRangeSubfield(s) => put_part_by_program(out, s.offset_in_parent, s.program),
         Record::DefRangeRegister(s) => put_register_name(out, machine, s.register),
@@ -200,10 +201,10 @@ enum Extent<'t> {
 }
 
 /// In which code a record of a range holds.
-fn extent_of<'t>(record: &Record<'t>) -> Extent<'t>
-    ensures { shown_extent result ≡ extent_of (shown_record record.now) }
+fn extent_of<'t>(parsed: &Record<'t>) -> Extent<'t>
+    ensures { shown_extent result ≡ extent_of (shown_record parsed.now) }
 {
-    match record {
+    match parsed {
         Record::DefRange(s) => Extent::Within(s.range, s.gaps),
         Record::DefRangeSubfield(s) => Extent::Within(s.range, s.gaps),
         Record::DefRangeRegister(s) => Extent::Within(s.range, s.gaps),
@@ -212,6 +213,16 @@ fn extent_of<'t>(record: &Record<'t>) -> Extent<'t>
         Record::DefRangeFramePointerRelativeFullScope(_) => Extent::Everywhere,
         Record::DefRangeRegisterRelative(s) => Extent::Within(s.range, s.gaps),
         _ => Extent::Nowhere,
+    }
+}
+
+/// Where a piece of a range stands that starts at this place.
+fn place_of(start: PdbInternalSectionOffset, piece: Piece) -> PdbInternalSectionOffset
+    ensures { result ≡ place_of start piece }
+{
+    PdbInternalSectionOffset {
+        offset: start.offset.wrapping_add(u32::from(piece.start)),
+        section: start.section,
     }
 }
 
@@ -228,9 +239,7 @@ fn put_piece(
     put_blanks(out, depth)?;
     out.extend_from_slice(word)?;
     out.push(b' ')?;
-    put_hex4(out, start.section)?;
-    out.push(b':')?;
-    put_hex8(out, start.offset.wrapping_add(u32::from(piece.start)))?;
+    put_place(out, place_of(start, piece))?;
     put_field(out, u64::from(piece.len))?;
     put_line_end(out)
 }
@@ -304,13 +313,13 @@ impl RangeLines {
         machine: Option<Machine>,
         base: u8,
         depth: usize,
-        record: &Record<'_>,
+        parsed: &Record<'_>,
     ) -> Result<(), AllocError>
-        ensures { OnOk result (out.new.items ≡ out.old.items ++ range_lines machine base depth (shown_record record.now)) }
+        ensures { OnOk result (out.new.items ≡ out.old.items ++ range_lines machine base depth (shown_record parsed.now)) }
     {
         self.word.clear();
-        put_where(&mut self.word, machine, base, record)?;
-        self.put_extent(out, depth, extent_of(record))
+        put_where(&mut self.word, machine, base, parsed)?;
+        self.put_extent(out, depth, extent_of(parsed))
     }
 
     /// The lines of a symbol that is a record of a range, behind a variable; nothing where it can't be read.
@@ -329,7 +338,7 @@ impl RangeLines {
             return Ok(());
         };
         match Record::parse(symbol) {
-            Ok(record) => self.put(out, machine, base_of(bases, parameter), depth, &record),
+            Ok(parsed) => self.put(out, machine, base_of(bases, parameter), depth, &parsed),
             Err(_) => Ok(()),
         }
     }
@@ -339,7 +348,11 @@ impl RangeLines {
 fn base_of(bases: Bases, parameter: bool) -> u8
     ensures { result ≡ base_of bases parameter }
 {
-    if parameter { bases.parameter } else { bases.local }
+    if parameter {
+        bases.parameter
+    } else {
+        bases.local
+    }
 }
 
 /// Whether a kind is one of records of ranges.

@@ -104,12 +104,18 @@ fn refused_lines(rt: HostRuntime) -> Result<(), Fail> {
 
 #[test]
 fn scopes_as_a_tree(rt: HostRuntime) -> Result<(), Fail> {
-    let records: [&[u8]; 23] = [
+    let records: [&[u8]; 29] = [
         PROCEDURE,
+        b"\x12\x10\x68\0\0\0\0\0\0\0\0\0\0\0\x10\0\0\0\0\0\0\0\0\0\0\x80\x01\0",
+        b"\x3e\x11\x07\x10\x00\x00\x01\x00p\x00",
+        b"\x42\x11\xf4\xff\xff\xff\x50\x00\x00\x00\x01\x00\x21\x00\x08\x00\x04\x00",
+        b"\x45\x11\x4f\x01\x41\x00\x28\x00\x00\x00\x50\x00\x00\x00\x01\x00\x05\x00",
         b"\x03\x11\x20\x00\x00\x00p\x00\x00\x00\x12\x00\x00\x00p\x00\x00\x00\x01\x00\x00",
         b"\x4d\x11\x00\x00\x00\x00\x60\x00\x00\x00\x01\x10\x00\x00",
         b"\x3e\x11\x07\x10\x00\x00\x00\x00x\x00",
+        b"\x44\x11\x10\x00\x00\x00",
         b"\x4e\x11",
+        b"\x41\x11\x11\x00\x00\x00\x50\x00\x00\x00\x01\x00\x21\x00",
         b"\x06\x11t\x00\x00\x00\x11\x00r\x00",
         b"\x4d\x11\x00\x00\x00\x00\x60\x00\x00\x00\x05\x10\x00\x00",
         b"\x4e\x11",
@@ -141,14 +147,19 @@ fn scopes_as_a_tree(rt: HostRuntime) -> Result<(), Fail> {
     let global = GlobalIds::empty(rt.alloc());
     let names = CallNames::new(&ids, &types, &global);
     let mut out = Vec::new(rt.alloc());
-    put_scopes(rt.alloc(), &mut out, &names, None, &info)?;
+    put_scopes(rt.alloc(), &mut out, &names, Some(Machine::X64), &info)?;
     let wanted: &[u8] = b"procedure 0001:00000050 33 f\n\
+        \x20 local p\n\
+        \x20   [rsp-12] 0001:00000050 8\n\
+        \x20   [rsp-12] 0001:0000005c 21\n\
+        \x20   +4:[rsp+40] 0001:00000050 5\n\
         \x20 block 0001:00000070 18\n\
         \x20   inlined ns::ab\n\
         \x20     local x\n\
-        \x20   register r\n\
+        \x20       [rbp+16]\n\
+        \x20   register eax r\n\
         \x20   inlined ??\n\
-        \x20 relative y\n\
+        \x20 relative [rsp-8] y\n\
         separated 0003:000000b0 9\n\
         \x20 label 0001:00000060 k\n\
         thunk 0001:00000080 5 th\n\

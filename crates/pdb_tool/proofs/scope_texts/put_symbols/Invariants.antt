@@ -8,8 +8,8 @@ use Rattle.pdb_tool.proofs.scope_texts.put_symbols.Given as goal
 -- what was put, and the lines of what is left, are the lines of all; no more scopes are open than symbols came
 abbrev pub invariant-loop-symbol : goal.invariant-loop-symbol
 invariant-loop-symbol l = record {
-  told : l.out.items ++ scopes_left (names_of_calls l.names) l.machine (reverse l.open.items) l.variable (symbols_left l.symbols) ≡ l.fn.out.items ++ scopes_left (names_of_calls l.fn.names) l.machine [] None (symbols_left l.fn.symbols);
-  counted : length l.open.items + length (symbols_left l.symbols).items ≤ length (symbols_left l.fn.symbols).items;
+  told : l.out.items ++ scopes_left (names_of_calls l.names) l.machine (reverse l.around.items) l.variable (symbols_left l.symbols) ≡ l.fn.out.items ++ scopes_left (names_of_calls l.fn.names) l.machine [] None (symbols_left l.fn.symbols);
+  counted : length l.around.items + length (symbols_left l.symbols).items ≤ length (symbols_left l.fn.symbols).items;
   few : length (symbols_left l.symbols).items < length (symbols_left l.fn.symbols).items → length (symbols_left l.fn.symbols).items < 2 ^ 64;
 }
 
