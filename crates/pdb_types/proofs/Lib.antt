@@ -1,0 +1,4 @@
+pub mod LaidTypes
+pub mod TypeClauses
+pub mod Rests
+pub mod CutLemmas

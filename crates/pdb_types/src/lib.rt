@@ -1,0 +1,19 @@
+//! Names, sizes and contents of the types of Microsoft's program database (PDB) files.
+#![tactic(auto)]
+
+mod cuts;
+pub mod laws;
+mod pointer;
+mod readers;
+mod records;
+mod simple;
+mod tags;
+mod type_data;
+
+pub use pointer::{PointerAttributes, PointerMode, Qualifiers};
+pub use records::{
+    Alias, ArgumentList, Array, Bitfield, MemberFunction, Modifier, Pointer, Procedure,
+    VirtualTableShape,
+};
+pub use tags::{Class, Enumeration, Tag, Union};
+pub use type_data::TypeData;
