@@ -5,3 +5,5 @@ pub mod TypeReading
 pub mod Cuts
 pub mod SimpleTypes
 pub mod SimpleViews
+pub mod FullTypes
+pub mod DefinitionViews

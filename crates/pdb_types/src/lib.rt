@@ -2,14 +2,17 @@
 #![tactic(auto)]
 
 mod cuts;
+mod definitions;
 pub mod laws;
 mod pointer;
 mod readers;
 mod records;
 mod simple;
+mod sizes;
 mod tags;
 mod type_data;
 
+pub use definitions::TypeDefinitions;
 pub use pointer::{PointerAttributes, PointerMode, Qualifiers};
 pub use records::{
     Alias, ArgumentList, Array, Bitfield, MemberFunction, Modifier, Pointer, Procedure,
