@@ -5,3 +5,5 @@ pub mod CutLemmas
 pub mod FirstFound
 pub mod DefinitionLists
 pub mod SizeSteps
+pub mod Counts
+pub mod NameSteps

@@ -7,3 +7,5 @@ pub mod SimpleTypes
 pub mod SimpleViews
 pub mod FullTypes
 pub mod DefinitionViews
+pub mod TypeTexts
+pub mod NameViews

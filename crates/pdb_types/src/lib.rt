@@ -4,15 +4,19 @@
 mod cuts;
 mod definitions;
 pub mod laws;
+mod names;
+mod pieces;
 mod pointer;
 mod readers;
 mod records;
+mod shapes;
 mod simple;
 mod sizes;
 mod tags;
 mod type_data;
 
 pub use definitions::TypeDefinitions;
+pub use names::put_name;
 pub use pointer::{PointerAttributes, PointerMode, Qualifiers};
 pub use records::{
     Alias, ArgumentList, Array, Bitfield, MemberFunction, Modifier, Pointer, Procedure,

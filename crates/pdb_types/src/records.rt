@@ -95,6 +95,17 @@ impl<'t> ArgumentList<'t> {
         self.arguments.len() / 4
     }
 
+    // The type of the k-th argument, which is there.
+    pub(crate) fn at(&self, k: usize) -> TypeIndex
+        requires { k < length (arguments_of self.now) }
+        ensures { result ≡ slice_index_or (arguments_of self.now) k (type_index_of 0) }
+    {
+        match self.get(k) {
+            Some(argument) => argument,
+            None => TypeIndex(0),
+        }
+    }
+
     /// The type of the k-th argument, counted from 0; none where there are fewer. A last argument of index 0 stands for
     /// any further ones.
     pub fn get(&self, k: usize) -> Option<TypeIndex>

@@ -1,7 +1,10 @@
 //! Tests of what no clause says: values from outside, and that calls succeed with ample memory.
 
-mod forms;
+mod definitions;
+mod names;
 mod records;
+mod simple;
+mod support;
 
 use std::fmt::Debug;
 use std::process::Abort;
