@@ -1,5 +1,5 @@
 -- Sizes as numbers of 64 bits.
-use Rattle.std.proofs.Common.{◌≡◌, ℕ, ◌<◌, Bool, true, false, Option, Some, None, Result, Ok, Err, refl, sym, ap, rules, T}
+use Rattle.std.proofs.Common.{◌≡◌, ℕ, Bool, true, false, Option, Some, None, Result, Ok, Err, refl, rules, T}
 use Rattle.std.specs.Prelude.{ℤ, pos, negsuc, nat_lt, unsigned_abs, OkIff}
 use Rattle.std.specs.Int.{w64, FitsUnsigned}
 use Rattle.pdb_types.specs.TypeTexts.{small}

@@ -1,5 +1,5 @@
 -- The flags of modifiers, pointers and tags.
-use Rattle.std.specs.Prelude.{ℕ, ◌/◌, ◌%◌, ◌==◌, Bool, true, false, not, Option, Some, None, bit_and, if◌then◌else◌}
+use Rattle.std.specs.Prelude.{ℕ, ◌/◌, ◌%◌, ◌==◌, Bool, false, not, Option, Some, None, bit_and, if◌then◌else◌}
 use Rattle.pdb_types.specs.declared.pointer.Qualifiers.{Qualifiers}
 
 -- one of the bits is set

@@ -1,9 +1,8 @@
 -- What records of types say, without where their bytes lie in memory.
-use Rattle.std.specs.Prelude.{ℕ, ℤ, ◌==◌, Bool, List, Option, Some, None, Result, Ok, Err, map, if◌then◌else◌}
+use Rattle.std.specs.Prelude.{ℕ, ℤ, Bool, List, Option, Some, None, Result, Ok, Err, if◌then◌else◌}
 use Rattle.pdb_base.specs.declared.error.Error.{Error}
 use Rattle.pdb_base.specs.declared.index.TypeIndex.{TypeIndex}
 use Rattle.pdb_base.specs.Fields.{cstring_at}
-use Rattle.pdb_types.specs.declared.pointer.Qualifiers.{Qualifiers}
 use Rattle.pdb_types.specs.declared.records.Array.{Array as ArraySays}
 use Rattle.pdb_types.specs.declared.records.Bitfield.{Bitfield as BitfieldSays}
 use Rattle.pdb_types.specs.declared.records.Modifier.{Modifier as ModifierSays}

@@ -14,7 +14,7 @@ use Rattle.pdb_types.specs.declared.pointer.Qualifiers.{Qualifiers}
 use Rattle.pdb_types.specs.FullTypes.{says_of, size_of}
 use Rattle.pdb_types.specs.SimpleTypes.{simple_text, is_simple_pointer}
 use Rattle.pdb_types.specs.TypeFlags.{has, pointer_qualifiers}
-use Rattle.pdb_types.specs.TypeSays.{TypeSays, TagSays}
+use Rattle.pdb_types.specs.TypeSays.{TypeSays}
 use Rattle.pdb_types.specs.TypeSays.TypeSays.{Modifier, Pointer, Array, Bitfield, Procedure, MemberFunction, ArgumentList, Class, Union, Enumeration, VirtualTableShape, FieldList, Alias}
 
 -- ---- words

@@ -14,9 +14,9 @@ mod simple;
 mod sizes;
 mod tags;
 mod type_data;
+mod whole_name;
 
 pub use definitions::TypeDefinitions;
-pub use names::put_name;
 pub use pointer::{PointerAttributes, PointerMode, Qualifiers};
 pub use records::{
     Alias, ArgumentList, Array, Bitfield, MemberFunction, Modifier, Pointer, Procedure,
@@ -24,3 +24,4 @@ pub use records::{
 };
 pub use tags::{Class, Enumeration, Tag, Union};
 pub use type_data::TypeData;
+pub use whole_name::put_name;

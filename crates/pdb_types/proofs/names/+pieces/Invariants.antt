@@ -61,4 +61,4 @@ abbrev pub decreases-put_back_by : goal.decreases-put_back_by
 decreases-put_back_by l = 16 * l.depth + 8
 
 abbrev pub invariant-put_list-loop-k : goal.invariant-put_list-loop-k
-invariant-put_list-loop-k l = IsCut l.limit l.initial.out.items (flat_map (with_comma (λ j. name_in (parts l.types (first_definition l.definitions) l.depth j))) (take l.k (arguments_of l.arguments))) l.out.items
+invariant-put_list-loop-k l = IsCut l.limit l.initial.out.items (flat_map (with_comma (λ j. name_in (parts l.types (first_definition l.full) l.depth j))) (take l.k (arguments_of l.arguments))) l.out.items

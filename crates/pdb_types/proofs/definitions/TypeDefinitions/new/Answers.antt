@@ -1,4 +1,4 @@
-use Rattle.std.proofs.Common.{◌≡◌, ℕ, List, ap, ◌∙◌}
+use Rattle.std.proofs.Common.{List, ap, ◌∙◌}
 use Rattle.std.proofs.Math.Path.{fun_ext}
 use Rattle.pdb_types.specs.FullTypes.{TypeDefinition, first_definition}
 use Rattle.pdb_types.proofs.definitions.TypeDefinitions.new.Goals as goal

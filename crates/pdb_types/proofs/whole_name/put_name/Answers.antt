@@ -1,9 +1,9 @@
-use Rattle.std.proofs.Common.{rules, ◌≡◌, ◌+◌, ◌++◌, ◌<◌, ◌≤◌, ℕ, List, length, ap, ◌∙◌, arith}
+use Rattle.std.proofs.Common.{◌≡◌, ◌++◌, ℕ, List, length, ap, ◌∙◌, arith}
 use Rattle.std.specs.Prelude.{codes}
 use Rattle.pdb_types.specs.FullTypes.{first_definition}
 use Rattle.pdb_types.specs.TypeTexts.{parts, name_in, shown_name}
 use Rattle.pdb_types.proofs.CutLemmas.{cut_long}
-use Rattle.pdb_types.proofs.names.put_name.Goals as goal
+use Rattle.pdb_types.proofs.whole_name.put_name.Goals as goal
 
 pub returns-in_ok-extend_from_slice : goal.returns-in_ok-extend_from_slice
 unfolding shown_name
