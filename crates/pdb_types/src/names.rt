@@ -129,22 +129,12 @@ fn put_front_by(
         Some(TypeData::Pointer(it)) => put_pointer_front(types, full, out, limit, it, depth),
         Some(TypeData::Array(it)) => put_front(types, full, out, limit, it.element.0, depth),
         Some(TypeData::Bitfield(it)) => put_front(types, full, out, limit, it.underlying.0, depth),
-        Some(TypeData::Procedure(it)) => put_front(
-            types,
-            full,
-            out,
-            limit,
-            it.return_type.0,
-            depth,
-        ),
-        Some(TypeData::MemberFunction(it)) => put_front(
-            types,
-            full,
-            out,
-            limit,
-            it.return_type.0,
-            depth,
-        ),
+        Some(TypeData::Procedure(it)) => {
+            put_front(types, full, out, limit, it.return_type.0, depth)
+        }
+        Some(TypeData::MemberFunction(it)) => {
+            put_front(types, full, out, limit, it.return_type.0, depth)
+        }
         Some(TypeData::ArgumentList(it)) => put_list(types, full, out, limit, &it, depth),
         Some(TypeData::Class(it)) => put_record_name(out, limit, it.tag.name.as_bytes()),
         Some(TypeData::Union(it)) => put_record_name(out, limit, it.tag.name.as_bytes()),

@@ -1,6 +1,6 @@
 //! The name of a type, as far as it goes.
 
-ghost use Rattle.std.specs.Prelude.{◌≡◌, ◌++◌, ◌<◌, ◌^◌, length, OnOk};
+ghost use Rattle.std.specs.Prelude.{◌≡◌, ◌++◌, OnOk};
 ghost use Rattle.pdb_types.specs.FullTypes.{first_definition};
 ghost use Rattle.pdb_types.specs.TypeTexts.{shown_name};
 
@@ -26,7 +26,6 @@ pub fn put_name(
     out: &mut Vec<u8>,
     index: TypeIndex,
 ) -> Result<(), AllocError>
-    requires { length out.old.items < 2 ^ 62 }
     ensures { OnOk result (out.new.items ≡ out.old.items ++ shown_name types.now (first_definition definitions.now) index.0) }
 {
     let start = out.len();
