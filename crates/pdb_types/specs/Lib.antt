@@ -1,0 +1,11 @@
+pub mod TypeFlags
+pub mod TypeSays
+pub mod TypeRows
+pub mod TypeReading
+pub mod Cuts
+pub mod SimpleTypes
+pub mod SimpleViews
+pub mod FullTypes
+pub mod DefinitionViews
+pub mod TypeTexts
+pub mod NameViews

@@ -1,0 +1,33 @@
+//! Texts that are cut off at a limit.
+
+ghost use Rattle.std.specs.Prelude.{◌≡◌, ◌≤◌, length, OnOk};
+ghost use Rattle.std.specs.Fmt.{decimal};
+ghost use Rattle.pdb_types.specs.Cuts.{IsCut};
+
+use pdb_text::put_decimal;
+use std::alloc::AllocError;
+
+// As much of a text as there is room for, behind what is there.
+#[tactic(auto, using(crate::proofs::CutLemmas::put_all, crate::proofs::CutLemmas::put_some))]
+pub(crate) fn put(out: &mut Vec<u8>, limit: usize, text: &[u8]) -> Result<(), AllocError>
+    requires { length out.old.items ≤ limit }
+    ensures { OnOk result (IsCut limit out.old.items text.now out.new.items) }
+{
+    let room = limit - out.len();
+    if text.len() <= room {
+        out.extend_from_slice(text)
+    } else {
+        out.extend_from_slice(&text[..room])
+    }
+}
+
+// As many decimal digits of a number as there is room for.
+#[tactic(auto, using(crate::proofs::CutLemmas::truncated))]
+pub(crate) fn put_number(out: &mut Vec<u8>, limit: usize, number: u64) -> Result<(), AllocError>
+    requires { length out.old.items ≤ limit }
+    ensures { OnOk result (IsCut limit out.old.items (decimal number) out.new.items) }
+{
+    put_decimal(out, number)?;
+    out.truncate(limit);
+    Ok(())
+}
