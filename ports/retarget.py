@@ -92,7 +92,7 @@ def want(fine, what):
         raise Unexpected(what)
 
 
-def said(words, **how):
+def output_of(words, **how):
     """The output of clang."""
     done = subprocess.run(words, stdout=subprocess.PIPE, stderr=subprocess.PIPE, text=True, check=False, **how)
     want(done.returncode == 0, f"clang: {done.stderr.strip()}")
@@ -121,7 +121,7 @@ def flags_of(call, target):
 
 def layout_of(clang, triple):
     """The data layout that clang gives modules for a target."""
-    text = said([clang, f"--target={triple}", "-x", "c", os.devnull, "-S", "-emit-llvm", "-o", "-"])
+    text = output_of([clang, f"--target={triple}", "-x", "c", os.devnull, "-S", "-emit-llvm", "-o", "-"])
     return re.search(r'(?m)^target datalayout = "(.*)"$', text)[1]
 
 
@@ -133,8 +133,8 @@ def sizes_in(layout):
 def read(clang, module):
     """The text of a module, which is one for x86-64 Linux."""
     # clang gives a module that it compiles its own layout without a word. It speaks up where it links it to another module.
-    said([clang, f"--target={LINUX}", "-Werror", "-x", "c", os.devnull, "-S", "-emit-llvm", "-o", os.devnull, "-Xclang", "-mlink-bitcode-file", "-Xclang", module])
-    return said([clang, f"--target={LINUX}", "-Werror", "-x", "ir", module, "-S", "-emit-llvm", "-O0", "-Xclang", "-disable-llvm-passes", "-o", "-"])
+    output_of([clang, f"--target={LINUX}", "-Werror", "-x", "c", os.devnull, "-S", "-emit-llvm", "-o", os.devnull, "-Xclang", "-mlink-bitcode-file", "-Xclang", module])
+    return output_of([clang, f"--target={LINUX}", "-Werror", "-x", "ir", module, "-S", "-emit-llvm", "-O0", "-Xclang", "-disable-llvm-passes", "-o", "-"])
 
 
 def once(old, new, text):
@@ -165,12 +165,12 @@ def called_in(text):
     return set(found)
 
 
-def defined_in(text):
-    """The functions that a module gives: C's, with arguments that neither side extends."""
+def exported_by(text):
+    """The functions that a module exports: C's, with arguments that neither side extends."""
     lines = re.findall(r"(?m)^define (?!internal |private )(.*)$", text)
     form = re.compile(r"(?:(?:noundef )?i32|void) @(pdb_\w+|main)\((?:(?:ptr|i64|i32|i16)(?: noundef)? %\w+(?:, )?)*\) #\d+ \{$")
     for line in lines:
-        want(form.match(line), f"the module gives {line}")
+        want(form.match(line), f"the module exports {line}")
     return {form.match(line)[1] for line in lines}
 
 
@@ -231,20 +231,20 @@ def name_of(name):
 
 
 def retarget(clang, module, target):
-    """The text of a module for the target, the functions that it gives, and those that it calls."""
+    """The text of a module for the target, the functions that it exports, and those that it calls."""
     text = read(clang, module)
     check_forms(text)
-    called, given = called_in(text), defined_in(text)
+    called, exported = called_in(text), exported_by(text)
     text = with_layout(text, clang, target)
     text = with_attributes(text, target)
     text = with_pairs(text)
-    return with_names(text, called), given, called
+    return with_names(text, called), exported, called
 
 
 def compile_module(clang, module, target, out):
-    """Compiles the module MODULE.bc for the target, by the flags of MODULE.call: the functions that it gives and calls."""
+    """Compiles the module MODULE.bc for the target, by the flags of MODULE.call: the functions that it exports and calls."""
     with open(f"{module}.call", encoding="utf-8") as it:
         flags = flags_of(it.read().splitlines(), target)
-    text, given, called = retarget(clang, f"{module}.bc", target)
-    said([clang, *flags, "-c", "-x", "ir", "-", "-o", out], input=text)
-    return given, {name if name in MEMORY else name_of(name) for name in called}
+    text, exported, called = retarget(clang, f"{module}.bc", target)
+    output_of([clang, *flags, "-c", "-x", "ir", "-", "-o", out], input=text)
+    return exported, {name if name in MEMORY else name_of(name) for name in called}

@@ -23,9 +23,9 @@ PLANTED = {
     "another layout": ('"e-m:e', '"e-m:w', "target datalayout"),
     "another triple": ("x86_64-unknown-linux-gnu", "x86_64-unknown-linux-musl", "target triple"),
     "other types of a function": ("declare noundef i64 @read(i32", "declare noundef i32 @read(i32", "read, i32 (i32, ptr, i64)"),
-    "an argument that is extended": ("@pdb_version(ptr noundef %a0, i16 noundef", "@pdb_version(ptr noundef %a0, i16 zeroext", "gives"),
-    "a function of another name": ("@pdb_version(", "@other(", "gives"),
-    "a result that is no number": ("define noundef i32 @pdb_version", "define noundef i64 @pdb_version", "gives"),
+    "an argument that is extended": ("@pdb_version(ptr noundef %a0, i16 noundef", "@pdb_version(ptr noundef %a0, i16 zeroext", "exports"),
+    "a function of another name": ("@pdb_version(", "@other(", "exports"),
+    "a result that is no number": ("define noundef i32 @pdb_version", "define noundef i64 @pdb_version", "exports"),
     "another size of pages": ('"stack-probe-size"="3072"', '"stack-probe-size"="8192"', "8192"),
     "another processor": ('"target-cpu"="x86-64-v2"', '"target-cpu"="x86-64-v3"', "x86-64-v3"),
     "a function without attributes": ("%a0) #0 {", "%a0) {", "without attributes"),
@@ -55,10 +55,10 @@ def of_module(note, clang, room):
     own, retarget.read = retarget.read, lambda _, module: module
     try:
         for target in (retarget.WINDOWS, retarget.WEB):
-            changed, given, called = retarget.retarget(clang, text, target)
+            changed, exported, called = retarget.retarget(clang, text, target)
             wanted = [f'triple = "{target.triple}"', "@linux_read(i32 0", "call void @rattle_alloc(ptr sret", target.added]
             note(f"{target.triple}: changes", all(it in changed for it in wanted) and "probe-stack" not in changed, changed)
-            note(f"{target.triple}: functions", (given, called) == ({"pdb_version"}, {*retarget.MEMORY, "read"}), (given, called))
+            note(f"{target.triple}: functions", (exported, called) == ({"pdb_version"}, {*retarget.MEMORY, "read"}), (exported, called))
             words = [clang, *retarget.flags_of(CALL, target), "-c", "-x", "ir", "-", "-o", f"{room}/module.o"]
             done = subprocess.run(words, input=changed, capture_output=True, text=True, check=False)
             note(f"{target.triple}: clang", done.returncode == 0 and not done.stderr, done.stderr)
