@@ -1,6 +1,6 @@
 PREFIX ?= /usr/local
 
-.PHONY: run prove c test install cross dist
+.PHONY: run prove c test install cross windows web dist
 
 # Shows what both programs print: the proved ones where they are built, otherwise the sources without proof.
 run:
@@ -28,6 +28,14 @@ install:
 # Proves and builds the library for aarch64 Linux into c/out/aarch64-linux-gnu.
 cross:
 	@package/cross
+
+# Builds the programs and the library for x86-64 Windows of what make prove and make c proved: ports/out/windows, and a zip.
+windows:
+	@ports/windows/build
+
+# Builds the library for the web of what make c proved: ports/out/web, and a zip.
+web:
+	@ports/web/build
 
 # Makes dist/: a tarball and a Debian package of the programs and the library; with make cross also the library for aarch64.
 dist: prove c

@@ -4,12 +4,19 @@
 #include <stdint.h>
 #include <stdio.h>
 #include <string.h>
+#ifdef _WIN32
+#include <fcntl.h>
+#include <io.h>
+#endif
 
 /* What is written, in large pieces. */
 static char out[1 << 16];
 static size_t filled;
 
 static inline void flush(void) {
+#ifdef _WIN32
+    _setmode(_fileno(stdout), _O_BINARY); /* otherwise each line feed is written as two bytes */
+#endif
     fwrite(out, 1, filled, stdout);
     filled = 0;
 }

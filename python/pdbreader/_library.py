@@ -115,8 +115,10 @@ class Image(c.Structure):
 def _load() -> c.CDLL:
     """The library that PDB_LIBRARY names; otherwise that of this clone or of this installation, or the system's."""
     here = os.path.dirname(os.path.abspath(__file__))
-    near = [os.path.join(here, *it, "libpdb.so.0") for it in (("..", "..", "c", "out"), ("..", "..", ".."))]
-    path = os.environ.get("PDB_LIBRARY") or next((it for it in near if os.path.exists(it)), "libpdb.so.0")
+    name = "pdb.dll" if os.name == "nt" else "libpdb.so.0"
+    folders = (("..", "..", "c", "out"), ("..", "..", ".."), ("..", ".."))
+    near = [os.path.abspath(os.path.join(here, *it, name)) for it in folders]
+    path = os.environ.get("PDB_LIBRARY") or next((it for it in near if os.path.exists(it)), name)
     try:
         return c.CDLL(path)
     except OSError as error:
