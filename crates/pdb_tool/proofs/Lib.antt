@@ -23,3 +23,4 @@ pub mod JsonValues
 pub mod ReadBack
 pub mod OpenScopes
 pub mod GlobalKinds
+pub mod ScopeLines

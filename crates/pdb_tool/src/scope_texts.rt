@@ -354,13 +354,14 @@ fn put_symbol(
     variable: Option<bool>,
     symbol: &Symbol<'_>,
 ) -> Result<Option<bool>, AllocError>
+    requires { length around.now + 1 < 2 ^ 64 }
     ensures lines { OnOk result (out.new.items ≡ out.old.items ++ symbol_lines (names_of_calls names.now) machine (reverse around.now) variable (symbol_of symbol.now).bytes) }
     ensures variable { IfOk result (λ v. v ≡ variable_behind variable (symbol_of symbol.now).bytes) }
 {
     if !is_of_ranges(symbol.raw_kind()) {
         return put_line(alloc, out, names, machine, around.len(), symbol);
     }
-    let depth = around.len().saturating_add(1);
+    let depth = around.len() + 1;
     ranges.put_behind(out, machine, innermost(around), depth, variable, symbol)?;
     Ok(variable)
 }
