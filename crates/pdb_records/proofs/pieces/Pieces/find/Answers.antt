@@ -1,4 +1,4 @@
-use Rattle.std.proofs.Common.{◌≡◌, ◌∙◌, ap}
+use Rattle.std.proofs.Common.{◌∙◌, ap}
 use Rattle.pdb_base.specs.Left.{Left}
 use Rattle.pdb_records.specs.declared.lists.AddressGap.{AddressGap}
 use Rattle.pdb_records.proofs.PieceRuns.{found_runs}
