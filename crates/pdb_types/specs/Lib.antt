@@ -3,6 +3,7 @@ pub mod TypeSays
 pub mod TypeRows
 pub mod TypeReading
 pub mod Cuts
+pub mod FunctionIds
 pub mod SimpleTypes
 pub mod SimpleViews
 pub mod FullTypes

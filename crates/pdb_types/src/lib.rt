@@ -3,6 +3,7 @@
 
 mod cuts;
 mod definitions;
+mod functions;
 pub mod laws;
 mod names;
 mod pieces;
@@ -17,6 +18,7 @@ mod type_data;
 mod whole_name;
 
 pub use definitions::TypeDefinitions;
+pub use functions::function_type;
 pub use pointer::{PointerAttributes, PointerMode, Qualifiers};
 pub use records::{
     Alias, ArgumentList, Array, Bitfield, MemberFunction, Modifier, Pointer, Procedure,
