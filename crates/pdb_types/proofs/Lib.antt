@@ -7,3 +7,6 @@ pub mod DefinitionLists
 pub mod SizeSteps
 pub mod Counts
 pub mod NameSteps
+pub mod MemberSteps
+pub mod OverloadLemmas
+pub mod ModifierSteps

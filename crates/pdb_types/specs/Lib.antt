@@ -4,6 +4,15 @@ pub mod TypeRows
 pub mod TypeReading
 pub mod Cuts
 pub mod FunctionIds
+pub mod MemberSays
+pub mod MemberRows
+pub mod MemberLists
+pub mod MemberViews
+pub mod MemberListViews
+pub mod Overloads
+pub mod OverloadViews
+pub mod Enumerators
+pub mod EnumeratorViews
 pub mod SimpleTypes
 pub mod SimpleViews
 pub mod FullTypes

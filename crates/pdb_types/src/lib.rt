@@ -3,9 +3,14 @@
 
 mod cuts;
 mod definitions;
+mod enumerators;
 mod functions;
 pub mod laws;
+mod member_lists;
+mod member_readers;
+mod members;
 mod names;
+mod overloads;
 mod pieces;
 mod pointer;
 mod readers;
@@ -18,7 +23,11 @@ mod type_data;
 mod whole_name;
 
 pub use definitions::TypeDefinitions;
+pub use enumerators::{EnumeratorValue, bit_position, enumerator_value};
 pub use functions::function_type;
+pub use member_lists::MemberIter;
+pub use members::{FieldAttributes, Member};
+pub use overloads::{MethodListEntry, OverloadIter};
 pub use pointer::{PointerAttributes, PointerMode, Qualifiers};
 pub use records::{
     Alias, ArgumentList, Array, Bitfield, MemberFunction, Modifier, Pointer, Procedure,

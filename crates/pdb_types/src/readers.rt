@@ -14,7 +14,7 @@ pub(crate) fn parse_type_index(buffer: &mut ParseBuffer<'_>) -> Result<TypeIndex
 }
 
 // The number of a numeric leaf. Behind `LF_CHAR` stands a number with a sign.
-fn value_of(number: Variant) -> i128
+pub(crate) fn value_of(number: Variant) -> i128
     ensures { result ≡ value_of number }
 {
     match number {

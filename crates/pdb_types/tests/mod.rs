@@ -2,10 +2,12 @@
 
 mod definitions;
 mod functions;
+mod members;
 mod names;
 mod records;
 mod simple;
 mod support;
+mod values;
 
 use std::fmt::Debug;
 use std::process::Abort;

@@ -1,0 +1,10 @@
+-- What iterators over overloads show.
+use Rattle.pdb_base.specs.Left.{Left}
+use Rattle.pdb_base.specs.Tiling.{listing}
+use Rattle.pdb_types.specs.declared.overloads.MethodListEntry.{MethodListEntry}
+use Rattle.pdb_types.specs.declared.overloads.OverloadIter.{OverloadIter}
+use Rattle.pdb_types.specs.Overloads.{overloads}
+
+-- the functions that an iterator has left, and perhaps a fault after them
+abbrev pub overloads_left : OverloadIter → Left MethodListEntry
+overloads_left it = listing overloads it.buffer.bytes it.buffer.place
