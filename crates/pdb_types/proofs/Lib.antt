@@ -8,5 +8,6 @@ pub mod SizeSteps
 pub mod Counts
 pub mod NameSteps
 pub mod MemberSteps
+pub mod MemberLaws
 pub mod OverloadLemmas
 pub mod ModifierSteps

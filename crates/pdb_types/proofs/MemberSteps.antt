@@ -46,7 +46,7 @@ piece_is : (p k : ℕ) (r : Result FoundEntry Error) → option_map (λ (x : Fou
 piece_is p k (Ok x) e = (x, refl, cc)
 piece_is p k (Err d) e = absurd cc
 
-entries_inside : IsInside entries
+pub entries_inside : IsInside entries
 entries_inside = record {
   inside = λ b p k e.
       let (x, there, ends) = piece_is p k (entry_at b p) e in

@@ -6,6 +6,7 @@ pub mod Cuts
 pub mod FunctionIds
 pub mod MemberSays
 pub mod MemberRows
+pub mod MemberPlaces
 pub mod MemberLists
 pub mod MemberViews
 pub mod MemberListViews
