@@ -11,3 +11,4 @@ pub mod MemberSteps
 pub mod MemberLaws
 pub mod OverloadLemmas
 pub mod ModifierSteps
+pub mod DeclarationSteps

@@ -14,6 +14,7 @@ pub mod Overloads
 pub mod OverloadViews
 pub mod Enumerators
 pub mod EnumeratorViews
+pub mod Declarations
 pub mod SimpleTypes
 pub mod SimpleViews
 pub mod FullTypes

@@ -2,6 +2,7 @@
 #![tactic(auto)]
 
 mod cuts;
+mod declarations;
 mod definitions;
 mod enumerators;
 mod functions;
@@ -22,6 +23,7 @@ mod tags;
 mod type_data;
 mod whole_name;
 
+pub use declarations::put_declaration;
 pub use definitions::TypeDefinitions;
 pub use enumerators::{EnumeratorValue, bit_position, enumerator_value};
 pub use functions::function_type;

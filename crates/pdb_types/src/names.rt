@@ -148,7 +148,7 @@ fn put_front_by(
 // What stands before a declared name.
 #[cycle(pieces)]
 #[tactic(auto, using(crate::proofs::NameSteps::parts_simple, crate::proofs::NameSteps::parts_end, crate::proofs::NameSteps::parts_step, crate::proofs::CutLemmas::cut_full))]
-fn put_front(
+pub(crate) fn put_front(
     types: &ItemFinder<'_>,
     full: &TypeDefinitions<'_>,
     out: &mut Vec<u8>,
@@ -303,7 +303,7 @@ fn put_back_by(
 // What stands behind a declared name.
 #[cycle(pieces)]
 #[tactic(auto, using(crate::proofs::NameSteps::parts_simple, crate::proofs::NameSteps::parts_end, crate::proofs::NameSteps::parts_step, crate::proofs::CutLemmas::cut_none, crate::proofs::CutLemmas::cut_full))]
-fn put_back(
+pub(crate) fn put_back(
     types: &ItemFinder<'_>,
     full: &TypeDefinitions<'_>,
     out: &mut Vec<u8>,

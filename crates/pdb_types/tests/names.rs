@@ -150,6 +150,65 @@ fn indices_without_an_item_have_no_name(rt: HostRuntime) -> Result<()> {
     named(&rt, alloc, &types, 0x0fff, b"??")
 }
 
+/// Indices of rows, and the declaration of `name` with each.
+const DECLARED: [(u32, &[u8]); 12] = [
+    (0x74, b"int name"),
+    (0x1001, b"const char name"),
+    (0x1002, b"const char*name"),
+    (0x1003, b"const char* const name"),
+    (0x1005, b"int name(int, const char*)"),
+    (0x1006, b"int (*name)(int, const char*)"),
+    (0x1007, b"int (* const name)(int, const char*)"),
+    (0x1009, b"int name[2][3]"),
+    (0x100a, b"int (&name)[3]"),
+    (0x1013, b"void (S::*name)(...) const volatile"),
+    (0x1016, b"unsigned name : 3"),
+    (0x1019, b"int (*name(int, const char*))(int, const char*)"),
+];
+
+#[test]
+fn declarations(rt: HostRuntime) -> Result<()> {
+    let alloc = rt.alloc();
+    let bytes = all_rows(alloc)?;
+    let types = types_of(&rt, alloc, &bytes)?;
+    for (index, wanted) in DECLARED {
+        // What the buffer ends in is no part of the type.
+        for before in [b"x*", b"x "] {
+            let mut out = Vec::new(alloc);
+            out.extend_from_slice(before)?;
+            put_declaration(&types.0, &types.1, &mut out, TypeIndex(index), b"name")?;
+            assert!(rt; out.starts_with(before));
+            let given = out.as_slice().split_at(2).1;
+            assert!(rt;
+                given == wanted,
+                "{index:x}: {:?}, and not {:?}",
+                given,
+                wanted
+            );
+        }
+    }
+    Ok(())
+}
+
+#[test]
+fn a_declaration_of_more_than_65536_bytes_is_cut_off(rt: HostRuntime) -> Result<()> {
+    let alloc = rt.alloc();
+    let bytes = all_rows(alloc)?;
+    let types = types_of(&rt, alloc, &bytes)?;
+    let mut name = Vec::new(alloc);
+    for _ in 0..65_532 {
+        name.push(b'x')?;
+    }
+    let mut out = Vec::new(alloc);
+    put_declaration(&types.0, &types.1, &mut out, TypeIndex(0x74), &name)?;
+    assert!(rt; out.len() == 65_536 && out.ends_with(b"xx"));
+    name.push(b'y')?;
+    let mut out = Vec::new(alloc);
+    put_declaration(&types.0, &types.1, &mut out, TypeIndex(0x74), &name)?;
+    assert!(rt; out.len() == 65_541 && out.ends_with(b"xx<...>"));
+    Ok(())
+}
+
 /// A structure of a size and a name, which is forward or not.
 fn structure(alloc: Global, forward: bool, size: u16, name: &[u8]) -> Result<Vec<u8>> {
     let mut record = Vec::new(alloc);
