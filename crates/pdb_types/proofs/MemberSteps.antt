@@ -122,10 +122,10 @@ module _ (types : List ItemEntry) (lists : ℕ) (b : List ℕ) (p : ℕ) where
   named : (i : ℕ) → length b ≤ p → 0 < lists → members_by (members_from types lists) (Some i) (listing entries b p) ≡ members_by (members_from types (lists - 1)) None (entries_of (list_bytes (item_with types i)))
   named i past some = at_end (members_from types lists) (Some i) b p past ∙ goes_on_with types i lists some
 
-  pub absent_left : (i : ℕ) → length b ≤ p → 0 < lists → list_bytes (item_with types i) ≡ None → Ends (members_by (members_from types lists) (Some i) (listing entries b p)) [] (Some UnexpectedEof) (members_by (members_from types lists) None (listing entries b p))
+  pub absent_left : (i : ℕ) → length b ≤ p → 0 < lists → list_bytes (item_with types i) ≡ None → Ends (members_by (members_from types lists) (Some i) (listing entries b p)) [] (Some UnexpectedEof) (members_by (members_from types (lists - 1)) None (listing entries b p))
   absent_left i past some is =
       let left = named i past some ∙ ap (λ o. members_by (members_from types (lists - 1)) None (entries_of o)) is in
-      (ap (λ (l : Left MemberSays). l.items) left, ap (λ (l : Left MemberSays). l.fault) left, no_more types lists b p past)
+      (ap (λ (l : Left MemberSays). l.items) left, ap (λ (l : Left MemberSays). l.fault) left, no_more types (lists - 1) b p past)
 
   pub opened_left : (i : ℕ) (c : List ℕ) → length b ≤ p → 0 < lists → list_bytes (item_with types i) ≡ Some c → members_by (members_from types (lists - 1)) None (listing entries c 2) ≡ members_by (members_from types lists) (Some i) (listing entries b p)
   opened_left i c past some is = sym (named i past some ∙ ap (λ o. members_by (members_from types (lists - 1)) None (entries_of o)) is)

@@ -17,6 +17,10 @@ members_left it = members_by (members_from it.types.now it.lists) it.list (listi
 abbrev pub members_ahead : MemberIter → ℕ
 members_ahead it = it.lists * 65536 + (length it.bytes.now - it.at)
 
+-- its steps so far
+abbrev pub members_steps : MemberIter → ℕ
+members_steps it = it.steps.count
+
 -- a step of an iterator gave what `next` gives, or it gave nothing yet, and fewer bytes may still be read
 abbrev pub IsStep : MemberIter → MemberIter → Option (Result (Option Member) Error) → Type 0
 IsStep old new None = (members_left new ≡ members_left old) × (members_ahead new < members_ahead old)

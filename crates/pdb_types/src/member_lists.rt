@@ -1,13 +1,13 @@
 //! The members of types, through lists that go on in one another.
 
-ghost use Rattle.std.specs.Prelude.{◌≡◌, ◌≤◌, ◌<◌, ◌^◌, length, IfSome};
+ghost use Rattle.std.specs.Prelude.{◌≡◌, ◌≤◌, ◌<◌, ◌+◌, ◌-◌, ◌*◌, ◌^◌, length, IfSome};
 ghost use Rattle.std.specs.Option.{option_map};
 ghost use Rattle.pdb_items.specs.Items.{item_with};
 ghost use Rattle.pdb_types.specs.MemberLists.{list_bytes, members_of, some_list};
 
 use crate::member_readers::read_entry;
 use crate::members::Member;
-use pdb_base::{Error, FallibleIterator, Result, TypeIndex};
+use pdb_base::{Error, FallibleIterator, Result, Steps, TypeIndex};
 use pdb_items::ItemFinder;
 
 /// How many lists may go on in one another.
@@ -45,20 +45,23 @@ pub struct MemberIter<'x, 't> {
     // The list with which it goes on, if it named one so far, and how many lists may still be read.
     list: Option<u32>,
     lists: u32,
+    steps: Steps,
     ghost inside: { at ≤ length bytes.now },
     ghost small: { length bytes.now < 65536 },
     ghost few: { lists ≤ 1024 },
+    ghost counted: { steps.count + (lists * 65536 + (length bytes.now - at)) ≤ 1024 * 65536 },
 }
 
 impl<'x, 't> MemberIter<'x, 't> {
     ghost use Rattle.std.specs.Prelude.{◌≢◌, IfErr, Some};
     ghost use Rattle.pdb_base.specs.declared.error.Error.TheVariants.{IoError, OutOfMemory};
-    ghost use Rattle.pdb_types.specs.MemberListViews.{IsStep, members_left};
+    ghost use Rattle.pdb_types.specs.MemberListViews.{IsStep, members_left, members_steps};
 
     /// The members of the list of this index, as `Tag::fields` has it; none where it is 0.
     #[tactic(auto, unfolding(crate::specs::MemberLists::members_of), using(crate::proofs::MemberSteps::nothing_read))]
     pub fn new(types: &'x ItemFinder<'t>, list: TypeIndex) -> Self
-        ensures { members_left result ≡ members_of types.entry.now list.0 }
+        ensures left { members_left result ≡ members_of types.entry.now list.0 }
+        ensures steps { members_steps result ≡ 0 }
     {
         MemberIter {
             types,
@@ -66,6 +69,7 @@ impl<'x, 't> MemberIter<'x, 't> {
             at: 0,
             list: some_list(list.0),
             lists: LISTS,
+            steps: Steps::new(),
         }
     }
 
@@ -74,8 +78,10 @@ impl<'x, 't> MemberIter<'x, 't> {
     fn read(&mut self) -> Option<Result<Option<Member<'t>>>>
         requires { self.old.at < length self.old.bytes.now }
         ensures step { IsStep self.old self.new result }
+        ensures grows { members_steps self.old ≤ members_steps self.new }
         ensures refused { IfSome result (λ answer. IfErr answer (λ e. (e ≢ OutOfMemory) × (e ≢ IoError))) }
     {
+        self.steps.tick();
         match read_entry(self.bytes, self.at) {
             Ok(found) => {
                 self.at = found.end;
@@ -99,21 +105,19 @@ impl<'x, 't> MemberIter<'x, 't> {
         requires ended { length self.old.bytes.now ≤ self.old.at }
         requires named { self.old.list ≡ Some list }
         ensures step { IsStep self.old self.new result }
+        ensures grows { members_steps self.old ≤ members_steps self.new }
         ensures refused { IfSome result (λ answer. IfErr answer (λ e. (e ≢ OutOfMemory) × (e ≢ IoError))) }
     {
         self.list = None;
         if self.lists == 0 {
             return Some(Ok(Some(Member::More)));
         }
+        self.steps.tick();
+        self.lists -= 1;
         match list_bytes(self.types, list) {
             Some(bytes) => {
-                *self = MemberIter {
-                    types: self.types,
-                    bytes,
-                    at: 2,
-                    list: None,
-                    lists: self.lists - 1,
-                };
+                self.bytes = bytes;
+                self.at = 2;
                 None
             }
             None => Some(Err(Error::UnexpectedEof)),
@@ -123,6 +127,7 @@ impl<'x, 't> MemberIter<'x, 't> {
     // What `next` gives, or nothing yet.
     fn step(&mut self) -> Option<Result<Option<Member<'t>>>>
         ensures step { IsStep self.old self.new result }
+        ensures grows { members_steps self.old ≤ members_steps self.new }
         ensures refused { IfSome result (λ answer. IfErr answer (λ e. (e ≢ OutOfMemory) × (e ≢ IoError))) }
     {
         if self.at < self.bytes.len() {
@@ -141,7 +146,7 @@ impl<'x, 't> FallibleIterator for MemberIter<'x, 't> {
     ghost use Rattle.pdb_base.specs.declared.error.Error.TheVariants.{IoError, OutOfMemory};
     ghost use Rattle.pdb_types.specs.MemberSays.{MemberSays};
     ghost use Rattle.pdb_types.specs.MemberViews.{shown_member};
-    ghost use Rattle.pdb_types.specs.MemberListViews.{members_left};
+    ghost use Rattle.pdb_types.specs.MemberListViews.{members_left, members_steps};
 
     type Item = Member<'t>;
 
@@ -155,6 +160,9 @@ impl<'x, 't> FallibleIterator for MemberIter<'x, 't> {
     fn next(&mut self) -> Result<Option<Member<'t>>>
         ensures yields { Yields shown_member (members_left self.old) result (members_left self.new) }
         ensures few { length (members_left self.old).items < 2 ^ 64 }
+        // A step reads an entry, or goes on with a list of at most 65,535 bytes.
+        ensures bound { members_steps self.new ≤ 1024 * 65536 }
+        ensures grows { members_steps self.old ≤ members_steps self.new }
         ensures refused { IfErr result (λ e. (e ≢ OutOfMemory) × (e ≢ IoError)) }
     {
         loop {

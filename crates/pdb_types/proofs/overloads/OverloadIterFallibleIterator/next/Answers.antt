@@ -15,7 +15,12 @@ invariant_of-self c =
     let before = c.args.self.now in
     let moves = read_moves overload_at overload_length overloads_within (λ x. x) before.buffer c.read_overload.new.buffer c.in-Ok.method c.in-Ok.ensures in
     let same = ap length c.in-Ok.ensures.1 in
-    record { small = omega (arith, same, before.small); inside = moves.1 }
+    record {
+      small = omega (arith, same, before.small);
+      inside = moves.1;
+      going = λ _. omega (arith, moves, before.going, c.tick.ensures);
+      counted = omega (arith, moves, before.going, c.tick.ensures);
+    }
 
 pub returns-in-Ok-clause-yields : goal.returns-in-Ok-clause-yields
 returns-in-Ok-clause-yields c =
