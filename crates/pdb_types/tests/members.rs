@@ -321,3 +321,60 @@ fn overloads(rt: HostRuntime) -> Result<()> {
     }
     Ok(())
 }
+
+/// A structure with a table of virtual functions, and an enumeration of `unsigned char`.
+#[test]
+fn a_structure_and_an_enumeration(rt: HostRuntime) -> Result<()> {
+    let alloc = rt.alloc();
+    let list = list_of(
+        alloc,
+        &[
+            b"\x09\x14\0\0\x10\x10\0\0",
+            b"\x0e\x15\x03\0\x74\0\0\0sm\0\xf1",
+            b"\x0d\x15\x03\0\x11\x10\0\0\x08\0n\0",
+            b"\x0d\x15\x03\0\x01\x10\0\0\x10\0bf1\0\xf2\xf1",
+            b"\x0d\x15\x01\0\x12\0\0\0\x38\0q\0",
+            b"\x11\x15\x13\0\x12\x10\0\0\0\0\0\0f\0\xf2\xf1",
+            b"\x11\x15\x1b\0\x13\x10\0\0\x08\0\0\0g\0\xf2\xf1",
+            b"\x11\x15\x0b\0\x14\x10\0\0st\0\xf1",
+        ],
+    )?;
+    let bits = b"\x05\x12\x74\0\0\0\x03\0\xf2\xf1";
+    let field = |attributes, field_type, offset, name| Member::Member {
+        attributes: FieldAttributes(attributes),
+        field_type: TypeIndex(field_type),
+        offset: Variant::U16(offset),
+        name,
+    };
+    let method = |attributes, method_type, vtable_offset, name| Member::OneMethod {
+        attributes: FieldAttributes(attributes),
+        method_type: TypeIndex(method_type),
+        vtable_offset,
+        name,
+    };
+    let shared: &[u8] = b"sm";
+    let wanted = [
+        Member::VirtualTablePointer {
+            table: TypeIndex(0x1010),
+        },
+        Member::StaticMember {
+            attributes: FieldAttributes(3),
+            field_type: TypeIndex(0x74),
+            name: shared,
+        },
+        field(3, 0x1011, 8, b"n"),
+        field(3, 0x1001, 16, b"bf1"),
+        field(1, 0x12, 56, b"q"),
+        method(0x13, 0x1012, Some(0), b"f"),
+        method(0x1b, 0x1013, Some(8), b"g"),
+        method(0x0b, 0x1014, None, b"st"),
+    ];
+    gives(&rt, alloc, &[&list, bits], &wanted, None)?;
+    let values = list_of(alloc, &[b"\x02\x15\x03\0\x07\0round\0\xf2\xf1"])?;
+    let round = Member::Enumerate {
+        attributes: FieldAttributes(3),
+        value: Variant::U16(7),
+        name: b"round",
+    };
+    gives(&rt, alloc, &[&values], &[round], None)
+}
