@@ -36,6 +36,11 @@ fn list_bytes<'t>(types: &ItemFinder<'t>, index: u32) -> Option<&'t [u8]>
 
 /// The members of a type, in the file's order. A list may go on with another one, which is read behind it. Behind 1,024
 /// lists `Member::More` stands for the members that aren't read.
+///
+/// # Errors
+///
+/// `UnexpectedEof` where a list, a field or padding isn't there; `UnexpectedNumericPrefix` where a number has a prefix that
+/// isn't listed; `UnimplementedFeature` where a member has another kind. Then the list has ended.
 #[derive(Drop)]
 pub struct MemberIter<'x, 't> {
     types: &'x ItemFinder<'t>,
