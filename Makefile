@@ -1,6 +1,6 @@
 PREFIX ?= /usr/local
 
-.PHONY: run prove c test install cross windows web dist
+.PHONY: run prove c test install aarch64 windows web dist
 
 # Shows what both programs print: the proved ones where they are built, otherwise the sources without proof.
 run:
@@ -25,9 +25,9 @@ test:
 install:
 	@PREFIX="$(PREFIX)" DESTDIR="$(DESTDIR)" package/install
 
-# Proves and builds the library for aarch64 Linux into c/out/aarch64-linux-gnu.
-cross:
-	@package/cross
+# Proves and builds the library and the programs for aarch64 Linux, after make prove and make c.
+aarch64:
+	@ports/aarch64/build
 
 # Builds the programs and the library for x86-64 Windows of what make prove and make c proved: ports/out/windows, and a zip.
 windows:
@@ -37,6 +37,7 @@ windows:
 web:
 	@ports/web/build
 
-# Makes dist/: a tarball and a Debian package of the programs and the library; with make cross also the library for aarch64.
+# Makes dist/: a tarball and a Debian package of the programs and the library, and the ports whose compilers are installed.
 dist: prove c
+	@package/ports
 	@package/build

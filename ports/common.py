@@ -33,6 +33,15 @@ def modules(*names):
         sys.exit(1)
 
 
+def is_current(crates, crate, built):
+    """Whether what was built is newer than every source of its crate and of those below it."""
+    if not os.path.exists(built):
+        return False
+    folders = [f"{crates.TOP}/crates/{name}/{part}" for name in (crate.name, *crate.below) for part in ("src", "specs", "proofs")]
+    files = [f"{at}/{it}" for folder in folders for at, _, names in os.walk(folder) for it in names]
+    return max(map(os.path.getmtime, files)) < os.path.getmtime(built)
+
+
 @functools.cache
 def kit():
     """The folder of the kit's clang and its linker."""

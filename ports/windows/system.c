@@ -74,6 +74,14 @@ static UINT console_encoding;
 
 static void restore_console(void) { SetConsoleOutputCP(console_encoding); }
 
+/* The module and the target, which a program prints behind its version; empty where it has no such option. */
+extern const char pdb_about[];
+int64_t linux_write(int32_t, const void *, uint64_t);
+
+static void print_about(void) { linux_write(1, pdb_about, strlen(pdb_about)); }
+
+static int is_version(const char *word) { return !strcmp(word, "--version") || !strcmp(word, "version") || !strcmp(word, "-V"); }
+
 static char *in_utf8(const wchar_t *wide) {
     int size = WideCharToMultiByte(CP_UTF8, 0, wide, -1, NULL, 0, NULL, NULL);
     char *text = calloc(size > 0 ? (size_t)size : 1, 1);
@@ -100,6 +108,7 @@ __attribute__((constructor)) static void begin(void) {
         if (!arguments[k]) ExitProcess(OUT_OF_MEMORY);
     }
     if (!arguments) ExitProcess(OUT_OF_MEMORY);
+    if (arguments_count == 2 && is_version(arguments[1])) atexit(print_about);
 }
 
 /* Writes what fits of an argument. Returns its size, -1 where there is no such argument, or -2 where it doesn't fit. */

@@ -1,5 +1,6 @@
 """Tests of the page, in Chromium: it is fed files as a person would do it, and shows what the programs for Linux print."""
 import http.server
+import os
 import shutil
 import subprocess
 import sys
@@ -12,6 +13,22 @@ TOP = windows.TOP
 PAGE = f"{TOP}/ports/out/web/index.html"
 TOOL = f"{TOP}/crates/pdb_tool/out/pdb_tool"
 SECONDS = 60
+# A file of some 50 MB with 1,000,000 symbols: within so many seconds it is read, in so many milliseconds searched, and so many
+# a picture takes while the list scrolls. The best of some tries counts, since other work may run beside.
+LARGE, READY, SEARCH, SCROLL, TRIES_OF = "globals-1000000", 5, 50, 50, 5
+SCROLLING = """
+const done = arguments[0], room = at("list"), times = [], steps = 60;
+const drawn = (from) => Math.abs(Number(room.querySelector(".item")?.getAttribute("aria-rowindex") ?? -1e9) - from) < 60;
+(async () => {
+    for (let k = 1; k <= steps; k++) {
+        const to = Math.floor((room.scrollHeight - room.clientHeight) * k / steps), begun = performance.now();
+        room.scrollTop = to;
+        do await new Promise(requestAnimationFrame); while (!drawn(to / 26) && performance.now() - begun < 1000);
+        times.push(performance.now() - begun);
+    }
+    done(times.sort((a, b) => a - b)[steps / 2]);
+})();
+"""
 # Lines of traces, each of which names 0x1108 of cpp-lld.pdb: `nested` begins at 0001:00000000, and section 1 at 0x1000.
 TRACES = (
     *("0x1108", "1108", "00001108", "0001:00000108", "app.exe+0x1108", "app.exe + 0x1108", "app+1108", " 3  app.exe + 0x1108"),
@@ -122,6 +139,32 @@ def of_parts(note, page):
     note("page: the map", page.run("return document.querySelectorAll('#tiles button').length") > 0)
 
 
+def of_large(note, page, folder):
+    """A large file is ready, searched and scrolled in time."""
+    subprocess.run([sys.executable, f"{TOP}/tests/speed/files", folder, LARGE], check=True)
+    file, ready = f"{folder}/{LARGE}.pdb", []
+    for _ in range(TRIES_OF):
+        begun = time.time()
+        page.feed(file)
+        ready.append(time.time() - begun)
+        if ready[-1] < READY:
+            break
+    note(f"page: {os.path.getsize(file)} bytes ready within {READY} s", min(ready) < READY, ready)
+    page.run("choose(at('tab-symbols')); at('form').value = 'all'")
+    searched = []
+    for text in ("", *["symbol_9", "9_xx", "xyz"] * TRIES_OF):
+        page.run("document.body.dataset.found = ''; at('find').value = arguments[0]; search()", text)
+        page.wait("document.body.dataset.found !== ''")
+        searched.append((int(page.run("return at('found').textContent").split(" found in ")[1].split()[0]), text))
+    best = [min(took for took, it in searched if it == text) for text in ("symbol_9", "9_xx", "xyz")]
+    note(f"page: searched within {SEARCH} ms", max(best) <= SEARCH, searched)
+    page.run("document.body.dataset.found = ''; at('find').value = ''; search()")
+    page.wait("document.body.dataset.found !== ''")
+    taken = min(page.browser.execute_async_script(SCROLLING) for _ in range(TRIES_OF))
+    note(f"page: rows scroll within {SCROLL} ms", taken <= SCROLL, taken)
+    print(f"the page: ready in {min(ready):.1f} s, searched in {best} ms, a picture in {taken:.0f} ms while it scrolls")
+
+
 def of_policy(note, page):
     """Nothing leaves the page: what its scripts try is refused, and a server hears nothing."""
     heard = []
@@ -156,9 +199,10 @@ def tests(note, skip, folder, whole, damaged):
         return
     page = Page(1280)
     try:
-        of_files(note, page, folder, whole, damaged[::20])
+        of_files(note, page, folder, whole, damaged[::4])
         of_traces(note, page, f"{folder}/{whole[0]}")
         of_parts(note, page)
+        of_large(note, page, folder)
         errors = [it["message"] for it in page.browser.get_log("browser") if it["level"] == "SEVERE"]
         note("page: errors on the console", not errors, errors)
         of_policy(note, page)

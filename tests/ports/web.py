@@ -1,4 +1,5 @@
 """Tests of the library for the web, in Node: what the JavaScript module reads is what the programs for Linux print."""
+import gzip
 import json
 import os
 import re
@@ -12,6 +13,7 @@ OUT = f"{TOP}/ports/out/web"
 BUILT = ("pdb.wasm", "index.html", "pdb.mjs", "errors.mjs", "memory.mjs", "records.mjs", "source.mjs", "pdb.d.mts")
 MODULES = 3
 LIMITS = 60
+MOST_BYTES = {"index.html": 500_000, "pdb.wasm": 80_000}
 
 
 def asked():
@@ -46,6 +48,11 @@ def header(note):
         declared = set(re.findall(r"(?m)^(?:pdb_code|uint32_t|void) (pdb_\w+)\(", it.read()))
     wanted = declared | {"memory", "__heap_base", "pdb_heap_bounds", "pdb_heap_blocks"}
     exported = {it["name"] for it in found.get("exports", [])}
+    for file, most in MOST_BYTES.items():
+        with open(f"{OUT}/{file}", "rb") as it:
+            data = it.read()
+        size = len(gzip.compress(data) if file == "pdb.wasm" else data)
+        note(f"{file}: size", size < most, size)
     note("pdb.wasm: exports", exported == wanted, exported ^ wanted)
     note("pdb.wasm: imports", found.get("imports") == [], found)
     note("pdb.wasm: module and target", "retargeted to wasm64" in "".join(found.get("about", [])), found)

@@ -9,11 +9,14 @@ import subprocess
 HERE = os.path.dirname(os.path.realpath(__file__))
 TOP = os.path.realpath(f"{HERE}/../..")
 OUT = f"{TOP}/ports/out/windows"
-BUILT = ("pdb_tool.exe", "pdb_list.exe", "pdb.dll", "pdb.lib", "libpdb.dll.a")
+BUILT = ("pdb_tool.exe", "pdb_list.exe", "pdb.dll", "pdb.lib", "libpdb.dll.a", "libpdb.a")
 MINGW = "x86_64-w64-mingw32-"
 EXAMPLES = ("list", "resolve", "tables", "key")
 ADDRESSES = [*(f"0x{it:x}" for it in range(0xFF0, 0x3000, 0x55)), "0", "0xffffffff", "0001:00000108", "0002:00000010", "ffff:ffffffff"]
 IMPORTS = {"pdb.dll": {"msvcrt.dll"}, "pdb_tool.exe": {"KERNEL32.dll", "msvcrt.dll"}, "pdb_list.exe": {"KERNEL32.dll", "msvcrt.dll"}}
+# How many times memory is refused in the DLL at least.
+REFUSED = 400
+MOST_BYTES = 250_000
 OF_C = {"malloc", "realloc", "free", "memcpy", "memmove", "memset", "memcmp", "strlen"}
 
 
@@ -88,6 +91,9 @@ def headers(note):
     exported = set(re.findall(r"(?m)^\t\[ *\d+\] (?:\+base\[ *\d+\] )?(?:[0-9a-f]{4,} )?(\w+)$", text.partition("[Ordinal/Name Pointer] Table")[2]))
     note("pdb.dll: exports", exported == declared, exported ^ declared)
     called = set(re.findall(r"(?m)^\t[0-9a-f]+\t +\d+  (\w+)$", text))
+    note("pdb.dll: size", os.path.getsize(f"{OUT}/pdb.dll") < MOST_BYTES)
+    defined = set(re.findall(r"(?m)^[0-9a-f]+ [A-Z] (\w+)$", run([f"{MINGW}nm", "-g", "--defined-only", f"{OUT}/libpdb.a"], text=True).stdout))
+    note("libpdb.a: exports", defined == declared, defined ^ declared)
     note("pdb.dll: functions of C", called <= OF_C and {"malloc", "realloc", "free"} <= called, called)
 
 
@@ -112,7 +118,7 @@ def texts(it, files, damaged):
 
 def arguments(it, file):
     """Arguments, names of files, and standard streams."""
-    for words in ([], ["help"], ["help", "resolve"], ["--version"], ["reslove", file], ["resolve"], ["lines", file, "zz"], ["resolve", file, "*"]):
+    for words in ([], ["help"], ["help", "resolve"], ["reslove", file], ["resolve"], ["lines", file, "zz"], ["resolve", file, "*"]):
         it.program("pdb_tool", words)
     for words in (["sample"], [file], [file, "no"], [file, "lines", "99999999999"]):
         it.program("pdb_list", words)
@@ -144,24 +150,53 @@ def streams(it, file):
         it.note(f"Windows: {name}: writers that fail", ends[0] == ends[1] and ends[0][0][0], ends)
 
 
+def version(it):
+    """The version of `pdb_tool` is that of Linux, and the module and the target stand behind it."""
+    a, b = run([f"{TOP}/crates/pdb_tool/out/pdb_tool", "--version"], text=True), it.run([f"{OUT}/pdb_tool.exe", "--version"], text=True)
+    own = r"LLVM module of the proved crate pdb_tool, sha256 [0-9a-f]{64}, retargeted to x86_64-w64-windows-gnu\n"
+    it.note("Windows: pdb_tool --version", a.stdout and re.fullmatch(re.escape(a.stdout) + own, b.stdout) and b.returncode == 0, b)
+
+
+def calls_of(file, listed):
+    """Examples in C, the programs with the same texts, and the arguments of both."""
+    yield "list", ["pdb_list"], [file, *listed]
+    yield "tables", ["pdb_list"], [file, "names", "contributions", "sections"]
+    yield "resolve", ["pdb_tool", "resolve"], [file, *ADDRESSES]
+    yield "key", ["pdb_tool", "key"], [file]
+
+
+def compiled(it, source, linked, name, *flags):
+    """A program in C for Windows."""
+    done = run([f"{MINGW}gcc", "-std=c11", "-O1", *flags, f"-I{TOP}/include", source, f"{OUT}/{linked}", "-o", f"{it.folder}/{name}.exe"])
+    it.note(f"Windows: {os.path.basename(source)} by mingw over {linked}", done.returncode == 0, done.stderr)
+
+
 def library(it, files, damaged):
-    """The examples in C, by mingw's import library: the texts of the programs."""
-    for name in EXAMPLES:
-        words = [f"{MINGW}gcc", "-std=c11", "-O1", "-Wall", "-Wextra", "-Werror", f"-I{TOP}/include", f"{TOP}/examples/{name}.c", f"{OUT}/libpdb.dll.a", "-o", f"{it.folder}/{name}.exe"]
-        done = run(words)
-        it.note(f"Windows: {name}.c by mingw", done.returncode == 0, done.stderr)
+    """The examples in C, by mingw's import library and by the static one: the texts of the programs."""
     shutil.copy(f"{OUT}/pdb.dll", it.folder)
+    for name in EXAMPLES:
+        compiled(it, f"{TOP}/examples/{name}.c", "libpdb.dll.a", name, "-Wall", "-Wextra", "-Werror")
+        compiled(it, f"{TOP}/examples/{name}.c", "libpdb.a", f"{name}-static", "-Wall", "-Wextra", "-Werror")
     listed = [word for word in commands(2) if word not in ("names", "contributions", "sections")]
-    for file in [*files, *damaged[::8]]:
-        for name, program, words in (
-            ("list", ["pdb_list"], [file, *listed]),
-            ("tables", ["pdb_list"], [file, "names", "contributions", "sections"]),
-            ("resolve", ["pdb_tool", "resolve"], [file, *ADDRESSES]),
-            ("key", ["pdb_tool", "key"], [file]),
-        ):
+    for number, file in enumerate([*files, *damaged[::8]]):
+        for name, program, words in calls_of(file, listed):
             a = run([f"{TOP}/crates/{program[0]}/out/{program[0]}", *program[1:], *words], cwd=it.folder)
-            b = it.run([f"{name}.exe", *words])
-            it.note(f"Windows: {name}.exe {file}", (a.returncode, a.stdout) == (b.returncode, b.stdout), [a.returncode, b.returncode, a.stderr, b.stderr])
+            for how in [name, f"{name}-static"][: 1 + (number < len(files))]:
+                b = it.run([f"{how}.exe", *words])
+                it.note(f"Windows: {how}.exe {file}", (a.returncode, a.stdout) == (b.returncode, b.stdout), [a.returncode, b.returncode, a.stderr, b.stderr])
+
+
+def many_calls(it, files):
+    """Buffers of every size and eight threads over the DLL, and memory refused in turn."""
+    for name in ("rooms", "threads"):
+        compiled(it, f"{TOP}/tests/c/{name}.c", "libpdb.dll.a", name, "-D__USE_MINGW_ANSI_STDIO=1", "-pthread", "-static")
+        done = it.run([f"{name}.exe", *files[: 2 if name == "threads" else 1]])
+        it.note(f"Windows: {name}", done.returncode == 0, done)
+    compiled(it, f"{HERE}/refuse.c", "libpdb.dll.a", "refuse", "-Wall", "-Wextra", "-Werror")
+    for file in files:
+        done = it.run(["refuse.exe", file], text=True)
+        found = re.fullmatch(r"refused (\d+), failed 0\r?\n", done.stdout)
+        it.note(f"Windows: memory refused over {file}", done.returncode == 0 and found and int(found[1]) >= REFUSED, done)
 
 
 def microsoft(it, skip):
@@ -195,9 +230,11 @@ def tests(note, skip, folder, prefix, files, damaged):
     try:
         texts(it, files, damaged)
         arguments(it, files[0])
+        version(it)
         streams(it, files[0])
         if shutil.which(f"{MINGW}gcc"):
             library(it, files, damaged)
+            many_calls(it, files)
             microsoft(it, skip)
         else:
             skip("the library for Windows, since mingw-w64 isn't installed")

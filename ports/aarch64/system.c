@@ -1,0 +1,44 @@
+/* The functions of the kit that the proved programs call, and that it has for x86-64 alone: arguments, the environment and
+ * errno. All others are those of the C library.
+ *
+ * Nothing here is proved. Each function keeps what the proofs state of the function of its name. rattle_arg and
+ * rattle_env_at write what fits and return the size, -1 where there is nothing of this number, or -2 where it doesn't fit;
+ * rattle_env does it by a name. */
+#include <errno.h>
+#include <stddef.h>
+#include <stdint.h>
+#include <stdlib.h>
+#include <string.h>
+
+extern char **environ;
+static size_t count;
+static char **arguments;
+
+/* glibc passes the arguments of the program to what runs before `main`. */
+__attribute__((constructor)) static void begin(int given, char **words) {
+    count = (size_t)given;
+    arguments = words;
+}
+
+static int64_t put(const char *text, uint8_t *bytes, size_t capacity) {
+    if (!text) return -1;
+    size_t size = strlen(text);
+    memcpy(bytes, text, size < capacity ? size : capacity);
+    return size > capacity ? -2 : (int64_t)size;
+}
+
+int64_t rattle_arg(size_t number, uint8_t *bytes, size_t capacity) {
+    return put(number < count ? arguments[number] : NULL, bytes, capacity);
+}
+
+int64_t rattle_env(const char *name, uint8_t *bytes, size_t capacity) { return put(getenv(name), bytes, capacity); }
+
+int64_t rattle_env_at(size_t number, uint8_t *bytes, size_t capacity) {
+    size_t size = 0;
+    while (environ && environ[size]) size++;
+    return put(number < size ? environ[number] : NULL, bytes, capacity);
+}
+
+int32_t rattle_errno(void) { return errno; }
+
+void rattle_set_errno(int32_t number) { errno = number; }
