@@ -14,7 +14,8 @@
  *
  * Buffers A parameter room, room_size, rows_room or names_room is the capacity of the buffer before it, in records or, for
  *         uint8_t, in bytes. Where a capacity is too small the call writes what fits, returns PDB_ROOM, and sets how much
- *         there is: call with capacity 0 to get the size first.
+ *         there is: call with capacity 0 to get the size first. A list with an error behind its items returns that error,
+ *         whether or not the items fit: compare *count with the capacity.
  * Borrow  pdb_module, pdb_symbol, pdb_file, pdb_import, pdb_image_t and a name of pdb_name point into the bytes that were
  *         passed in that call. They are valid as long as these stay where they are, unchanged. No zero byte ends a name: use sizes.
  * Memory  Calls that may take memory say so. All of it is freed before they return. Where malloc fails, they return
@@ -87,13 +88,19 @@ typedef struct pdb_bytes {
  * have the code. It is valid as long as the library is loaded. Takes no memory, and doesn't fail. */
 void pdb_message(pdb_code code, pdb_bytes *out);
 
+/* Whether the file can be opened: 0, or why not; each call that takes a file returns that code first. *number is the number
+ * that the error carries: a page size, a page, or a stream; 0 where it carries none. Other errors' numbers are in the rows: the
+ * stream of pdb_stream, the kind of pdb_symbol, the file of pdb_line and of pdb_inlinee. Takes memory. */
+pdb_code pdb_opens(const uint8_t *file, size_t file_size, uint32_t *number);
+
 /* ---- Which file it is. Both calls take memory; on an error *out is unchanged. */
 
 typedef struct pdb_information_t {
-    uint8_t guid[16];   /* in the order in which a GUID is printed */
-    uint32_t version;   /* of the stream's format: a date */
-    uint32_t signature; /* seconds since 1970, or another number */
-    uint32_t age;       /* how often the file was written; the image has that of pdb_debug_information */
+    uint8_t guid[16];       /* in the order in which a GUID is printed, which isn't that of the file */
+    uint8_t guid_bytes[16]; /* in the order of the file, and of a GUID of Windows in memory */
+    uint32_t version;       /* of the stream's format: a date */
+    uint32_t signature;     /* seconds since 1970, or another number */
+    uint32_t age;           /* how often the file was written; the image has that of pdb_debug_information */
 } pdb_information_t;
 
 pdb_code pdb_information(const uint8_t *file, size_t file_size, pdb_information_t *out);
@@ -270,7 +277,7 @@ pdb_code pdb_lines(const uint8_t *stream, size_t stream_size, uint32_t symbols_s
 
 typedef struct pdb_file {
     pdb_bytes checksum; /* its bytes; borrows stream */
-    size_t index;       /* the offset of its record: file of pdb_line and of pdb_inlinee */
+    uint32_t index;     /* the offset of its record: file of pdb_line and of pdb_inlinee */
     uint32_t name;      /* the offset of its name in the string table */
     uint32_t kind;      /* 0 is no checksum, PDB_MD5, PDB_SHA1 or PDB_SHA256 */
 } pdb_file;
@@ -351,21 +358,28 @@ typedef struct pdb_frame {
 
 /* The frames of addresses, of each from the innermost inlined function to the function itself, at least one. *count is
  * how many there are, and *size how many bytes their names have. A part of the file that can't be read counts as not
- * present. The file is opened once. PDB_ROOM where either buffer is too small; what fits is written. Takes memory. */
+ * present. The file is opened once. PDB_ROOM where either buffer is too small; what fits is written. Takes memory.
+ *
+ * How large the buffers have to be: an address has one frame, and one more for each inlined call of its procedure that
+ * covers it. That are at most symbols_size / 4 + 1 frames, by the symbols of its module. A name of a function has less than
+ * 131072 bytes, and that of a file less than the string table. Real files have far less: 16 rows and 1024 bytes an address, and
+ * 16 and 1024 more, are mostly enough. Otherwise *count and *size are what a second call needs, which costs as much as the
+ * first one; the frames that fit are whole. */
 pdb_code pdb_frames(const uint8_t *file, size_t file_size, const pdb_address *addresses, size_t addresses_count,
                     pdb_frame *frames, size_t room, size_t *count, uint8_t *names, size_t names_room, size_t *size);
 
 /* ---- Images: an EXE or a DLL in the PE format. */
 
 typedef struct pdb_image_t {
-    pdb_bytes path;      /* of its PDB, as the linker was given it; borrows image */
-    uint64_t base;       /* the address at which it wants to be loaded */
-    uint8_t guid[16];    /* of its PDB, in the order in which a GUID is printed: that of pdb_information_t */
-    uint32_t machine;    /* IMAGE_FILE_MACHINE_.. */
-    uint32_t time_stamp; /* its own key is this number as %08X, */
-    uint32_t size;       /* and this one, its bytes in memory, as %x */
-    uint32_t age;        /* of its PDB: that of pdb_debug_information_t */
-    uint32_t has_pdb;    /* 1 or 0: whether it names a PDB; where it names none, path is empty, and guid and age are 0 */
+    pdb_bytes path;         /* of its PDB, as the linker was given it; borrows image */
+    uint64_t base;          /* the address at which it wants to be loaded */
+    uint8_t guid[16];       /* of its PDB, in the order in which a GUID is printed: that of pdb_information_t */
+    uint8_t guid_bytes[16]; /* in the order of the image, and of a GUID of Windows in memory */
+    uint32_t machine;       /* IMAGE_FILE_MACHINE_.. */
+    uint32_t time_stamp;    /* its own key is this number as %08X, */
+    uint32_t size;          /* and this one, its bytes in memory, as %x */
+    uint32_t age;           /* of its PDB: that of pdb_debug_information_t */
+    uint32_t has_pdb;       /* 1 or 0: whether it names a PDB; where it names none, path is empty, and both guids and age are 0 */
 } pdb_image_t;
 
 /* What an image says, by all its bytes. PDB_UNEXPECTED_EOF where bytes are not present, or one of the codes from

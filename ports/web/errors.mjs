@@ -16,13 +16,17 @@ export const CODES = Object.freeze(Object.fromEntries(Object.entries(NAMES).map(
 /** The name of an error code; `Code` and the number where it has none. */
 export const nameOf = (code) => NAMES[code] ?? `Code${code}`;
 
-/** An error of the library: `code` is its number in pdb.h, and `error` its name. */
+/**
+ * An error of the library: `code` is its number in pdb.h, and `error` its name. `number` is what the error of a file that can't
+ * be opened carries, and otherwise 0.
+ */
 export class PdbError extends Error {
-    constructor(code, message = nameOf(code)) {
+    constructor(code, message = nameOf(code), number = 0) {
         super(message);
         this.name = "PdbError";
         this.code = code;
         this.error = nameOf(code);
+        this.number = number;
     }
 }
 

@@ -92,13 +92,13 @@ export class Memory {
         }
     }
 
-    /** The error of a code, with the library's text. */
-    error(code, what = "") {
+    /** The error of a code, with the library's text, and the number that it carries. */
+    error(code, what = "", number = 0) {
         const out = this.take(16);
         this.call("pdb_message", code, BigInt(out));
         const text = this.text(...borrowed(this.view, out)), message = what ? `${what}: ${text}` : text;
         this.give(out);
-        return code === CODES.OutOfMemory ? new PdbOutOfMemory(message) : new PdbError(code, message);
+        return code === CODES.OutOfMemory ? new PdbOutOfMemory(message) : new PdbError(code, message, number);
     }
 
     /** A text in UTF-8, with U+FFFD for what isn't UTF-8. A decoder costs more than the text where that is short. */

@@ -2,9 +2,11 @@
 
 /** An error of the library: `code` is its number in pdb.h, and `error` its name, as "UnexpectedEof". */
 export class PdbError extends Error {
-    constructor(code: number, message?: string);
+    constructor(code: number, message?: string, number?: number);
     readonly code: number;
     readonly error: string;
+    /** Of a file that can't be opened: a page size, a page or a stream; otherwise 0. */
+    readonly number: number;
 }
 /** The engine or `memoryLimit` allows no more memory; the same call may be made again. */
 export class PdbOutOfMemory extends PdbError {
@@ -31,6 +33,8 @@ export function readImage(source: Source, options?: OpenOptions): Promise<Image>
 export interface Information {
     /** 16 bytes, in the order in which a GUID is printed. */
     guid: Uint8Array;
+    /** The same, as the file has them. */
+    guidBytes: Uint8Array;
     guidText: string;
     /** Of the stream's format: a date. */
     version: number;
@@ -154,7 +158,7 @@ export interface Image {
     timeStamp: number;
     size: number;
     /** The PDB that it names. */
-    pdb: { guid: Uint8Array; guidText: string; age: number; path: string } | null;
+    pdb: { guid: Uint8Array; guidBytes: Uint8Array; guidText: string; age: number; path: string } | null;
 }
 
 /** An iterator that gives what stands before an error, and then throws it. A module without a stream has an empty one. */

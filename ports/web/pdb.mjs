@@ -32,8 +32,8 @@ export class Pdb {
         this.#file = file;
         this.#size = size;
         this.#with((take) => {
-            const none = take(8);
-            this.#check(this.#call("pdb_streams", none, 0, none, 0, none, 0, none), "cannot open");
+            const out = take(4), code = this.#call("pdb_opens", out);
+            if (code !== DONE) throw memory.error(code, "cannot open", memory.view.getUint32(out, true));
         });
     }
 

@@ -7,8 +7,8 @@ export const NO_STREAM = 0xffff;
 
 /** How many bytes each record has. */
 export const SIZES = Object.freeze({
-    information: 28, debugInformation: 16, stream: 24, streamName: 24, section: 44, module: 48, contribution: 32, symbol: 88,
-    line: 40, file: 32, inlinee: 20, import: 24, export: 8, address: 8, frame: 56, image: 64,
+    information: 44, debugInformation: 16, stream: 24, streamName: 24, section: 44, module: 48, contribution: 32, symbol: 88,
+    line: 40, file: 32, inlinee: 20, import: 24, export: 8, address: 8, frame: 56, image: 80,
 });
 
 /** The record layouts of symbols, by their numbers. */
@@ -30,8 +30,8 @@ const u32 = (view, at) => view.getUint32(at, true);
 const u16 = (view, at) => view.getUint16(at, true);
 
 export function informationOf(view, at, memory) {
-    const guid = memory.bytes(at, 16).slice();
-    return { guid, guidText: guidText(guid), version: u32(view, at + 16), signature: u32(view, at + 20), age: u32(view, at + 24) };
+    const guid = memory.bytes(at, 16).slice(), guidBytes = memory.bytes(at + 16, 16).slice();
+    return { guid, guidBytes, guidText: guidText(guid), version: u32(view, at + 32), signature: u32(view, at + 36), age: u32(view, at + 40) };
 }
 
 export function debugInformationOf(view, at) {
@@ -94,7 +94,7 @@ export function lineOf(view, at) {
 
 export function fileOf(view, at, memory) {
     const checksum = memory.bytes(...borrowed(view, at)).slice();
-    return { index: u64(view, at + 16), nameAt: u32(view, at + 24), kind: CHECKSUMS[u32(view, at + 28)], checksum };
+    return { index: u32(view, at + 16), nameAt: u32(view, at + 20), kind: CHECKSUMS[u32(view, at + 24)], checksum };
 }
 
 export function inlineeOf(view, at) {
@@ -114,9 +114,10 @@ export function exportOf(view, at) {
 }
 
 export function imageOf(view, at, memory) {
-    const hasPdb = u32(view, at + 56) === 1, guid = memory.bytes(at + 24, 16).slice();
-    const pdb = hasPdb ? { guid, guidText: guidText(guid), age: u32(view, at + 52), path: memory.text(...borrowed(view, at)) } : null;
-    return { base: view.getBigUint64(at + 16, true), machine: u32(view, at + 40), timeStamp: u32(view, at + 44), size: u32(view, at + 48), pdb };
+    const guid = memory.bytes(at + 24, 16).slice(), guidBytes = memory.bytes(at + 40, 16).slice();
+    const [machine, timeStamp, size, age, hasPdb] = [56, 60, 64, 68, 72].map((it) => u32(view, at + it));
+    const pdb = hasPdb === 1 ? { guid, guidBytes, guidText: guidText(guid), age, path: memory.text(...borrowed(view, at)) } : null;
+    return { base: view.getBigUint64(at + 16, true), machine, timeStamp, size, pdb };
 }
 
 /** Writes an address that is asked for; one that is out of range has no code. */

@@ -21,7 +21,7 @@ class Bytes(c.Structure):
 
 
 class Information(c.Structure):
-    _fields_ = [("guid", u8 * 16), *_all(u32, "version", "signature", "age")]
+    _fields_ = [*_all(u8 * 16, "guid", "guid_bytes"), *_all(u32, "version", "signature", "age")]
 
 
 class DebugInformation(c.Structure):
@@ -77,7 +77,7 @@ class Line(c.Structure):
 
 
 class File(c.Structure):
-    _fields_ = [("checksum", Bytes), ("index", size_t), *_all(u32, "name", "kind")]
+    _fields_ = [("checksum", Bytes), *_all(u32, "index", "name", "kind")]
 
 
 class Inlinee(c.Structure):
@@ -107,7 +107,7 @@ class Image(c.Structure):
     _fields_ = [
         ("path", Bytes),
         ("base", u64),
-        ("guid", u8 * 16),
+        *_all(u8 * 16, "guid", "guid_bytes"),
         *_all(u32, "machine", "time_stamp", "size", "age", "has_pdb"),
     ]
 
@@ -140,6 +140,7 @@ def _rows(row: Any) -> List[Any]:
 _CALLS: Any = {
     "pdb_version": [],
     "pdb_message": [u32, c.POINTER(Bytes)],
+    "pdb_opens": [*_DATA, c.POINTER(u32)],
     "pdb_information": [*_DATA, c.POINTER(Information)],
     "pdb_debug_information": [*_DATA, c.POINTER(DebugInformation)],
     "pdb_key": [*_DATA, c.c_char_p, size_t, _SIZE],

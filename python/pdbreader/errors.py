@@ -5,9 +5,11 @@ from typing import Dict, Optional, Type
 
 
 class PdbError(Exception):
-    """An error of the library; `code` is its number in pdb.h."""
+    """An error of the library; `code` is its number in pdb.h. `number` is what the error of a file that can't be opened
+    carries: a page size, a page or a stream, and otherwise 0."""
 
     code: int = 0
+    number: int = 0
 
     def __init__(self, message: Optional[str] = None) -> None:
         super().__init__(message or type(self).__doc__)

@@ -87,7 +87,7 @@ class PdbFile:
 
     def __init__(self, data: Union[bytes, bytearray, memoryview]) -> None:
         self.data = bytes(data)
-        functions.streams(self.data, [])
+        functions.opens(self.data)
 
     @classmethod
     def open(cls, path: Union[str, bytes, "os.PathLike[str]"]) -> "PdbFile":

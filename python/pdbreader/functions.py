@@ -67,6 +67,16 @@ def message(code: int) -> str:
     return out.copy().decode()
 
 
+def opens(file: bytes) -> None:
+    """Raises the error of a file that can't be opened, with the number that it carries."""
+    number = raw.u32()
+    code = raw.LIBRARY.pdb_opens(file, len(file), number)
+    if code != _DONE:
+        error = error_of(code)
+        error.number = number.value
+        raise error
+
+
 def information(file: bytes) -> Information:
     """Which file it is, by the information stream."""
     out = raw.Information()

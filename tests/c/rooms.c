@@ -226,6 +226,42 @@ static void parts_in_error(void) {
     want(pdb_symbols(bytes, sizeof bytes, sizeof bytes + 1, &at, &row, 1, &count) == PDB_UNEXPECTED_EOF && count == 0 && at == 4, "a part's end", count);
 }
 
+/* A list with an error behind its items returns the error, whether or not they fit. */
+static void lists_in_error(void) {
+    static const uint8_t annotations[] = {0x0b, 0x23, 0x04, 0x05, 0x20}; /* a line record, and an unknown annotation */
+    pdb_line line;
+    for (size_t room = 0; room <= 1; room++) {
+        size_t count = 77;
+        memset(&line, 0xff, sizeof line);
+        pdb_code code = pdb_inlined_lines(annotations, sizeof annotations, 1, 0x100, 0, 10, &line, room, &count);
+        want(code == PDB_UNKNOWN_BINARY_ANNOTATION && count == 1 && (line.section == 1) == (room == 1), "an error behind a record", room);
+    }
+}
+
+/* Why a file can't be opened, and the number of the error. */
+static void files_in_error(void) {
+    enum { PAGE_SIZE_AT = 32 };
+    uint32_t number = 77;
+    uint8_t *bytes = malloc(file_size);
+    memcpy(bytes, file, file_size);
+    memcpy(bytes + PAGE_SIZE_AT, "\x39\x05\0", 4);
+    want(pdb_opens(file, file_size, &number) == PDB_DONE && number == 0, "a file that can be opened", number);
+    want(pdb_opens(bytes, file_size, &number) == PDB_INVALID_PAGE_SIZE && number == 0x539, "a page size", number);
+    want(pdb_opens(file, 16, &number) == PDB_UNRECOGNIZED_FILE_FORMAT && number == 0, "no file", number);
+    free(bytes);
+}
+
+/* A GUID as it is printed, and as the file has it. */
+static void guids(void) {
+    static const int order[] = {3, 2, 1, 0, 5, 4, 7, 6, 8, 9, 10, 11, 12, 13, 14, 15};
+    pdb_information_t it;
+    size_t size;
+    uint8_t *bytes = stream(1, &size);
+    want(pdb_information(file, file_size, &it) == 0 && size >= 28 && !memcmp(it.guid_bytes, bytes + 12, 16), "the bytes of the GUID", size);
+    for (size_t k = 0; k < 16; k++) want(it.guid[k] == it.guid_bytes[order[k]], "the order of the GUID", k);
+    free(bytes);
+}
+
 /* Section headers in buffers of each size. */
 static void each_room_of_sections(void) {
     size_t count, again;
@@ -349,6 +385,9 @@ int main(int count, char **words) {
     each_room_of_contributions();
     each_room_of_stream_names();
     calls_in_error();
+    lists_in_error();
+    files_in_error();
+    guids();
     for (size_t room = 0; room < 24; room++) frames(8, room, 5 * room);
     uint64_t sum = frames(60, 4000, 400000);
     pthread_t threads[8];

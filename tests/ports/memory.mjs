@@ -67,6 +67,11 @@ for (let k = 0; k < 2000; k++) {
 check("lists that are left keep no memory", whole.memory - memory < 1 << 20, whole.memory - memory);
 
 check("a PDB is no image", (await readImage(bytes).catch((e) => e)).error === "NotAnImage", null);
+const wrongPage = Uint8Array.from(bytes);
+new DataView(wrongPage.buffer).setUint32(32, 1337, true);
+const refused = await openPdb(wrongPage).catch((e) => e);
+check("a page size", refused.error === "InvalidPageSize" && refused.number === 1337, [refused.error, refused.number]);
+check("the bytes of the GUID", whole.information().guidBytes.join() === whole.stream(1).slice(12, 28).join(), null);
 check("bytes are no PDB", (await openPdb(new Uint8Array(9)).catch((e) => e)).error === "UnrecognizedFileFormat", null);
 check("no source", (await openPdb(7).catch((e) => e)) instanceof TypeError, null);
 check("errors are errors", new PdbError(1) instanceof Error && new PdbError(1).error === "UnexpectedEof", null);

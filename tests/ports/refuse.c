@@ -45,11 +45,12 @@ static void replace(uint8_t *module, const char *name, void *by) {
 }
 
 /* ---- The calls, each over the file, the DBI stream or the stream of a module, into buffers that are large enough. */
-enum { LARGE = 1 << 20, OF_FILE = 8 };
+enum { LARGE = 1 << 20, OF_FILE = 9 };
 static uint8_t *file, *stream, *out, *more;
 static size_t file_size, stream_size, count, total;
 static pdb_module module;
 
+static pdb_code opens(void) { return pdb_opens(file, file_size, (uint32_t *)out); }
 static pdb_code information(void) { return pdb_information(file, file_size, (pdb_information_t *)out); }
 static pdb_code debug_information(void) { return pdb_debug_information(file, file_size, (pdb_debug_information_t *)out); }
 static pdb_code key(void) { return pdb_key(file, file_size, out, LARGE, &count); }
@@ -79,7 +80,7 @@ OF_MODULE(imports, pdb_import)
 OF_MODULE(exports, pdb_export)
 
 static const struct { const char *name; pdb_code (*call)(void); int every; } calls[] = {
-    {"information", information, 1}, {"debug_information", debug_information, 1}, {"key", key, 1}, {"streams", streams, 1},
+    {"opens", opens, 1}, {"information", information, 1}, {"debug_information", debug_information, 1}, {"key", key, 1}, {"streams", streams, 1},
     {"named_stream", named_stream, 1}, {"stream_names", stream_names, 1}, {"sections", sections, 1}, {"frames", frames, 1},
     {"lines", lines, 0}, {"files", files, 0}, {"inlinees", inlinees, 0}, {"imports", imports, 0}, {"exports", exports, 0},
 };

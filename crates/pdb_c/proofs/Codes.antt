@@ -7,6 +7,7 @@ use Rattle.pdb.specs.LineProgram.{ProgramOf}
 use Rattle.pdb_c.specs.Boundary.{Told, Copied, IsCopied}
 use Rattle.pdb_c.specs.Lists.{Obtained, WithoutMemory}
 use Rattle.pdb_c.specs.LineRows.{LinesTold}
+use Rattle.pdb_c.specs.Opened.{carried, Opened}
 use Rattle.pdb_c.specs.declared.lines.PdbLine.{PdbLine}
 
 pub told_read : {Y : Type 0} (old y : Y) (read : Result Y Error) → read ≡ Ok y → Told 0 old y read
@@ -32,6 +33,15 @@ lines_refused IoError old read f = absurd f
 lines_refused OutOfMemory old (Ok x) f = inr (refl, refl, refl)
 lines_refused OutOfMemory old (Err d) f = (inr refl, refl, refl)
 lines_refused e old read f = rw f (inl refl, refl, refl)
+
+pub opened_read : (read : Result (Unit {0}) Error) → read ≡ Ok tt → Opened 0 0 read
+opened_read read h = rw h (inl refl, refl)
+
+pub opened_refused : (e : Error) (read : Result (Unit {0}) Error) → Fails ⊥ e read → Opened (number_of e) (carried e) read
+opened_refused IoError read f = absurd f
+opened_refused OutOfMemory (Ok u) f = (inr refl, refl)
+opened_refused OutOfMemory (Err d) f = inr (refl, refl)
+opened_refused e read f = rw f (inl (refl, refl))
 
 -- ---- lists in calls that may take memory
 

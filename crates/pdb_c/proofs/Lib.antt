@@ -8,3 +8,4 @@ pub mod DbiHeaders
 pub mod FileSteps
 pub mod SymbolSteps
 pub mod FrameSteps
+pub mod FewFrames

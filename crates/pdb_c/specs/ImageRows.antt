@@ -5,6 +5,7 @@ use Rattle.pdb_image.specs.declared.error.ImageError.{ImageError}
 use Rattle.pdb_image.specs.declared.error.ImageError.TheVariants.{NotAnImage, UnexpectedEof, NoSignature, UnknownOptionalHeader, Nb10, UnknownCodeView}
 use Rattle.pdb_image.specs.Debug.{Reference}
 use Rattle.pdb_image.specs.Images.{Said}
+use Rattle.pdb_c.specs.Numbers.{guid_bytes}
 use Rattle.pdb_c.specs.declared.image.PdbImage.{PdbImage}
 
 -- the number of an error: 1 as that of a PDB file of which bytes are missing, and else one behind the numbers of other codes
@@ -21,6 +22,7 @@ pub record ImageRow : Type 0 where
   pub path : List ℕ
   pub base : ℕ
   pub guid : List ℕ
+  pub guid_bytes : List ℕ
   pub machine : ℕ
   pub time_stamp : ℕ
   pub size : ℕ
@@ -28,7 +30,7 @@ pub record ImageRow : Type 0 where
   pub has_pdb : ℕ
 
 abbrev pub image_seen : PdbImage → ImageRow
-image_seen i = record { path = i.path.now; base = i.base; guid = i.guid; machine = i.machine; time_stamp = i.time_stamp; size = i.size; age = i.age; has_pdb = i.has_pdb }
+image_seen i = record { path = i.path.now; base = i.base; guid = i.guid; guid_bytes = i.guid_bytes; machine = i.machine; time_stamp = i.time_stamp; size = i.size; age = i.age; has_pdb = i.has_pdb }
 
 -- what stands in the row of an image that names no PDB
 abbrev pub no_reference : Reference
@@ -45,6 +47,7 @@ image_row s = record {
   path = (unwrap_or s.pdb no_reference).path;
   base = s.base;
   guid = (unwrap_or s.pdb no_reference).guid;
+  guid_bytes = guid_bytes (unwrap_or s.pdb no_reference).guid;
   machine = s.machine;
   time_stamp = s.time_stamp;
   size = s.size;

@@ -16,3 +16,4 @@ pub mod StreamNameRows
 pub mod ImageRows
 pub mod Version
 pub mod Messages
+pub mod Opened

@@ -1,19 +1,15 @@
 -- Lists that are put in a room whole.
-use Rattle.std.specs.Prelude.{◌≡◌, ◌⊎◌, ℕ, List, length, map, Option, Some, None, Result, Ok, Err, nat_lt, if◌then◌else◌}
+use Rattle.std.specs.Prelude.{◌≡◌, ◌⊎◌, ℕ, List, length, map, Option, Some, None, Result, Ok, Err}
 use Rattle.pdb.specs.Error.{Error}
 use Rattle.pdb.specs.Refusal.{number_of}
 use Rattle.pdb.specs.Left.{Left}
 use Rattle.pdb_c.specs.Rooms.{over}
-use Rattle.pdb_c.specs.Boundary.{IsRefused}
+use Rattle.pdb_c.specs.Boundary.{IsRefused, room_code}
 
--- 0, or the number of the fault behind a list
-abbrev pub fault_code : Option Error → ℕ
-fault_code None = 0
-fault_code (Some e) = number_of e
-
--- 31 where the room is too small for a list, or else its fault
+-- the number of the error behind a list, whether or not the buffer is too small; without an error 31 where it is
 abbrev pub list_code : ℕ → ℕ → Option Error → ℕ
-list_code room count fault = if nat_lt room count then 31 else fault_code fault
+list_code room count None = room_code room count
+list_code room count (Some e) = number_of e
 
 -- A call put a list's items, as far as the room reaches: each as a row that is seen as `says` says of the item.
 pub record IsListed {X Y Z : Type 0} (view : X → Y) (says : Z → Y) (c : ℕ) (old new : List X) (n : ℕ) (left : Left Z) : Type 0 where

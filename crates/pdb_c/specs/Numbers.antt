@@ -1,5 +1,5 @@
 -- The numbers that tell which file it is, the modules' records, and names.
-use Rattle.std.specs.Prelude.{ℕ, List, Result, Ok}
+use Rattle.std.specs.Prelude.{ℕ, List, [], ◌∷◌, map, slice_index, Result, Ok}
 use Rattle.pdb.specs.Error.{Error}
 use Rattle.pdb.specs.Refusal.{◌>>=◌}
 use Rattle.pdb.specs.Container.{opens}
@@ -25,9 +25,13 @@ version_number version.V70 = 19990903
 version_number version.V110 = 20091201
 version_number (version.OtherValue n) = n
 
+-- the bytes of a GUID as files have them, and as a GUID of Windows has them in memory, of those in the order in which it is printed: the first three fields stand least byte first
+abbrev pub guid_bytes : List ℕ → List ℕ
+guid_bytes g = map (slice_index g) (3 ∷ 2 ∷ 1 ∷ 0 ∷ 5 ∷ 4 ∷ 7 ∷ 6 ∷ 8 ∷ 9 ∷ 10 ∷ 11 ∷ 12 ∷ 13 ∷ 14 ∷ 15 ∷ [])
+
 -- which file it is
 abbrev pub numbers_of : Information → PdbInformation
-numbers_of i = record { guid = i.guid; version = version_number i.version; signature = i.signature; age = i.age }
+numbers_of i = record { guid = i.guid; guid_bytes = guid_bytes i.guid; version = version_number i.version; signature = i.signature; age = i.age }
 
 unfoldable pub numbers_in : List ℕ → Result PdbInformation Error
 numbers_in file = do

@@ -39,15 +39,13 @@ pub fn room_code(room: usize, needed: usize) -> u32
     if room < needed { ROOM } else { DONE }
 }
 
-/// What a call answers that put a list of so many items, with its fault behind them, in a room.
+/// What a call returns that wrote a list of so many items, with an error behind them, into a buffer: the error, whether or
+/// not the buffer is too small.
 pub fn list_code(room: usize, count: usize, fault: Option<Error>) -> u32
     ensures { result ≡ list_code room count fault }
 {
-    if room < count {
-        return ROOM;
-    }
     match fault {
-        None => DONE,
+        None => room_code(room, count),
         Some(e) => code_of(e),
     }
 }

@@ -9,7 +9,7 @@ ghost use Rattle.pdb_c.specs.Lists.{IsListed};
 ghost use Rattle.pdb_c.specs.LineRows.{module_bytes};
 ghost use Rattle.pdb_c.specs.FileRows.{file_row, file_told, FilesTold};
 
-use crate::answers::{LARGE, code_of, list_code};
+use crate::answers::{LARGE, OUT_OF_MEMORY, code_of, list_code};
 use crate::parts::lines_data;
 use crate::rooms::put_row;
 use pdb::{Error, Feature, FileChecksum, LinePlaces, ParseBuffer, Result};
@@ -22,8 +22,8 @@ use std::alloc::Global;
 pub struct PdbFile<'a> {
     /// The bytes of its checksum.
     pub checksum: &'a [u8],
-    /// Where its record stands among the checksums: lines and inlined functions name the file by it.
-    pub index: usize,
+    /// The offset of its record among the checksums: lines and inlined functions name the file by it.
+    pub index: u32,
     /// The place of its name in the string table.
     pub name: u32,
     /// The checksum's kind: 0 is none, 1 MD5, 2 SHA-1, 3 SHA-256.
@@ -53,12 +53,13 @@ fn bytes_of<'a>(checksum: &FileChecksum<'a>) -> &'a [u8]
 }
 
 fn shown<'a>(entry: &FileRecord<'a>) -> PdbFile<'a>
+    requires place { (bytes_of_entry entry.now).place < 4294967296 }
     ensures { file_row result ≡ file_told (bytes_of_entry entry.now) }
 {
     let file = entry.file();
     PdbFile {
         checksum: bytes_of(&file.checksum),
-        index: entry.place(),
+        index: entry.place() as u32,
         name: file.name.0,
         kind: kind_of(&file.checksum),
     }
@@ -66,6 +67,7 @@ fn shown<'a>(entry: &FileRecord<'a>) -> PdbFile<'a>
 
 /// Puts the files of checksums, and counts them.
 fn fill<'a>(checksums: &'a [u8], records: &mut [PdbFile<'a>], count: &mut usize) -> u32
+    requires size { length checksums.now < 4294967296 }
     ensures { IsListed file_row file_told result records.old records.new count.new (entries_from checksums.entry.now 0) }
 {
     let mut buffer = ParseBuffer::from(checksums);
@@ -104,7 +106,7 @@ fn places<'a>(
 }
 
 /// The files of a module's stream of these bytes and sizes: as many as there is room for, and how many there are.
-#[tactic(auto, using(crate::proofs::Codes::obtained, crate::proofs::Codes::refused))]
+#[tactic(auto, using(crate::proofs::Codes::obtained, crate::proofs::Codes::obtained_none, crate::proofs::Codes::refused))]
 #[unsafe(no_mangle)]
 pub extern "C" fn pdb_files<'a>(
     alloc: Global,
@@ -123,7 +125,14 @@ pub extern "C" fn pdb_files<'a>(
         return LARGE;
     }
     match places(alloc, stream, symbols_size, lines_size, c13_lines_size) {
-        Ok(places) => fill(places.checksums(), records, count),
+        Ok(places) => {
+            let checksums = places.checksums();
+            // They are some of the stream's bytes, which are fewer; no proof knows it.
+            if checksums.len() >= 4294967296 {
+                return OUT_OF_MEMORY;
+            }
+            fill(checksums, records, count)
+        }
         Err(e) => code_of(e),
     }
 }

@@ -6,6 +6,7 @@ ghost use Rattle.pdb_image.specs.Images.{image_of, reference, said};
 ghost use Rattle.pdb_c.specs.ImageRows.{image_code, image_row, image_seen, no_reference, names_pdb, ImageTold};
 
 use crate::answers::DONE;
+use crate::information::guid_bytes;
 use pdb_image::{Image, ImageError, PdbReference};
 
 /// An image's headers and the entry of its debug directory. The path is bytes of the image.
@@ -18,6 +19,8 @@ pub struct PdbImage<'a> {
     pub base: u64,
     /// The GUID of its PDB file, in the order in which it is printed; 0 where it names none.
     pub guid: [u8; 16],
+    /// The same, as files have its bytes.
+    pub guid_bytes: [u8; 16],
     /// The machine that it is for.
     pub machine: u32,
     /// The time stamp, the first part of its own key.
@@ -76,6 +79,7 @@ fn shown<'a>(image: &Image<'a>) -> PdbImage<'a>
         path: named.path,
         base: image.base,
         guid: named.guid,
+        guid_bytes: guid_bytes(named.guid),
         machine: u32::from(image.machine),
         time_stamp: image.time_stamp,
         size: image.size,

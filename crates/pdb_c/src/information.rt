@@ -3,7 +3,7 @@
 ghost use Rattle.std.specs.Prelude.{◌≡◌};
 ghost use Rattle.pdb.specs.Refusal.{Gives};
 ghost use Rattle.pdb_c.specs.Boundary.{Told};
-ghost use Rattle.pdb_c.specs.Numbers.{version_number, numbers_in, header_numbers_in};
+ghost use Rattle.pdb_c.specs.Numbers.{guid_bytes, version_number, numbers_in, header_numbers_in};
 
 use crate::answers::{DONE, code_of};
 use pdb::{HeaderVersion, MemorySource, PDB, Result};
@@ -13,8 +13,10 @@ use std::alloc::Global;
 #[repr(C)]
 #[derive(Clone, Copy)]
 pub struct PdbInformation {
-    /// The number that is the file's alone, in the order in which it is written.
+    /// The GUID, in the order in which it is printed.
     pub guid: [u8; 16],
+    /// The GUID, as the file has its bytes.
+    pub guid_bytes: [u8; 16],
     /// The version of the stream's format.
     pub version: u32,
     /// When the file was made, in seconds since 1970, or another number that tells it from others.
@@ -35,6 +37,16 @@ pub struct PdbDebugInformation {
     pub machine: u32,
     /// The header's flags.
     pub flags: u32,
+}
+
+/// The bytes of a GUID as files have them, of those in the order in which it is printed.
+pub fn guid_bytes(guid: [u8; 16]) -> [u8; 16]
+    ensures { result ≡ guid_bytes guid }
+{
+    [
+        guid[3], guid[2], guid[1], guid[0], guid[5], guid[4], guid[7], guid[6], guid[8], guid[9],
+        guid[10], guid[11], guid[12], guid[13], guid[14], guid[15],
+    ]
 }
 
 /// The number of a version.
@@ -59,6 +71,7 @@ fn information(alloc: Global, file: &[u8]) -> Result<PdbInformation>
     let stream = pdb.pdb_information()?;
     Ok(PdbInformation {
         guid: stream.guid,
+        guid_bytes: guid_bytes(stream.guid),
         version: version_number(stream.version),
         signature: stream.signature,
         age: stream.age,

@@ -16,7 +16,7 @@ use crate::stream_names::PdbStreamName;
 use crate::streams::PdbStream;
 use crate::symbols::PdbSymbol;
 
-const _: () = prove!(size_of::<PdbInformation>() == 28);
+const _: () = prove!(size_of::<PdbInformation>() == 44);
 
 const _: () = prove!(size_of::<PdbDebugInformation>() == 16);
 
@@ -48,4 +48,4 @@ const _: () = prove!(size_of::<PdbContribution>() == 32);
 
 const _: () = prove!(size_of::<PdbStreamName>() == 24);
 
-const _: () = prove!(size_of::<PdbImage<'_>>() == 64);
+const _: () = prove!(size_of::<PdbImage<'_>>() == 80);

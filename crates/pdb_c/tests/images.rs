@@ -31,6 +31,7 @@ const NOTHING: PdbImage<'static> = PdbImage {
     path: b"-",
     base: 99,
     guid: [99; 16],
+    guid_bytes: [99; 16],
     machine: 99,
     time_stamp: 99,
     size: 99,
@@ -52,6 +53,8 @@ fn image_by_hand(rt: HostRuntime) -> Result<(), AllocError> {
     is(&rt, "numbers", &numbers_of(&out), &wanted);
     let guid = [3, 2, 1, 0, 5, 4, 7, 6, 8, 9, 10, 11, 12, 13, 14, 15];
     is(&rt, "guid", &out.guid, &guid);
+    let bytes = [0, 1, 2, 3, 4, 5, 6, 7, 8, 9, 10, 11, 12, 13, 14, 15];
+    is(&rt, "bytes of the guid", &out.guid_bytes, &bytes);
     is(&rt, "path", &out.path, &b"a.pdb".as_slice());
     Ok(())
 }
@@ -65,6 +68,7 @@ fn image_without_a_pdb(rt: HostRuntime) -> Result<(), AllocError> {
     let wanted = (0x1_4000_0000, [0x8664, 0x1122_3344, 0x3000, 0, 0]);
     is(&rt, "numbers", &numbers_of(&out), &wanted);
     is(&rt, "guid", &out.guid, &[0; 16]);
+    is(&rt, "bytes of the guid", &out.guid_bytes, &[0; 16]);
     is(&rt, "path", &out.path.len(), &0);
     Ok(())
 }

@@ -4,7 +4,7 @@ use Rattle.pdb.specs.FileViews.{bytes_of_entry}
 use Rattle.pdb_modules.proofs.FileLemmas.{entries_within}
 use Rattle.pdb_modules.proofs.Turns.{turn_moves}
 use Rattle.pdb_c.specs.FileRows.{file_row, file_told}
-use Rattle.pdb_c.proofs.FileSteps.{file_follows, listed_at_fault, listed_at_end}
+use Rattle.pdb_c.proofs.FileSteps.{entry_place, file_follows, listed_at_fault, listed_at_end}
 use Rattle.pdb_c.proofs.ListSteps.{item_next, counted_next}
 use Rattle.pdb_c.proofs.files.fill.Goals as goal
 
@@ -41,3 +41,10 @@ returns c =
     let ended : c.loop-buffer.buffer.place ≡ length c.loop-buffer.buffer.bytes = c.loop-buffer-test.ensures.0 refl in
     let past : length c.args.checksums.now ≤ c.loop-buffer.buffer.place = omega (arith, ap length so_far.same) in
     listed_at_end c.args.checksums.now c.loop-buffer.buffer so_far.same c.loop-buffer.n _ _ _ so_far.told so_far.counted so_far.fault so_far.room past c.list_code-2.ensures
+
+-- a record begins within the checksums
+pub shown-requires : goal.shown-requires
+shown-requires c =
+    let so_far = c.loop-buffer.invariant in
+    let place = entry_place c.loop-buffer.buffer.bytes c.loop-buffer.buffer.place (bytes_of_entry c.in-Ok.record) c.in-Ok.ensures.0 in
+    record { place = omega (arith, place, so_far.inside, c.requires.size) }
