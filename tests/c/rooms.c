@@ -228,7 +228,7 @@ static void parts_in_error(void) {
 
 /* A list with an error behind its items returns the error, whether or not they fit. */
 static void lists_in_error(void) {
-    static const uint8_t annotations[] = {0x0b, 0x23, 0x04, 0x05, 0x20}; /* a line record, and an unknown annotation */
+    static const uint8_t annotations[] = {0x0b, 0x23, 0x0b, 0x23, 0x20}; /* a line record, and an unknown annotation */
     pdb_line line;
     for (size_t room = 0; room <= 1; room++) {
         size_t count = 77;

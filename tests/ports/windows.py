@@ -15,7 +15,7 @@ EXAMPLES = ("list", "resolve", "tables", "key")
 ADDRESSES = [*(f"0x{it:x}" for it in range(0xFF0, 0x3000, 0x55)), "0", "0xffffffff", "0001:00000108", "0002:00000010", "ffff:ffffffff"]
 IMPORTS = {"pdb.dll": {"msvcrt.dll"}, "pdb_tool.exe": {"KERNEL32.dll", "msvcrt.dll"}, "pdb_list.exe": {"KERNEL32.dll", "msvcrt.dll"}}
 # How many times memory is refused in the DLL at least.
-REFUSED = 400
+REFUSED = 25
 MOST_BYTES = 250_000
 OF_C = {"malloc", "realloc", "free", "memcpy", "memmove", "memset", "memcmp", "strlen"}
 

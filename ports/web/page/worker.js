@@ -57,6 +57,13 @@ async function open({ file, name: given }) {
 const GROUPS = { Procedure: 1, Thunk: 1, SeparatedCode: 1, Data: 2, ThreadStorage: 2, Public: 4, UserDefinedType: 8, Constant: 8 };
 const WANTED = { code: 1, data: 2, public: 4, types: 8, all: 255 }, OTHER = 128, NO_MODULE = 0xffff;
 
+/** The lower-case names as one text, one a line, and where each starts. */
+function textOf(names) {
+    const lower = names.map((it) => it.toLowerCase()), starts = new Uint32Array(names.length + 1);
+    lower.forEach((it, i) => (starts[i + 1] = starts[i] + it.length + 1));
+    return { text: lower.join("\n"), starts };
+}
+
 /** Columns of all symbols that have a name, of the modules and of the whole file. */
 function makeIndex() {
     const columns = { names: [], module: [], section: [], offset: [], size: [], form: [], group: [] }, errors = [];
@@ -87,16 +94,35 @@ function makeIndex() {
     index = {
         names: columns.names, module: Uint16Array.from(columns.module), section: Uint16Array.from(columns.section),
         offset: Uint32Array.from(columns.offset), size: Uint32Array.from(columns.size), form: Uint8Array.from(columns.form),
-        group: Uint8Array.from(columns.group), places: null,
+        group: Uint8Array.from(columns.group), places: null, ...textOf(columns.names),
     };
     return { all, named: index.names.length, errors, took: performance.now() - started };
 }
 
+/** The name in which an offset of the text is, of those from one on. */
+function nameAt(offset, from) {
+    const { starts } = index;
+    let low = from, step = 1;
+    for (; low + step < starts.length && starts[low + step] <= offset; step *= 2) low += step;
+    for (let high = Math.min(low + step, starts.length); high - low > 1; ) {
+        const middle = (low + high) >> 1;
+        if (starts[middle] <= offset) low = middle;
+        else high = middle;
+    }
+    return low;
+}
+
 function search({ text, of }) {
-    const wanted = WANTED[of], escaped = text.trim().replace(/[.*+?^${}()|[\]\\]/g, "\\$&"), pattern = escaped ? new RegExp(escaped, "i") : null;
-    const rows = new Uint32Array(index.names.length);
+    const wanted = WANTED[of], part = text.trim().toLowerCase(), all = index.names.length, rows = new Uint32Array(all);
     let count = 0;
-    for (let i = 0; i < rows.length; i++) if (index.group[i] & wanted && (!pattern || pattern.test(index.names[i]))) rows[count++] = i;
+    for (let i = 0; i < all; i++) {
+        if (part) {
+            const offset = index.text.indexOf(part, index.starts[i]);
+            if (offset < 0) break;
+            i = nameAt(offset, i);
+        }
+        if (index.group[i] & wanted) rows[count++] = i;
+    }
     found = rows.slice(0, count);
     return { count };
 }
