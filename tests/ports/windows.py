@@ -102,7 +102,7 @@ def texts(it, files, damaged):
     for file in files:
         listed = it.program("pdb_list", [file, "modules"])
         it.program("pdb_list", [file, *commands(min(listed.stdout.count(b"\nobject "), 40))])
-        for words in (["lines"], ["scopes"], ["symbols"], ["symbols", "--all"], ["sources"], ["modules"], ["modules", "--json"], ["sections"], ["streams"], ["key"], ["check"]):
+        for words in (["lines"], ["scopes"], ["symbols"], ["symbols", "--all"], ["types"], ["sources"], ["modules"], ["modules", "--json"], ["sections"], ["streams"], ["key"], ["check"]):
             it.program("pdb_tool", [*words, file])
         it.program("pdb_tool", ["find", file, "*"])
         it.program("pdb_tool", ["where", file, "main.cpp:1-9999"])

@@ -107,7 +107,8 @@ def texts(what, made, room):
         it.write(made.file())
     name = made.name()
     compare(f"resolve, {what}", (0, name + b"\na.c:10:0\nmain\n??:0:0\n\n" if made.has_strings else name + b"\n??:10:0\nmain\n??:0:0\n\n", b""), "resolve", f"{room}/across.pdb", "1:108")
-    compare(f"scopes, {what}", (0, b"procedure 0001:00000100 48 main\n  inlined " + name + b"\n", b""), "scopes", f"{room}/across.pdb", "0")
+    typed = name if name == b"??" else name + b": int"
+    compare(f"scopes, {what}", (0, b"procedure 0001:00000100 48 main\n  inlined " + typed + b"\n", b""), "scopes", f"{room}/across.pdb", "0")
     found = b"" if name == b"??" else b"inlined 0001:00000108 - 2 " + name + b"\n"
     compare(f"find, {what}", (0 if found else 1, found, b""), "find", f"{room}/across.pdb", "one", "two", "three", "??")
     if made.has_strings:

@@ -18,9 +18,9 @@ def refused_memory(sample, room):
                          (["key", sample, sample], b""), (["lines", sample, "0", "1", "0"], b""), (["scopes", sample], b""),
                          (["symbols", sample], b""), (["symbols", sample, "0", "0"], b""), (["check", sample, sample], b""),
                          (["find", sample, "*"], b""), (["where", sample, "a.c"], b""), (["sources", sample, "0", "1"], b""),
-                         (["modules", sample], b""), (["sections", sample], b"")):
+                         (["modules", sample], b""), (["sections", sample], b""), (["types", sample, "74", "603"], b"")):
         _, whole, _ = ran(*words, given=given)
-        texts = [rb"\n\n", rb"no\n", rb"a.c:2:0\n", rb"none\n", rb"S_END\n", rb": ok\n", rb"pdb\n", rb"- g\n"]
+        texts = [rb"\n\n", rb"size=4 int\n", rb"no\n", rb"a.c:2:0\n", rb"none\n", rb"S_END\n", rb": ok\n", rb"pdb\n", rb"- g\n"]
         ends = {0, len(whole)} | {it.end() for text in texts for it in re.finditer(text, whole)}
         for n in range(1, 5000):
             is_refused, (status, out, err) = ran_refused(n, words, given, refuse, room)
@@ -54,7 +54,8 @@ def writers_that_fail(sample, room):
     for words, given in ((["help"], b""), (["--version"], b""), (["key", sample, sample], b""), (["resolve", sample, "1:108", "2:0"], b""),
                          (["resolve", sample], b"1:108\nno\n"), (["lines", sample, "0", "1"], b""), (["scopes", sample], b""),
                          (["symbols", sample, "0"], b""), (["check", sample, sample], b""), (["find", sample, "*"], b""),
-                         (["where", sample, "a.c"], b""), (["sources", sample], b""), (["modules", sample], b""), (["sections", sample], b"")):
+                         (["where", sample, "a.c"], b""), (["sources", sample], b""), (["modules", sample], b""), (["sections", sample], b""),
+                         (["types", sample, "74", "1000"], b"")):
         _, whole, _ = ran(*words, given=given)
         for most in range(len(whole) + 1):
             with open(f"{room}/out", "w+b") as out:

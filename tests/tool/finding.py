@@ -115,7 +115,7 @@ def found_in_real_files():
         by_address = ran("resolve", file, given="".join(f"{it[2]}\n" for it in placed).encode())
         by_place = ran("resolve", file, given="".join(f"{it[1]}\n" for it in placed).encode())
         tell(by_address == by_place, f"what is found in {name} leads back to its place")
-        procedures = sorted(it for it in (it.split(" ", 3) for it in lines_of("scopes", file)) if it[0] == "procedure")
+        procedures = sorted(it for it in (it.split(": ")[0].split(" ", 3) for it in lines_of("scopes", file)) if it[0] == "procedure")
         given = sorted([it[0], it[1], it[3], it[4]] for it in placed if it[0] == "procedure")
         tell(given == procedures, f"procedures of {name}", given[:3])
         publics = sum(" S_PUB32 " in it for it in lines_of("symbols", file))

@@ -12,7 +12,7 @@ LINES = 1_000_001
 def many_arguments(sample):
     """More arguments than any table in the program has room for at once."""
     lines = b"0001:00000100 8 a.c:1:0\n0001:00000108 8 a.c:2:0\n"
-    scopes = b"procedure 0001:00000100 48 main\n  inlined ??\n"
+    scopes = b"procedure 0001:00000100 48 main: ??\n  inlined ??\n"
     head = b"module 0 a.obj\n"
     compare("lines of 2,000 modules", (0, MANY * (head + lines), b""), "lines", sample, *MANY * ["0"])
     compare("scopes of 2,000 modules", (0, MANY * (head + scopes), b""), "scopes", sample, *MANY * ["0"])
@@ -90,4 +90,4 @@ def damage_is_a_notice(sample, room):
     said = b"error 1 the data ends before a record does\n"
     for topic in "lines", "sources":
         compare(f"{topic} of a module that is cut", (0, said, notice), topic, file)
-    compare("scopes of it", (0, b"procedure 0001:00000100 48 main\n  inlined ??\n", b""), "scopes", file)
+    compare("scopes of it", (0, b"procedure 0001:00000100 48 main: ??\n  inlined ??\n", b""), "scopes", file)

@@ -1,5 +1,5 @@
 """`pdb_tool scopes` beside a reading of its own: over real files, and over files of made records in made scopes. Names of
-inlined functions are left to other tests."""
+inlined functions are left to other tests; their types are not."""
 import glob
 import os
 import random
@@ -9,6 +9,7 @@ from across import container, numbers, padded
 from program import FILES, REAL, ran, tell
 from streams import File, u16
 from symbols import CORPUS, NAMES, lists, one_line
+from typed import VARIABLE_AT, Types, behind_record
 
 FILES_MADE = 60
 PROCEDURES = {0x110F, 0x1110, 0x1146, 0x1147, 0x1155, 0x1156, 0x100A, 0x100B}
@@ -175,8 +176,8 @@ def bases_of(records, k):
     return 0, 0
 
 
-def text_of(records, machine):
-    """The lines of a list of symbols; an inlined call has only its first word."""
+def text_of(records, machine, types):
+    """The lines of a list of symbols; an inlined call has only its first word and its type."""
     lines, scopes, parameter = [], [], None
     for k, (_, data) in enumerate(records):
         kind = u16(data, 0)
@@ -192,7 +193,7 @@ def text_of(records, machine):
             parameter = None
             line = b"inlined" if kind in SITES and len(data) >= (14 if kind == 0x114D else 18) else line_of(data, machine)
             if line is not None:
-                lines.append(b"  " * min(depth, 32) + line)
+                lines.append(b"  " * min(depth, 32) + line + behind_record(types, data, VARIABLE_AT))
                 parameter = parameter_in(data)
         except error:
             pass
@@ -202,20 +203,25 @@ def text_of(records, machine):
     return lines
 
 
-def without_names(line):
-    words = line.lstrip(b" ")
-    return line[: len(line) - len(words)] + b"inlined" if words.startswith(b"inlined ") or words == b"inlined" else line
+def without_name(line, wanted):
+    """The line of an inlined call without the name, where it ends as is wanted."""
+    words, ends = line.lstrip(b" "), wanted.lstrip(b" ")
+    if words.startswith(b"inlined") and ends.startswith(b"inlined") and line.endswith(ends[7:]):
+        return line[: len(line) - len(words)] + ends
+    return line
 
 
 def compare_scopes(what, path):
     with open(path, "rb") as it:
         file = File(it.read())
+    types = Types.of(file)
     for words, found, machine in lists(file):
         if not words:
             continue
         status, out, err = ran("scopes", path, *words)
-        lines = [without_names(it) for it in out.split(b"\n")[:-1]]
-        wanted = text_of(found, machine)
+        wanted = text_of(found, machine, types)
+        lines = out.split(b"\n")[:-1]
+        lines = [without_name(*it) for it in zip(lines, wanted)] + lines[len(wanted) :]
         other = next((it for it in zip(lines, wanted) if it[0] != it[1]), (len(lines), len(wanted)))
         tell((status, err) == (0, b"") and lines == wanted, f"scopes {words} of {what}", other)
 

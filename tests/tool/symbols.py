@@ -9,6 +9,7 @@ from struct import error, pack, unpack_from
 from across import container, numbers, padded
 from program import FILES, REAL, TOP, ran, tell
 from streams import File, u16, u32
+from typed import Types, behind_record
 
 FILES_MADE = 60
 # A folder with further files, if the caller names one.
@@ -350,28 +351,31 @@ def lists(file):
         at, k = end + -end % 4, k + 1
 
 
-def line_is(line, index, data, machine, read):
+def line_is(line, index, data, machine, read, types):
     """Whether a line is that of a record: whole, where the reading above is of its kind."""
     front = line.lstrip(b" ").split(b" ", 2)
     if front[0] != f"{index:08x}".encode():
         return False
     kind, rest = u16(data, 0), line.lstrip(b" ")[9 + len(front[1]) :]
     if kind in PARTS:
-        return rest == text_of(data, machine)
+        text = text_of(data, machine)
+        return rest == (text if text.startswith(b" error ") else text + behind_record(types, data))
     if processor(data) is not None:
         language = LANGUAGES.get(data[2], f"{data[2]:02x}")
         return rest.startswith(f" language={language} ".encode()) and (kind < 0x1100 or machine is None or b" cpu_type=" in rest)
+    if kind in read and b" error " not in rest:
+        return rest.endswith(behind_record(types, data))
     return kind in read or rest == b" bytes=" + data[2:].hex().encode()
 
 
 def compare_lists(what, path, read):
     with open(path, "rb") as it:
         file = File(it.read())
-    kinds = set()
+    kinds, types = set(), Types.of(file)
     for words, found, machine in lists(file):
         status, out, err = ran("symbols", path, *words)
         lines = out.split(b"\n")[:-1]
-        bad = [line for line, (index, data) in zip(lines, found) if not line_is(line, index, data, machine, read)]
+        bad = [line for line, (index, data) in zip(lines, found) if not line_is(line, index, data, machine, read, types)]
         tell(len(lines) == len(found) and not bad, f"symbols {words} of {what}", (len(lines), len(found), bad[:2]))
         kinds |= {u16(data, 0) for _, data in found}
         if what != "random records":

@@ -10,6 +10,7 @@ pub mod Results
 pub mod Refused
 pub mod Registers
 pub mod WrittenSoFar
+pub mod TypeLists
 pub mod FirstTexts
 pub mod Patterns
 pub mod SomeWord

@@ -1,5 +1,6 @@
 -- The texts of modules by their indices: of a list that was read, and of one that is refused.
-use Rattle.std.proofs.Common.{◌≡◌, ℕ, List, flat_map, Result, Ok, Err, ap}
+use Rattle.std.proofs.Common.{◌≡◌, ℕ, List, [], ◌∷◌, arith, flat_map, length, refl, Result, Ok, Err, ap}
+use Rattle.std.proofs.lemmas.Grind.{common_steps}
 use Rattle.pdb.specs.Error.{Error}
 use Rattle.pdb.specs.Refusal.{◌>>=◌}
 use Rattle.pdb.specs.Left.{Left}
@@ -7,7 +8,7 @@ use Rattle.pdb.specs.Modules.{ModuleEntry, modules_in}
 use Rattle.pdb.specs.ModuleStream.{ModuleBytes}
 use Rattle.pdb.specs.Answers.{debug_information_in}
 use Rattle.pdb_tool.specs.ErrorLine.{error_line, told}
-use Rattle.pdb_tool.specs.ModuleTexts.{are_several, place_in, places_text}
+use Rattle.pdb_tool.specs.ModuleTexts.{are_several, place_in, places_text, symbols_command, symbols_in}
 
 pub places_listed : (text : ModuleBytes → List ℕ) (file : List ℕ) (left : Left ModuleEntry) (ks : List ℕ) → (debug_information_in file >>= modules_in) ≡ Ok left
     → places_text text file ks ≡ flat_map (place_in (are_several ks) text file left) ks
@@ -16,3 +17,12 @@ places_listed text file left ks h = ap (λ (r : Result (Left ModuleEntry) Error)
 pub places_refused : (text : ModuleBytes → List ℕ) (file : List ℕ) (e : Error) (ks : List ℕ) → (debug_information_in file >>= modules_in) ≡ Err e
     → places_text text file ks ≡ flat_map (λ k. error_line e) ks
 places_refused text file e ks h = ap (λ (r : Result (Left ModuleEntry) Error). flat_map (λ k. told r (λ l. place_in (are_several ks) text file l k)) ks) h
+
+-- ---- the symbols of some modules, and the global ones
+
+pub some_symbols : (file ks : List ℕ) (k : ℕ) (rest : List ℕ) → ks ≡ k ∷ rest → symbols_command file ks ≡ places_text (symbols_in file) file ks
+some_symbols file ks k rest e = rw e refl
+
+pub no_symbols : (file ks : List ℕ) → length ks ≡ 0 → symbols_command file ks ≡ symbols_command file []
+no_symbols file [] e = refl
+no_symbols file (k ∷ ks) e = absurd (grind (arith, common_steps, e))

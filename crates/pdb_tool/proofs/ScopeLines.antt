@@ -2,15 +2,15 @@
 use Rattle.std.proofs.Common.{◌≡◌, ℕ, ◌+◌, Bool, true, false, cond, List, ◌++◌, reverse, length, Option, Result, OnOk, sym, ap, ◌∙◌}
 use Rattle.std.proofs.lemmas.List.{length-reverse}
 use Rattle.pdb.specs.Forms.{kind_at, record_at}
-use Rattle.pdb.specs.Qualified.{Qualified}
 use Rattle.pdb_records.specs.declared.machine.Machine.{Machine}
 use Rattle.pdb_tool.proofs.Results.{on_ok}
+use Rattle.pdb_tool.specs.LineNames.{Names}
 use Rattle.pdb_tool.specs.ScopeFrames.{innermost}
 use Rattle.pdb_tool.specs.ScopeTexts.{scope_line, symbol_lines}
 use Rattle.pdb_tool.specs.VariablePlaces.{behind_lines, is_of_ranges}
 use Rattle.pdb_tool.specs.declared.scope_frames.Bases.{Bases}
 
-module _ (names : ℕ → Option Qualified) (machine : Option Machine) (around : List Bases) (variable : Option Bool) (b : List ℕ) where
+module _ (names : Names) (machine : Option Machine) (around : List Bases) (variable : Option Bool) (b : List ℕ) where
   abbrev of_range : List ℕ
   of_range = behind_lines machine (innermost (reverse around)) (length (reverse around) + 1) variable b
 

@@ -7,10 +7,11 @@ use Rattle.pdb_tool.specs.ModuleLists.{modules_command}
 use Rattle.pdb_tool.specs.Operands.{word_of}
 use Rattle.pdb_tool.specs.SectionTexts.{sections_command}
 use Rattle.pdb_tool.specs.StreamTexts.{streams_command}
+use Rattle.pdb_tool.specs.TypeTexts.{types_command}
 use Rattle.pdb_tool.specs.declared.options.Form.{Form}
 use Rattle.pdb_tool.specs.declared.options.Form.TheVariants.{Text}
 use Rattle.pdb_tool.specs.declared.file_texts.FileText.{FileText}
-use Rattle.pdb_tool.specs.declared.file_texts.FileText.TheVariants.{AllSymbols, Code, Find, Lines, Modules, Scopes, Sections, Sources, Streams, Symbols, Where}
+use Rattle.pdb_tool.specs.declared.file_texts.FileText.TheVariants.{AllSymbols, Code, Find, Lines, Modules, Scopes, Sections, Sources, Streams, Symbols, Types, Where}
 
 -- the code at addresses, one after another; lines, scopes, symbols or files of modules; what has a name; lists
 abbrev pub file_text : List ℕ → FileText → List ℕ
@@ -19,6 +20,7 @@ file_text file (Lines ks) = lines_command file ks.now
 file_text file (Scopes ks) = scopes_command file ks.now
 file_text file (Symbols ks) = symbols_command file ks.now
 file_text file AllSymbols = all_symbols_command file
+file_text file (Types indices) = types_command file indices.now
 file_text file (Sources ks) = sources_command file ks.now
 file_text file (Find words) = find_command file (map word_of words.now)
 file_text file (Where asked) = where_command file (map source_view asked.now)

@@ -4,15 +4,16 @@ use Rattle.std.specs.Fmt.{decimal}
 use Rattle.pdb.specs.Error.{Error}
 use Rattle.pdb.specs.Refusal.{◌>>=◌}
 use Rattle.pdb.specs.Left.{Left}
-use Rattle.pdb.specs.Items.{ItemEntry}
 use Rattle.pdb.specs.Modules.{ModuleEntry, modules_in}
 use Rattle.pdb.specs.ModuleStream.{ModuleBytes}
 use Rattle.pdb.specs.Answers.{debug_information_in, global_symbols_in, item_at, module_info_in, string_table_in}
 use Rattle.pdb_resolve.specs.AsIfEmpty.{if_read}
-use Rattle.pdb_resolve.specs.FileParts.{items_listed}
-use Rattle.pdb_resolve.specs.AcrossModules.{call_name, global_id_in}
+use Rattle.pdb.specs.Container.{stream_of}
+use Rattle.pdb_resolve.specs.AcrossModules.{global_id_in}
+use Rattle.pdb_resolve.specs.ImportTables.{ImportTable, ids_by}
 use Rattle.pdb_tool.specs.ErrorLine.{error_line, fault_line, told}
 use Rattle.pdb_tool.specs.Values.{behind_blank}
+use Rattle.pdb_tool.specs.LineNames.{FileTables, Names, names_by_tables, tables_of}
 use Rattle.pdb_tool.specs.LineTexts.{lines_text}
 use Rattle.pdb_tool.specs.ScopeTexts.{scopes_text}
 use Rattle.pdb_tool.specs.SymbolTexts.{global_symbols_text, symbols_text}
@@ -108,25 +109,43 @@ modules_text text file (k ∷ ks) = places_text text file (k ∷ ks)
 
 -- ---- the commands
 
+-- what is outside all modules imports nothing
+abbrev pub no_imports : ImportTable
+no_imports = record { imports = []; exports = [] }
+
 -- `lines`: files have their names from the string table
 abbrev pub lines_command : List ℕ → List ℕ → List ℕ
 lines_command file ks = modules_text (lines_text (if_read (string_table_in file))) file ks
 
--- `scopes`: inlined functions have their names from ids and types
-abbrev pub scopes_in : List ItemEntry → List ItemEntry → List ℕ → ModuleBytes → List ℕ
-scopes_in ids types file m = scopes_text (call_name ids types file m) (file_machine file) m
+-- what names are found by in a file
+abbrev pub file_tables : List ℕ → FileTables
+file_tables file = tables_of (if_read (stream_of file 4 None)) (if_read (stream_of file 2 None)) (file_machine file)
+
+-- the names in a module of a file
+abbrev pub names_in : List ℕ → ModuleBytes → Names
+names_in file m = names_by_tables (file_tables file) (global_id_in file m)
+
+-- `scopes`: inlined functions and types have their names from ids and types
+abbrev pub scopes_in : List ℕ → ModuleBytes → List ℕ
+scopes_in file m = scopes_text (names_in file m) (file_machine file) m
 
 abbrev pub scopes_command : List ℕ → List ℕ → List ℕ
-scopes_command file ks = modules_text (scopes_in (items_listed file 4) (items_listed file 2) file) file ks
+scopes_command file ks = modules_text (scopes_in file) file ks
 
 -- `symbols`: those of modules, the global ones where there is no number
+abbrev pub symbols_in : List ℕ → ModuleBytes → List ℕ
+symbols_in file m = symbols_text (names_in file m) (file_machine file) m
+
+abbrev pub global_symbols_of : List ℕ → List ℕ → List ℕ
+global_symbols_of file b = global_symbols_text (names_by_tables (file_tables file) (ids_by no_imports)) (file_machine file) b
+
 abbrev pub symbols_command : List ℕ → List ℕ → List ℕ
-symbols_command file [] = told (global_symbols_in file) (global_symbols_text (file_machine file))
-symbols_command file (k ∷ ks) = places_text (symbols_text (file_machine file)) file (k ∷ ks)
+symbols_command file [] = told (global_symbols_in file) (global_symbols_of file)
+symbols_command file (k ∷ ks) = places_text (symbols_in file) file (k ∷ ks)
 
 -- `symbols --all`: those of all modules
 abbrev pub all_symbols_command : List ℕ → List ℕ
-all_symbols_command file = all_text (symbols_text (file_machine file)) file
+all_symbols_command file = all_text (symbols_in file) file
 
 -- `sources`: files have their names from the string table
 abbrev pub sources_command : List ℕ → List ℕ → List ℕ

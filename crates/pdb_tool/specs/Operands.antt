@@ -1,6 +1,7 @@
 -- The operands of a command: its arguments that are no options.
-use Rattle.std.specs.Prelude.{ℕ, ◌+◌, List, [], ◌∷◌, Bool, true, false, not, Option, Some, None, Result, Ok, Err, if◌then◌else◌}
+use Rattle.std.specs.Prelude.{ℕ, ◌+◌, List, [], ◌∷◌, Bool, true, false, not, Option, Some, None, Result, Ok, Err, if◌then◌else◌, nat_lt, option_and_then}
 use Rattle.std.specs.Str.{bytes_eq}
+use Rattle.pdb_tool.specs.Asked.{address_number}
 use Rattle.pdb_tool.specs.Options.{is_option, is_base, is_dashes}
 use Rattle.pdb_tool.specs.declared.options.Next.{Next}
 use Rattle.pdb_tool.specs.declared.options.Next.TheVariants.{Word, Value, Operand}
@@ -55,3 +56,12 @@ all_in of (w ∷ ws) = with_first (of w.word) (all_in of ws) w.place
 abbrev pub first_empty : List WordAt → Option ℕ
 first_empty [] = None
 first_empty (w ∷ ws) = if bytes_eq w.word [] then Some w.place else first_empty ws
+
+-- ---- indices of types
+
+abbrev pub small_index : ℕ → Option ℕ
+small_index n = if nat_lt n 4294967296 then Some n else None
+
+-- the index of a type that a word is: a number below 2^32, spelled as an address is
+abbrev pub type_index_in : List ℕ → Option ℕ
+type_index_in word = option_and_then small_index (address_number word)

@@ -6,6 +6,7 @@ use Rattle.pdb.specs.Error.TheVariants.{UnimplementedSymbolKind}
 use Rattle.pdb.specs.Refusal.{number_of}
 use Rattle.pdb.specs.Left.{Left}
 use Rattle.pdb.specs.Data.{Data, name_of}
+use Rattle.pdb.specs.Data.Data.{InlineSite}
 use Rattle.pdb.specs.Forms.{kind_at, record_at}
 use Rattle.pdb.specs.SymbolList.{Entry, symbols_from}
 use Rattle.pdb.specs.ModuleStream.{ModuleBytes, symbols_of}
@@ -15,6 +16,8 @@ use Rattle.pdb_records.specs.declared.machine.Machine.{Machine}
 use Rattle.pdb_text.specs.Digits.{hex}
 use Rattle.pdb_tool.specs.Depth.{blanks, depth_at, depth_behind}
 use Rattle.pdb_tool.specs.ErrorLine.{fault_line, told}
+use Rattle.pdb_tool.specs.LineNames.{Names, declared_type, typed_text}
+use Rattle.pdb_tool.specs.QualifiedTexts.{behind_qualified}
 use Rattle.pdb_tool.specs.Values.{behind_blank}
 use Rattle.pdb_tool.specs.ValueTexts.{kind_text}
 use Rattle.pdb_tool.specs.FieldTexts.{fields_text}
@@ -44,35 +47,40 @@ abbrev pub further_text : Option Machine → List ℕ → Result Says Error → 
 further_text machine b (Ok says) = says_text machine says
 further_text machine b (Err e) = unread_text b e
 
--- a record: its fields and its name. One of a kind without a layout is read as a further record
-abbrev pub parsed_text : Option Machine → List ℕ → Result Data Error → List ℕ
-parsed_text machine b (Ok d) = fields_text machine b d ++ name_text (name_of d)
-parsed_text machine b (Err e) = if lacks_layout e then further_text machine b (further_at b) else unread_text b e
+-- the name of what a record tells; that of the function of an inlined call
+abbrev pub declared_name : Names → Data → List ℕ
+declared_name names (InlineSite s) = behind_qualified (names.called s.inlinee.0)
+declared_name names d = name_text (name_of d)
 
-abbrev pub record_text : Option Machine → List ℕ → List ℕ
-record_text machine b = parsed_text machine b (record_at b)
+-- a record: its fields, its name, and the name of its type. One of a kind without a layout is read as a further record
+abbrev pub parsed_text : Names → Option Machine → List ℕ → Result Data Error → List ℕ
+parsed_text names machine b (Ok d) = fields_text machine b d ++ declared_name names d ++ typed_text names (declared_type names (kind_at b) d)
+parsed_text names machine b (Err e) = if lacks_layout e then further_text machine b (further_at b) else unread_text b e
+
+abbrev pub record_text : Names → Option Machine → List ℕ → List ℕ
+record_text names machine b = parsed_text names machine b (record_at b)
 
 -- the line of a symbol at a depth
-unfoldable pub symbol_line : Option Machine → ℕ → Entry → List ℕ
-symbol_line machine depth s = blanks depth ++ hex 8 s.index ++ codes " " ++ kind_text (kind_at s.bytes) ++ record_text machine s.bytes ++ codes "\n"
+unfoldable pub symbol_line : Names → Option Machine → ℕ → Entry → List ℕ
+symbol_line names machine depth s = blanks depth ++ hex 8 s.index ++ codes " " ++ kind_text (kind_at s.bytes) ++ record_text names machine s.bytes ++ codes "\n"
 
 -- the lines of symbols behind records that leave this depth
-abbrev pub symbol_lines : Option Machine → ℕ → List Entry → List ℕ
-symbol_lines machine depth [] = []
-symbol_lines machine depth (s ∷ ss) = symbol_line machine (depth_at depth (kind_at s.bytes)) s ++ symbol_lines machine (depth_behind depth (kind_at s.bytes)) ss
+abbrev pub symbol_lines : Names → Option Machine → ℕ → List Entry → List ℕ
+symbol_lines names machine depth [] = []
+symbol_lines names machine depth (s ∷ ss) = symbol_line names machine (depth_at depth (kind_at s.bytes)) s ++ symbol_lines names machine (depth_behind depth (kind_at s.bytes)) ss
 
 -- the lines of the symbols that are left, and then that of the fault
-abbrev pub symbol_list_text : Option Machine → ℕ → Left Entry → List ℕ
-symbol_list_text machine depth left = symbol_lines machine depth left.items ++ fault_line left.fault
+abbrev pub symbol_list_text : Names → Option Machine → ℕ → Left Entry → List ℕ
+symbol_list_text names machine depth left = symbol_lines names machine depth left.items ++ fault_line left.fault
 
 -- those of a module, on its machine
-abbrev pub module_symbols_text : Option Machine → Left Entry → List ℕ
-module_symbols_text header left = symbol_list_text (module_machine header left.items) 0 left
+abbrev pub module_symbols_text : Names → Option Machine → Left Entry → List ℕ
+module_symbols_text names header left = symbol_list_text names (module_machine header left.items) 0 left
 
 -- those of a module, or their error; the machine of the header counts where the symbols name none
-unfoldable pub symbols_text : Option Machine → ModuleBytes → List ℕ
-symbols_text header m = told (symbols_of m) (module_symbols_text header)
+unfoldable pub symbols_text : Names → Option Machine → ModuleBytes → List ℕ
+symbols_text names header m = told (symbols_of m) (module_symbols_text names header)
 
 -- those of the stream of global symbols
-unfoldable pub global_symbols_text : Option Machine → List ℕ → List ℕ
-global_symbols_text header b = symbol_list_text header 0 (symbols_from b 0)
+unfoldable pub global_symbols_text : Names → Option Machine → List ℕ → List ℕ
+global_symbols_text names header b = symbol_list_text names header 0 (symbols_from b 0)

@@ -1,6 +1,7 @@
 -- How the values of fields are told.
 use Rattle.std.specs.Prelude.{ℕ, Bool, true, false, List, [], ◌∷◌, ◌++◌, Option, Some, None, codes, flat_map, ◌==◌, if◌then◌else◌}
 use Rattle.std.specs.Fmt.{decimal, signed_decimal}
+use Rattle.std.specs.Int.{cast_signed, w8}
 use Rattle.pdb_base.specs.declared.index.Register.{Register}
 use Rattle.pdb_base.specs.declared.index.SymbolIndex.{SymbolIndex}
 use Rattle.pdb_base.specs.declared.variant.Variant.{Variant}
@@ -46,8 +47,9 @@ abbrev pub optional_index_text : Option SymbolIndex → List ℕ
 optional_index_text None = codes "-"
 optional_index_text (Some i) = hex 8 i.0
 
+-- a byte stands behind the prefix LF_CHAR alone, and has a sign
 abbrev pub variant_text : Variant → List ℕ
-variant_text (U8 n) = decimal n
+variant_text (U8 n) = signed_decimal (cast_signed w8 n)
 variant_text (U16 n) = decimal n
 variant_text (U32 n) = decimal n
 variant_text (U64 n) = decimal n

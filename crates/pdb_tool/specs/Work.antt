@@ -1,7 +1,7 @@
 -- What the program has to do, by its arguments alone.
 use Rattle.std.specs.Prelude.{ℕ, List, [], ◌∷◌, drop, length, map, Option, Some, None, Result, Ok, Err, if◌then◌else◌}
 use Rattle.pdb_text.specs.Numbers.{number_in}
-use Rattle.pdb_tool.specs.Operands.{WordAt, all_in, first_empty, operand_view, operands_of}
+use Rattle.pdb_tool.specs.Operands.{WordAt, all_in, first_empty, operand_view, operands_of, type_index_in}
 use Rattle.pdb_tool.specs.Options.{with_base_of}
 use Rattle.pdb_tool.specs.Questions.{question_of}
 use Rattle.pdb_tool.specs.SourcesAsked.{SourceOf, source_of}
@@ -31,6 +31,7 @@ pub data Task : Type 0 where
   scopes : WordAt → List ℕ → Task
   symbols : WordAt → List ℕ → Task
   all_symbols : WordAt → Task
+  types : WordAt → List ℕ → Task
   sources : WordAt → List ℕ → Task
   finds : WordAt → List WordAt → Task
   wheres : WordAt → List SourceOf → Task
@@ -49,6 +50,7 @@ task_of (work.Lines f ks) = lines (operand_view f) ks.items
 task_of (work.Scopes f ks) = scopes (operand_view f) ks.items
 task_of (work.Symbols f ks) = symbols (operand_view f) ks.items
 task_of (work.AllSymbols f) = all_symbols (operand_view f)
+task_of (work.Types f indices) = types (operand_view f) indices.items
 task_of (work.Sources f ks) = sources (operand_view f) ks.items
 task_of (work.Find f names) = finds (operand_view f) (map operand_view names.items)
 task_of (work.Where f asked) = wheres (operand_view f) (map source_view asked.items)
@@ -99,6 +101,7 @@ over_file topic.Resolve o f rest n = judged (resolve o f rest) (all_in (question
 over_file topic.Lines o f rest n = given (lines f) (all_in number_in rest)
 over_file topic.Scopes o f rest n = given (scopes f) (all_in number_in rest)
 over_file topic.Symbols o f rest n = if o.all then ending (all_symbols f) rest else given (symbols f) (all_in number_in rest)
+over_file topic.Types o f rest n = given (types f) (all_in type_index_in rest)
 over_file topic.Sources o f rest n = given (sources f) (all_in number_in rest)
 over_file topic.Key o f rest n = Ok (keys o.form f rest)
 over_file topic.Check o f rest n = Ok (checks f rest)

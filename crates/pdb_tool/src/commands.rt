@@ -1,20 +1,25 @@
 //! The commands that go over a file's modules.
 
-ghost use Rattle.std.specs.Prelude.{◌≡◌, ◌⊎◌, [], true, flat_map, map, option_copied, None, Ok, Err, IfOk, IfErr, OnOk, OnErr, IsErrOf};
+ghost use Rattle.std.specs.Prelude.{◌≡◌, ◌++◌, ◌⊎◌, [], true, flat_map, map, option_copied, None, Ok, Err, IfOk, IfErr, OnOk, OnErr, IsErrOf};
 ghost use Rattle.std.specs.Io.KnownBytes.{Appends};
 ghost use Rattle.pdb.specs.Container.{opens, stream_of};
 ghost use Rattle.pdb.specs.Error.{Error};
 ghost use Rattle.pdb.specs.Answers.{global_symbols_in, string_table_in};
 ghost use Rattle.pdb.specs.Source.{Continues};
 ghost use Rattle.pdb_resolve.specs.AsIfEmpty.{if_read};
-ghost use Rattle.pdb_resolve.specs.FileParts.{items_listed, items_where};
+ghost use Rattle.pdb_resolve.specs.FileParts.{items_where};
+ghost use Rattle.pdb_resolve.specs.ImportTables.{ids_by};
 ghost use Rattle.pdb_text.specs.Written.{WroteFront};
+ghost use Rattle.pdb_types.specs.FullTypes.{definitions_among, first_definition};
 ghost use Rattle.pdb_tool.specs.ErrorLine.{told};
+ghost use Rattle.pdb_tool.specs.LineNames.{names_from};
 ghost use Rattle.pdb_tool.specs.LineTexts.{lines_text};
-ghost use Rattle.pdb_tool.specs.SymbolTexts.{global_symbols_text, symbols_text};
-ghost use Rattle.pdb_tool.specs.ModuleTexts.{all_symbols_command, in_file, lines_command, modules_text, place_text, scopes_command, symbols_command};
+ghost use Rattle.pdb_tool.specs.LineViews.{names_of_lines};
+ghost use Rattle.pdb_tool.specs.SymbolTexts.{global_symbols_text};
+ghost use Rattle.pdb_tool.specs.ModuleTexts.{all_symbols_command, in_file, lines_command, modules_text, no_imports, place_text, scopes_command, symbols_command};
 ghost use Rattle.pdb_tool.specs.declared.stop.Stop.{Stop};
 
+use crate::line_names::LineNames;
 use crate::line_texts::put_lines;
 use crate::module_machine::machine_of_file;
 use crate::module_texts::{ModuleText, write_all, write_places, write_refused};
@@ -23,11 +28,13 @@ use crate::scope_texts::put_scopes;
 use crate::stop::{Stop, stop_of};
 use crate::symbol_texts::{put_global_symbols, put_symbols_of};
 use pdb::{
-    Error, IdInformation, ItemFinder, ModuleInfo, PDB, Source, StringTable, TypeInformation,
+    Error, IdInformation, ItemFinder, ModuleInfo, PDB, Source, StringTable, SymbolTable,
+    TypeInformation,
 };
 use pdb_records::Machine;
-use pdb_resolve::{CallNames, GlobalIds, ids_of, types_of};
+use pdb_resolve::{GlobalIds, ids_of, types_of};
 use pdb_text::write_out;
+use pdb_types::TypeDefinitions;
 use std::alloc::{AllocError, Global};
 use std::io::Write;
 
@@ -58,20 +65,36 @@ impl<'a> ModuleText for Lines<'a> {
     }
 }
 
-/// The scopes of modules, with the names of inlined functions from ids and types, by the machine of the header where a
-/// module names none.
+/// What the names at the ends of lines are found by, in all modules of a file, and the machine of the header.
 #[derive(Drop)]
-struct Scopes<'a> {
+struct Tables<'a> {
     ids: ItemFinder<'a>,
     types: ItemFinder<'a>,
+    definitions: TypeDefinitions<'a>,
     header: Option<Machine>,
 }
 
+impl<'a> Tables<'a> {
+    // The names by the ids that the whole file knows.
+    fn names<'x>(&'x self, global: &'x GlobalIds<'x>) -> LineNames<'x, 'a>
+        ensures { names_of_lines result ≡ names_from self.now.ids self.now.types (first_definition self.now.definitions) (ids_by global.now) }
+    {
+        LineNames::new(&self.ids, &self.types, &self.definitions, global)
+    }
+}
+
+/// The scopes of modules, by the machine of the header where a module names none.
+#[derive(Drop)]
+struct Scopes<'a> {
+    tables: Tables<'a>,
+}
+
 impl<'a> ModuleText for Scopes<'a> {
-    ghost use Rattle.pdb_resolve.specs.AcrossModules.{names_by};
+    ghost use Rattle.pdb_types.specs.FullTypes.{first_definition};
+    ghost use Rattle.pdb_tool.specs.LineNames.{names_from};
     ghost use Rattle.pdb_tool.specs.ScopeTexts.{scopes_text};
 
-    ghost text = { λ s ids. scopes_text (names_by s.ids s.types ids) s.header };
+    ghost text = { λ s ids. scopes_text (names_from s.tables.ids s.tables.types (first_definition s.tables.definitions) ids) s.tables.header };
 
     fn names_calls(&self) -> bool {
         true
@@ -84,24 +107,31 @@ impl<'a> ModuleText for Scopes<'a> {
         info: &ModuleInfo<'_>,
         global: &GlobalIds<'_>,
     ) -> Result<(), AllocError> {
-        let names = CallNames::new(&self.ids, &self.types, global);
-        put_scopes(alloc, out, &names, self.header, info)
+        put_scopes(
+            alloc,
+            out,
+            self.tables.names(global),
+            self.tables.header,
+            info,
+        )
     }
 }
 
 /// The symbols of modules, by the machine of the header where a module names none.
 #[derive(Drop)]
-struct Symbols {
-    header: Option<Machine>,
+struct Symbols<'a> {
+    tables: Tables<'a>,
 }
 
-impl ModuleText for Symbols {
+impl<'a> ModuleText for Symbols<'a> {
+    ghost use Rattle.pdb_types.specs.FullTypes.{first_definition};
+    ghost use Rattle.pdb_tool.specs.LineNames.{names_from};
     ghost use Rattle.pdb_tool.specs.SymbolTexts.{symbols_text};
 
-    ghost text = { λ s ids. symbols_text s.header };
+    ghost text = { λ s ids. symbols_text (names_from s.tables.ids s.tables.types (first_definition s.tables.definitions) ids) s.tables.header };
 
     fn names_calls(&self) -> bool {
-        false
+        true
     }
 
     fn put(
@@ -109,9 +139,15 @@ impl ModuleText for Symbols {
         alloc: Global,
         out: &mut Vec<u8>,
         info: &ModuleInfo<'_>,
-        _global: &GlobalIds<'_>,
+        global: &GlobalIds<'_>,
     ) -> Result<(), AllocError> {
-        put_symbols_of(alloc, out, self.header, info)
+        put_symbols_of(
+            alloc,
+            out,
+            self.tables.names(global),
+            self.tables.header,
+            info,
+        )
     }
 }
 
@@ -203,27 +239,46 @@ pub fn write_lines<'s, S: Source<'s>, W: Write>(
     write_modules(alloc, &mut pdb, &lines, places, out)
 }
 
-/// The texts of scopes by these streams of ids and types.
-fn scopes_by<'a>(
+/// The full definitions among the types of a stream; none where the stream isn't there or has an error.
+#[tactic(auto, unfolding(pdb_types::specs::FullTypes::definitions_among, pdb_items::specs::Items::known_items_in))]
+pub fn definitions_of<'a>(
+    alloc: Global,
+    types: Option<&'a TypeInformation<'a>>,
+) -> Result<TypeDefinitions<'a>, AllocError>
+    ensures { IfOk result (λ d. first_definition d ≡ first_definition (definitions_among (items_where (option_copied types.entry)))) }
+{
+    let Some(types) = types else {
+        return Ok(TypeDefinitions::empty(alloc));
+    };
+    match types.iter() {
+        Ok(items) => TypeDefinitions::new(alloc, items),
+        Err(_) => Ok(TypeDefinitions::empty(alloc)),
+    }
+}
+
+/// What names are found by, from these streams of ids and types.
+fn tables_by<'a>(
     alloc: Global,
     ids: Option<&'a IdInformation<'a>>,
     types: Option<&'a TypeInformation<'a>>,
     header: Option<Machine>,
-) -> Result<Scopes<'a>, Stop>
-    ensures ids { IfOk result (λ s. s.ids ≡ items_where (option_copied ids.entry)) }
-    ensures types { IfOk result (λ s. s.types ≡ items_where (option_copied types.entry)) }
-    ensures header { IfOk result (λ s. s.header ≡ header) }
+) -> Result<Tables<'a>, Stop>
+    ensures ids { IfOk result (λ t. t.ids ≡ items_where (option_copied ids.entry)) }
+    ensures types { IfOk result (λ t. t.types ≡ items_where (option_copied types.entry)) }
+    ensures definitions { IfOk result (λ t. first_definition t.definitions ≡ first_definition (definitions_among (items_where (option_copied types.entry)))) }
+    ensures header { IfOk result (λ t. t.header ≡ header) }
     ensures unwritten { IfErr result (λ e. (e ≡ Stop.Memory) ⊎ (e ≡ Stop.Read)) }
 {
-    Ok(Scopes {
+    Ok(Tables {
         ids: ids_of(alloc, ids).map_err(stop_of)?,
         types: types_of(alloc, types).map_err(stop_of)?,
+        definitions: definitions_of(alloc, types)?,
         header,
     })
 }
 
 /// Writes the scopes of modules of a source's file.
-#[tactic(auto, unfolding(pdb_resolve::specs::FileParts::items_listed), using(pdb_text::proofs::Written::any_err, crate::proofs::AnsweredLines::front_none))]
+#[tactic(auto, using(pdb_text::proofs::Written::any_err, crate::proofs::AnsweredLines::front_none))]
 pub fn write_scopes<'s, S: Source<'s>, W: Write>(
     alloc: Global,
     source: S,
@@ -239,27 +294,53 @@ pub fn write_scopes<'s, S: Source<'s>, W: Write>(
     let ids = ids_stream(&mut pdb)?;
     let types = types_stream(&mut pdb)?;
     let header = machine_of_file(&mut pdb)?;
-    let scopes = scopes_by(alloc, ids.as_ref(), types.as_ref(), header)?;
-    write_modules(alloc, &mut pdb, &scopes, places, out)
+    let tables = tables_by(alloc, ids.as_ref(), types.as_ref(), header)?;
+    write_modules(alloc, &mut pdb, &Scopes { tables }, places, out)
 }
 
-/// Writes the global symbols of an opened file whose header names a machine.
+/// The text of the global symbols, by what names are found by, and by these ids of other modules.
+fn put_globals_by(
+    alloc: Global,
+    out: &mut Vec<u8>,
+    tables: &Tables<'_>,
+    global: &GlobalIds<'_>,
+    symbols: &SymbolTable<'_>,
+) -> Result<(), AllocError>
+    ensures { OnOk result (out.new.items ≡ out.old.items ++ global_symbols_text (names_from tables.now.ids tables.now.types (first_definition tables.now.definitions) (ids_by global.now)) tables.now.header symbols.now) }
+{
+    put_global_symbols(alloc, out, tables.names(global), tables.header, symbols)
+}
+
+/// The text of the global symbols, which import no ids, by what names are found by.
+fn put_globals(
+    alloc: Global,
+    out: &mut Vec<u8>,
+    tables: &Tables<'_>,
+    symbols: &SymbolTable<'_>,
+) -> Result<(), AllocError>
+    ensures { OnOk result (out.new.items ≡ out.old.items ++ global_symbols_text (names_from tables.now.ids tables.now.types (first_definition tables.now.definitions) (ids_by no_imports)) tables.now.header symbols.now) }
+{
+    let global = GlobalIds::empty(alloc);
+    put_globals_by(alloc, out, tables, &global, symbols)
+}
+
+/// Writes the global symbols of an opened file, by what names are found by.
 fn write_globals<'s, S: Source<'s>, W: Write>(
     alloc: Global,
     pdb: &mut PDB<'s, S>,
-    header: Option<Machine>,
+    tables: &Tables<'_>,
     out: &mut W,
 ) -> Result<(), Stop>
     ensures opened { (e : Error) → IsErrOf result (Stop.Open e) → ⊥ }
-    ensures ok { OnOk result (Appends (W.contents out.old) (W.contents out.new) (told (global_symbols_in pdb.old.file) (global_symbols_text header))) }
-    ensures front { OnErr result (WroteFront (W.contents out.old) (W.contents out.new) (told (global_symbols_in pdb.old.file) (global_symbols_text header))) }
+    ensures ok { OnOk result (Appends (W.contents out.old) (W.contents out.new) (told (global_symbols_in pdb.old.file) (global_symbols_text (names_from tables.now.ids tables.now.types (first_definition tables.now.definitions) (ids_by no_imports)) tables.now.header))) }
+    ensures front { OnErr result (WroteFront (W.contents out.old) (W.contents out.new) (told (global_symbols_in pdb.old.file) (global_symbols_text (names_from tables.now.ids tables.now.types (first_definition tables.now.definitions) (ids_by no_imports)) tables.now.header))) }
 {
     let symbols = match pdb.global_symbols() {
         Ok(symbols) => symbols,
         Err(e) => return write_refused(alloc, e, out),
     };
     let mut text = Vec::new(alloc);
-    put_global_symbols(alloc, &mut text, header, &symbols)?;
+    put_globals(alloc, &mut text, tables, &symbols)?;
     write_out(out, &text)?;
     Ok(())
 }
@@ -276,11 +357,13 @@ fn write_numbered<'s, S: Source<'s>, W: Write>(
     ensures ok { OnOk result (Appends (W.contents out.old) (W.contents out.new) (symbols_command pdb.old.file places.now)) }
     ensures front { OnErr result (WroteFront (W.contents out.old) (W.contents out.new) (symbols_command pdb.old.file places.now)) }
 {
+    let ids = ids_stream(pdb)?;
+    let types = types_stream(pdb)?;
     let header = machine_of_file(pdb)?;
-    if places.is_empty() {
-        write_globals(alloc, pdb, header, out)
-    } else {
-        write_places(alloc, pdb, &Symbols { header }, places, out)
+    let tables = tables_by(alloc, ids.as_ref(), types.as_ref(), header)?;
+    match places.split_first() {
+        Some(_) => write_places(alloc, pdb, &Symbols { tables }, places, out),
+        None => write_globals(alloc, pdb, &tables, out),
     }
 }
 
@@ -314,6 +397,9 @@ pub fn write_all_symbols<'s, S: Source<'s>, W: Write>(
     ensures front { OnErr result (WroteFront (W.contents out.old) (W.contents out.new) (all_symbols_command (S.state source).file)) }
 {
     let mut pdb = opened(alloc, source)?;
+    let ids = ids_stream(&mut pdb)?;
+    let types = types_stream(&mut pdb)?;
     let header = machine_of_file(&mut pdb)?;
-    write_all(alloc, &mut pdb, &Symbols { header }, out)
+    let tables = tables_by(alloc, ids.as_ref(), types.as_ref(), header)?;
+    write_all(alloc, &mut pdb, &Symbols { tables }, out)
 }

@@ -19,6 +19,7 @@ use crate::section_texts::write_sections;
 use crate::sources_asked::SourceAsked;
 use crate::stop::Stop;
 use crate::stream_texts::write_streams;
+use crate::type_texts::write_types;
 use pdb::Source;
 use std::alloc::Global;
 use std::io::Write;
@@ -37,6 +38,8 @@ pub enum FileText<'a> {
     Symbols(&'a [u32]),
     /// The symbols of all modules.
     AllSymbols,
+    /// The types of these indices; all where there is none.
+    Types(&'a [u32]),
     /// The source files of the modules of these numbers.
     Sources(&'a [u32]),
     /// The functions and data whose names match one of these words.
@@ -82,6 +85,7 @@ pub fn write_text<'s, S: Source<'s>, W: Write>(
         FileText::Scopes(places) => write_scopes(alloc, source, places, out),
         FileText::Symbols(places) => write_symbols(alloc, source, places, out),
         FileText::AllSymbols => write_all_symbols(alloc, source, out),
+        FileText::Types(indices) => write_types(alloc, source, indices, out),
         FileText::Sources(places) => write_sources(alloc, source, places, out),
         FileText::Find(words) => write_find(alloc, source, words, out),
         FileText::Where(asked) => write_where(alloc, source, asked, out),

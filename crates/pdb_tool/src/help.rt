@@ -6,9 +6,9 @@ use crate::words::Topic;
 pub const VERSION: &str = "pdb_tool 0.1.0\n";
 
 /// The commands, in the order of help.
-pub const COMMANDS: [&str; 14] = [
-    "resolve", "find", "where", "lines", "scopes", "symbols", "sources", "modules", "sections",
-    "streams", "key", "check", "help", "version",
+pub const COMMANDS: [&str; 15] = [
+    "resolve", "find", "where", "lines", "scopes", "symbols", "types", "sources", "modules",
+    "sections", "streams", "key", "check", "help", "version",
 ];
 
 const OVERVIEW: &str = "\
@@ -20,6 +20,7 @@ pdb_tool prints what Microsoft symbol files (PDB) say about a program.
   pdb_tool lines FILE [K..]                       line records of modules
   pdb_tool scopes FILE [K..]                      functions, blocks, variables, inlined calls
   pdb_tool symbols [--all] FILE [K..]             symbol records with all their fields
+  pdb_tool types FILE [INDEX..]                   types, with their sizes and members
   pdb_tool sources FILE [K..]                     source files of modules
   pdb_tool modules FILE                           modules (object files), with their sizes
   pdb_tool sections FILE                          section headers of the image
@@ -137,14 +138,15 @@ procedures, thunks, blocks and separated code with SECTION:OFFSET in hex and the
 data and labels with SECTION:OFFSET, inlined functions, and variables with the register or the
 memory in which they are: eax, [rsp+40]. Behind a local stands a line for each stretch of code in
 which it is somewhere, with SECTION:OFFSET and a size in bytes; +4: is a part of it, from byte 4 on.
-Each scope is indented by two blanks, up to 64. Several modules and damage are printed as by lines.
+Behind a name and a colon is the type, as C++ writes it; ?? if the file doesn't have it. Each scope
+is indented by two blanks, up to 64. Several modules and damage are printed as by lines.
 
   $ pdb_tool scopes app.pdb
-  procedure 0001:00000100 48 main
-    relative [rsp+40] count
-    local index
+  procedure 0001:00000100 48 main: int (int, char**)
+    relative [rsp+40] count: int
+    local index: unsigned
       ecx 0001:00000108 16
-    inlined nested
+    inlined nested: int (int)
 ";
 
 const SYMBOLS: &str = "\
@@ -152,14 +154,35 @@ pdb_tool symbols [--all] FILE [K..]
 
 Prints the symbol records of the modules with these indices, counted from 0, with --all those of
 all modules, or else the global symbols. Each record is indented by its scopes, as by scopes: its
-index in hex, its kind as cvinfo.h names it, its fields, and its name. Registers have their names
-on the machine that the module names, or else the file. A record of a kind that isn't read is
-printed as its bytes, a damaged one as `error N` and its bytes. Several modules are printed as by
-lines.
+index in hex, its kind as cvinfo.h names it, its fields, its name, and behind a colon its type, as
+by scopes. Registers have their names on the machine that the module names, or else the file. A
+record of a kind that isn't read is printed as its bytes, a damaged one as `error N` and its bytes.
+Several modules are printed as by lines.
 
   $ pdb_tool symbols app.pdb
   00000000 S_PUB32 code=false function=true managed=false msil=false offset=0001:00000100 main
-  00000014 S_UDT type_index=00000670 va_list
+  00000014 S_UDT type_index=00000670 va_list: char*
+";
+
+const TYPES: &str = "\
+pdb_tool types FILE [INDEX..]
+
+Prints the types with these indices, which are hex, or else all types of the file: the index, the
+kind as cvinfo.h names it, the size in bytes, and the name. A type that is only declared has
+`forward=` and the index of its definition, or - if the file has none. Behind the name of an
+enumeration is its underlying type. Under a type are its members, by two blanks: their offsets in
+bytes, the first bit of a bit field, who may use them, unless everybody may, and their names and
+types. entry is the offset of a virtual function in its table. An index below 1000 is a type that
+the file doesn't describe, as int; one that the file doesn't have is ??. Damage is printed as by
+lines; a list of members is cut behind 1024 parts, and names are cut behind 65536 bytes, at <...>.
+
+  $ pdb_tool types app.pdb 102f 1016
+  0000102f LF_STRUCTURE size=16 point
+    member offset=0 x: int
+    member offset=8 access=private next: point*
+    method kind=virtual entry=0 length: int () const
+  00001016 LF_ENUM size=4 colour: int
+    enumerator value=-1 none
 ";
 
 const SOURCES: &str = "\
@@ -258,6 +281,8 @@ const WHERE_USAGE: &str = "usage: pdb_tool where FILE SOURCE[:LINE[-LINE]]..\n";
 
 const SOURCES_USAGE: &str = "usage: pdb_tool sources FILE [K..]\n";
 
+const TYPES_USAGE: &str = "usage: pdb_tool types FILE [INDEX..]\n";
+
 const MODULES_USAGE: &str = "usage: pdb_tool modules [--json] FILE\n";
 
 const SECTIONS_USAGE: &str = "usage: pdb_tool sections [--json] FILE\n";
@@ -293,6 +318,7 @@ pub fn help_of(topic: Option<Topic>) -> &'static str {
         Some(Topic::Modules) => MODULES,
         Some(Topic::Sections) => SECTIONS,
         Some(Topic::Streams) => STREAMS,
+        Some(Topic::Types) => TYPES,
     }
 }
 
@@ -312,5 +338,6 @@ pub fn usage_of(topic: Option<Topic>) -> &'static str {
         Some(Topic::Modules) => MODULES_USAGE,
         Some(Topic::Sections) => SECTIONS_USAGE,
         Some(Topic::Streams) => STREAMS_USAGE,
+        Some(Topic::Types) => TYPES_USAGE,
     }
 }

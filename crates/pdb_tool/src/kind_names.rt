@@ -227,7 +227,7 @@ pub(crate) static ZERO_ENDED_NAMES: [&str; 102] = [
 pub(crate) static LATEST_NAMES: [&str; 3] = ["S_FASTLINK", "S_INLINEES", "S_HOTPATCHFUNC"];
 
 /// The name of a kind among those from a first one on.
-fn name_in(names: &'static [&'static str], first: u16, kind: u16) -> Option<&'static str>
+pub(crate) fn name_in(names: &'static [&'static str], first: u16, kind: u16) -> Option<&'static str>
     requires { first ≤ kind }
     ensures { option_map (λ s. s.now) result ≡ name_in (map (λ s. s.now) names.now) first kind }
 {

@@ -31,9 +31,11 @@ mod key;
 mod key_line;
 mod key_objects;
 mod kind_names;
+mod line_names;
 mod line_texts;
 mod list_help;
 mod lookups;
+mod member_texts;
 mod mistakes;
 mod module_lists;
 mod module_machine;
@@ -44,6 +46,7 @@ mod opening;
 mod operands;
 mod options;
 mod output;
+mod qualified_texts;
 mod question;
 mod record_code;
 mod record_fields;
@@ -69,6 +72,10 @@ mod stream_roles;
 mod stream_texts;
 mod symbol_texts;
 mod text_asked;
+mod type_kinds;
+mod type_lines;
+mod type_names;
+mod type_texts;
 mod values;
 mod values_forms;
 mod variable_places;
@@ -387,6 +394,7 @@ fn run<R: Files<File = File> + Input + AllocGlobal, W: Write, E: Write>(
         }
         Work::Lines(file, ks) => print_all(host, file, FileText::Lines(&ks), streams),
         Work::Scopes(file, ks) => print_all(host, file, FileText::Scopes(&ks), streams),
+        Work::Types(file, indices) => { print_all(host, file, FileText::Types(&indices), streams) }
         Work::Symbols(file, ks) => print_all(host, file, FileText::Symbols(&ks), streams),
         Work::AllSymbols(file) => print_all(host, file, FileText::AllSymbols, streams),
         Work::Sources(file, ks) => print_all(host, file, FileText::Sources(&ks), streams),

@@ -2,13 +2,14 @@
 
 ghost use Rattle.std.specs.Prelude.{◌≡◌, ◌+◌, ◌<◌, ◌^◌, map, string_bytes, length, IfOk};
 ghost use Rattle.pdb_text.specs.Numbers.{number_in};
-ghost use Rattle.pdb_tool.specs.Operands.{all_in, behind_plain, behind_word, first_empty, is_operand, operand_view, operands_of};
+ghost use Rattle.pdb_tool.specs.Operands.{all_in, behind_plain, behind_word, first_empty, is_operand, operand_view, operands_of, type_index_in};
 ghost use Rattle.pdb_tool.specs.SourcesAsked.{source_of};
 ghost use Rattle.pdb_tool.specs.SourceViews.{source_view};
 ghost use Rattle.pdb_tool.specs.Questions.{question_of, question_view};
 ghost use Rattle.pdb_tool.specs.Words.{Tells};
 ghost use Rattle.pdb_tool.specs.declared.options.Next.{Next};
 
+use crate::asked::address_number;
 use crate::options::{Next, Options, is_base, is_dashes, is_option};
 use crate::question::{Question, question_of};
 use crate::sources_asked::{SourceAsked, source_of};
@@ -112,6 +113,28 @@ pub fn all_numbers(alloc: Global, words: &[Operand<'_>]) -> Result<Vec<u32>, Wor
     for operand in words {
         match number_in(operand.word) {
             Some(number) => all.push(number)?,
+            None => return Err(WordsError::BadWord(operand.place)),
+        }
+    }
+    Ok(all)
+}
+
+/// The index of a type that a word is: a number below 2^32, spelled as an address is.
+fn type_index_in(word: &[u8]) -> Option<u32>
+    ensures { result ≡ type_index_in word.now }
+{
+    u32::try_from(address_number(word)?).ok()
+}
+
+/// The indices of types that operands are.
+#[tactic(auto, using(crate::proofs::AllWords::all_there, crate::proofs::AllWords::begins, crate::proofs::AllWords::none_there, crate::proofs::AllWords::one_more))]
+pub fn all_indices(alloc: Global, words: &[Operand<'_>]) -> Result<Vec<u32>, WordsError>
+    ensures { Tells (λ v. v.items) result (all_in type_index_in (map operand_view words.now)) }
+{
+    let mut all = Vec::new(alloc);
+    for operand in words {
+        match type_index_in(operand.word.as_bytes()) {
+            Some(index) => all.push(index)?,
             None => return Err(WordsError::BadWord(operand.place)),
         }
     }

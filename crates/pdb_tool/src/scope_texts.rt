@@ -5,34 +5,36 @@ ghost use Rattle.std.specs.Option.{option_map};
 ghost use Rattle.std.specs.Fmt.{decimal};
 ghost use Rattle.pdb.specs.Data.{shown};
 ghost use Rattle.pdb.specs.Forms.{kind_at, record_at};
-ghost use Rattle.pdb.specs.Qualified.{shown_qualified};
 ghost use Rattle.pdb.specs.Text.{name_bytes};
 ghost use Rattle.pdb.specs.Views.{symbol_of, symbols_bytes, symbols_left, symbols_place};
 ghost use Rattle.pdb.specs.Error.TheVariants.{OutOfMemory};
 ghost use Rattle.pdb_records.specs.RecordReading.{further_at};
 ghost use Rattle.pdb_records.specs.RecordViews.{shown_record};
-ghost use Rattle.pdb_resolve.specs.CallViews.{names_of_calls};
 ghost use Rattle.pdb_tool.specs.Depth.{blanks};
+ghost use Rattle.pdb_tool.specs.LineNames.{further_type};
+ghost use Rattle.pdb_tool.specs.LineViews.{end_of, names_of_lines};
+ghost use Rattle.pdb_tool.specs.QualifiedTexts.{behind_qualified};
 ghost use Rattle.pdb_tool.specs.ScopeFrames.{entered, open_at};
-ghost use Rattle.pdb_tool.specs.ScopeTexts.{behind_qualified, behind_scoped, code_text, further_line, held_text, named_text, parameter_by, placed_text, says_line, scope_line, scopes_left, scopes_text, symbol_lines, unread_line, unread_parameter, variable_behind};
+ghost use Rattle.pdb_tool.specs.ScopeTexts.{code_text, data_line, further_line, further_says, held_text, named_text, parameter_by, placed_text, says_line, scope_line, scopes_left, scopes_text, symbol_lines, unread_line, unread_parameter, variable_behind};
 ghost use Rattle.pdb_tool.specs.Values.{behind_blank, place_text};
 ghost use Rattle.pdb_tool.specs.ValueTexts.{register_on};
 ghost use Rattle.pdb_tool.specs.VariablePlaces.{base_pointer, further_parameter_in, memory_text, parameter_in};
 
 use crate::depth::put_blanks;
 use crate::error_line::{put_error_line, put_refusal_line};
+use crate::line_names::{LineEnd, LineNames};
+use crate::qualified_texts::put_behind_qualified;
 use crate::register_names::put_register_name;
 use crate::scope_frames::{Bases, bases_within, innermost};
 use crate::symbol_texts::{lacks_layout, machine_in};
 use crate::values::{put_behind_blank, put_place};
 use crate::variable_places::{RangeLines, is_of_ranges, put_at_base_pointer, put_at_register};
 use pdb::{
-    Error, FallibleIterator, IdIndex, ModuleInfo, PdbInternalSectionOffset, QualifiedName,
-    RawString, Register, Symbol, SymbolData, SymbolIter,
+    Error, FallibleIterator, IdIndex, ModuleInfo, PdbInternalSectionOffset, RawString, Register,
+    Symbol, SymbolData, SymbolIter, TypeIndex,
 };
 use pdb_records::{Machine, Record};
-use pdb_resolve::CallNames;
-use pdb_text::{put_field, put_line_end, put_one_line};
+use pdb_text::put_field;
 use std::alloc::{AllocError, Global};
 
 /// A word, a place and a length.
@@ -50,7 +52,7 @@ fn put_stretch(
     put_field(out, u64::from(len))
 }
 
-/// The line of code: a word, where it stands, how long it is, and its name.
+/// The line of code: a word, where it stands, how long it is, its name, and the line's end.
 fn put_code(
     out: &mut Vec<u8>,
     depth: usize,
@@ -58,13 +60,14 @@ fn put_code(
     offset: PdbInternalSectionOffset,
     len: u32,
     name: &[u8],
+    end: &LineEnd<'_, '_>,
 ) -> Result<(), AllocError>
-    ensures { OnOk result (out.new.items ≡ out.old.items ++ (blanks depth ++ code_text word.now offset len name.now)) }
+    ensures { OnOk result (out.new.items ≡ out.old.items ++ (blanks depth ++ code_text word.now offset len name.now (end_of end.now))) }
 {
     put_blanks(out, depth)?;
     put_stretch(out, word, offset, len)?;
     put_behind_blank(out, name)?;
-    put_line_end(out)
+    end.put(out)
 }
 
 /// The line of what has a place: a word, the place and a name.
@@ -74,15 +77,16 @@ fn put_placed(
     word: &[u8],
     offset: PdbInternalSectionOffset,
     name: RawString<'_>,
+    end: &LineEnd<'_, '_>,
 ) -> Result<(), AllocError>
-    ensures { OnOk result (out.new.items ≡ out.old.items ++ (blanks depth ++ placed_text word.now offset (name_bytes name.entry))) }
+    ensures { OnOk result (out.new.items ≡ out.old.items ++ (blanks depth ++ placed_text word.now offset (name_bytes name.entry) (end_of end.now))) }
 {
     put_blanks(out, depth)?;
     out.extend_from_slice(word)?;
     out.push(b' ')?;
     put_place(out, offset)?;
     put_behind_blank(out, name.as_bytes())?;
-    put_line_end(out)
+    end.put(out)
 }
 
 /// The line of what has a name alone: a word and the name.
@@ -91,60 +95,30 @@ fn put_named(
     depth: usize,
     word: &[u8],
     name: RawString<'_>,
+    end: &LineEnd<'_, '_>,
 ) -> Result<(), AllocError>
-    ensures { OnOk result (out.new.items ≡ out.old.items ++ (blanks depth ++ named_text word.now (name_bytes name.entry))) }
+    ensures { OnOk result (out.new.items ≡ out.old.items ++ (blanks depth ++ named_text word.now (name_bytes name.entry) (end_of end.now))) }
 {
     put_blanks(out, depth)?;
     out.extend_from_slice(word)?;
     put_behind_blank(out, name.as_bytes())?;
-    put_line_end(out)
-}
-
-/// A name behind a blank and what stands before it.
-fn put_behind_scoped(
-    out: &mut Vec<u8>,
-    scope: Option<RawString<'_>>,
-    name: RawString<'_>,
-) -> Result<(), AllocError>
-    ensures { OnOk result (out.new.items ≡ out.old.items ++ behind_scoped (option_map name_bytes scope.entry) (name_bytes name.entry)) }
-{
-    match scope {
-        Some(scope) => {
-            out.push(b' ')?;
-            put_one_line(out, scope.as_bytes())?;
-            out.extend_from_slice(b"::")?;
-            put_one_line(out, name.as_bytes())
-        }
-        None => put_behind_blank(out, name.as_bytes()),
-    }
-}
-
-/// A function's name behind a blank, `??` where there is none, and nothing where it is empty.
-fn put_behind_qualified(
-    out: &mut Vec<u8>,
-    name: Option<QualifiedName<'_>>,
-) -> Result<(), AllocError>
-    ensures { OnOk result (out.new.items ≡ out.old.items ++ behind_qualified (option_map shown_qualified name.entry)) }
-{
-    match name {
-        Some(name) => put_behind_scoped(out, name.scope, name.name),
-        None => out.extend_from_slice(b" ??"),
-    }
+    end.put(out)
 }
 
 /// The line of an inlined call: the name of the function of its id.
 fn put_inlined(
     out: &mut Vec<u8>,
-    names: &CallNames<'_, '_>,
+    names: LineNames<'_, '_>,
     depth: usize,
     id: IdIndex,
+    end: &LineEnd<'_, '_>,
 ) -> Result<(), AllocError>
-    ensures { OnOk result (out.new.items ≡ out.old.items ++ (blanks depth ++ (codes "inlined" ++ behind_qualified (names_of_calls names.now id.0) ++ codes "\n"))) }
+    ensures { OnOk result (out.new.items ≡ out.old.items ++ (blanks depth ++ (codes "inlined" ++ behind_qualified ((names_of_lines names.entry).called id.0) ++ end_of end.now))) }
 {
     put_blanks(out, depth)?;
     out.extend_from_slice(b"inlined")?;
-    put_behind_qualified(out, names.find(id))?;
-    put_line_end(out)
+    put_behind_qualified(out, names.called(id))?;
+    end.put(out)
 }
 
 /// The line of a variable at an offset from the value of a register.
@@ -155,14 +129,15 @@ fn put_relative(
     register: Register,
     offset: i32,
     name: RawString<'_>,
+    end: &LineEnd<'_, '_>,
 ) -> Result<(), AllocError>
-    ensures { OnOk result (out.new.items ≡ out.old.items ++ (blanks depth ++ held_text (codes "relative") (memory_text (register_on machine register) offset) (name_bytes name.entry))) }
+    ensures { OnOk result (out.new.items ≡ out.old.items ++ (blanks depth ++ held_text (codes "relative") (memory_text (register_on machine register) offset) (name_bytes name.entry) (end_of end.now))) }
 {
     put_blanks(out, depth)?;
     out.extend_from_slice(b"relative ")?;
     put_at_register(out, machine, register, offset)?;
     put_behind_blank(out, name.as_bytes())?;
-    put_line_end(out)
+    end.put(out)
 }
 
 /// The line of a variable at an offset from the base pointer.
@@ -172,14 +147,15 @@ fn put_relative_to_base(
     depth: usize,
     offset: i32,
     name: RawString<'_>,
+    end: &LineEnd<'_, '_>,
 ) -> Result<(), AllocError>
-    ensures { OnOk result (out.new.items ≡ out.old.items ++ (blanks depth ++ held_text (codes "relative") (memory_text (base_pointer machine) offset) (name_bytes name.entry))) }
+    ensures { OnOk result (out.new.items ≡ out.old.items ++ (blanks depth ++ held_text (codes "relative") (memory_text (base_pointer machine) offset) (name_bytes name.entry) (end_of end.now))) }
 {
     put_blanks(out, depth)?;
     out.extend_from_slice(b"relative ")?;
     put_at_base_pointer(out, machine, offset)?;
     put_behind_blank(out, name.as_bytes())?;
-    put_line_end(out)
+    end.put(out)
 }
 
 /// The line of a variable in a register.
@@ -189,76 +165,116 @@ fn put_in_register(
     depth: usize,
     register: Register,
     name: RawString<'_>,
+    end: &LineEnd<'_, '_>,
 ) -> Result<(), AllocError>
-    ensures { OnOk result (out.new.items ≡ out.old.items ++ (blanks depth ++ held_text (codes "register") (register_on machine register) (name_bytes name.entry))) }
+    ensures { OnOk result (out.new.items ≡ out.old.items ++ (blanks depth ++ held_text (codes "register") (register_on machine register) (name_bytes name.entry) (end_of end.now))) }
 {
     put_blanks(out, depth)?;
     out.extend_from_slice(b"register ")?;
     put_register_name(out, machine, register)?;
     put_behind_blank(out, name.as_bytes())?;
-    put_line_end(out)
+    end.put(out)
 }
 
-/// The line of what a record says, where it has one.
-fn put_says(
+/// The line of what has a place, or of a variable, with this end.
+fn put_data_says(
     out: &mut Vec<u8>,
-    names: &CallNames<'_, '_>,
     machine: Option<Machine>,
     depth: usize,
     parsed: &SymbolData<'_>,
+    end: &LineEnd<'_, '_>,
 ) -> Result<(), AllocError>
-    ensures { OnOk result (out.new.items ≡ out.old.items ++ says_line (names_of_calls names.now) machine depth (shown parsed.now)) }
+    ensures { OnOk result (out.new.items ≡ out.old.items ++ data_line machine depth (end_of end.now) (shown parsed.now)) }
 {
     match parsed {
-        SymbolData::Procedure(s) => {
-            put_code(out, depth, b"procedure", s.offset, s.len, s.name.as_bytes())
+        SymbolData::Data(s) => put_placed(out, depth, b"data", s.offset, s.name, end),
+        SymbolData::ThreadStorage(s) => put_placed(out, depth, b"thread", s.offset, s.name, end),
+        SymbolData::Label(s) => put_placed(out, depth, b"label", s.offset, s.name, end),
+        SymbolData::Local(s) => put_named(out, depth, b"local", s.name, end),
+        SymbolData::RegisterVariable(s) => {
+            put_in_register(out, machine, depth, s.register, s.name, end)
         }
-        SymbolData::Block(s) => put_code(out, depth, b"block", s.offset, s.len, s.name.as_bytes()),
-        SymbolData::Thunk(s) => {
-            put_code(
-                out,
-                depth,
-                b"thunk",
-                s.offset,
-                u32::from(s.len),
-                s.name.as_bytes(),
-            )
-        }
-        SymbolData::SeparatedCode(s) => put_code(out, depth, b"separated", s.offset, s.len, b""),
-        SymbolData::InlineSite(s) => put_inlined(out, names, depth, s.inlinee),
-        SymbolData::Data(s) => put_placed(out, depth, b"data", s.offset, s.name),
-        SymbolData::ThreadStorage(s) => put_placed(out, depth, b"thread", s.offset, s.name),
-        SymbolData::Label(s) => put_placed(out, depth, b"label", s.offset, s.name),
-        SymbolData::Local(s) => put_named(out, depth, b"local", s.name),
-        SymbolData::RegisterVariable(s) => put_in_register(out, machine, depth, s.register, s.name),
         SymbolData::RegisterRelative(s) => {
-            put_relative(out, machine, depth, s.register, s.offset, s.name)
+            put_relative(out, machine, depth, s.register, s.offset, s.name, end)
         }
         _ => Ok(()),
     }
 }
 
-/// The line of what a further record says, where it has one.
+/// The line of what a record says, where it has one, with this end.
+fn put_says(
+    out: &mut Vec<u8>,
+    names: LineNames<'_, '_>,
+    machine: Option<Machine>,
+    depth: usize,
+    parsed: &SymbolData<'_>,
+    end: &LineEnd<'_, '_>,
+) -> Result<(), AllocError>
+    ensures { OnOk result (out.new.items ≡ out.old.items ++ says_line (names_of_lines names.entry) machine depth (end_of end.now) (shown parsed.now)) }
+{
+    match parsed {
+        SymbolData::Procedure(s) => {
+            let name = s.name.as_bytes();
+            put_code(out, depth, b"procedure", s.offset, s.len, name, end)
+        }
+        SymbolData::Block(s) => {
+            let name = s.name.as_bytes();
+            put_code(out, depth, b"block", s.offset, s.len, name, end)
+        }
+        SymbolData::Thunk(s) => {
+            let name = s.name.as_bytes();
+            put_code(out, depth, b"thunk", s.offset, u32::from(s.len), name, end)
+        }
+        SymbolData::SeparatedCode(s) => {
+            put_code(out, depth, b"separated", s.offset, s.len, b"", end)
+        }
+        SymbolData::InlineSite(s) => put_inlined(out, names, depth, s.inlinee, end),
+        _ => put_data_says(out, machine, depth, parsed, end),
+    }
+}
+
+/// The line of what a further record says, where it has one, with this end.
 fn put_further_says(
     out: &mut Vec<u8>,
     machine: Option<Machine>,
     depth: usize,
     parsed: &Record<'_>,
+    end: &LineEnd<'_, '_>,
 ) -> Result<(), AllocError>
-    ensures { OnOk result (out.new.items ≡ out.old.items ++ further_line machine depth (Ok (shown_record parsed.now))) }
+    ensures { OnOk result (out.new.items ≡ out.old.items ++ further_says machine depth (end_of end.now) (Ok (shown_record parsed.now))) }
 {
     match parsed {
         Record::BasePointerRelative(s) => {
-            put_relative_to_base(out, machine, depth, s.offset, s.name)
+            put_relative_to_base(out, machine, depth, s.offset, s.name, end)
         }
         Record::RegisterRelativeOld(s) => {
-            put_relative(out, machine, depth, s.register, s.offset, s.name)
+            put_relative(out, machine, depth, s.register, s.offset, s.name, end)
         }
-        Record::FileStatic(s) => put_named(out, depth, b"local", s.name),
+        Record::FileStatic(s) => put_named(out, depth, b"local", s.name, end),
         Record::ManagedProcedure(s) => {
-            put_code(out, depth, b"procedure", s.offset, s.len, s.name.as_bytes())
+            put_code(
+                out,
+                depth,
+                b"procedure",
+                s.offset,
+                s.len,
+                s.name.as_bytes(),
+                end,
+            )
         }
         _ => Ok(()),
+    }
+}
+
+/// The type of the variable that a further record tells.
+fn further_type(parsed: &Record<'_>) -> Option<TypeIndex>
+    ensures { result ≡ further_type (Ok (shown_record parsed.now)) }
+{
+    match parsed {
+        Record::BasePointerRelative(s) => Some(s.type_index),
+        Record::RegisterRelativeOld(s) => Some(s.type_index),
+        Record::FileStatic(s) => Some(s.type_index),
+        _ => None,
     }
 }
 
@@ -285,16 +301,18 @@ fn further_parameter_in(parsed: &Record<'_>) -> Option<bool>
 /// The line of a further record, and whether the variable that it tells is a parameter.
 fn put_further(
     out: &mut Vec<u8>,
+    names: LineNames<'_, '_>,
     machine: Option<Machine>,
     depth: usize,
     symbol: &Symbol<'_>,
 ) -> Result<Option<bool>, AllocError>
-    ensures line { OnOk result (out.new.items ≡ out.old.items ++ further_line machine depth (further_at (symbol_of symbol.now).bytes)) }
+    ensures line { OnOk result (out.new.items ≡ out.old.items ++ further_line (names_of_lines names.entry) machine depth (further_at (symbol_of symbol.now).bytes)) }
     ensures variable { IfOk result (λ v. v ≡ further_parameter_in (further_at (symbol_of symbol.now).bytes)) }
 {
     match Record::parse(symbol) {
         Ok(parsed) => {
-            put_further_says(out, machine, depth, &parsed)?;
+            let end = names.end(further_type(&parsed));
+            put_further_says(out, machine, depth, &parsed, &end)?;
             Ok(further_parameter_in(&parsed))
         }
         Err(_) => Ok(None),
@@ -305,16 +323,17 @@ fn put_further(
 /// passed on.
 fn put_unread(
     out: &mut Vec<u8>,
+    names: LineNames<'_, '_>,
     machine: Option<Machine>,
     depth: usize,
     symbol: &Symbol<'_>,
     e: Error,
 ) -> Result<Option<bool>, AllocError>
-    ensures line { OnOk result ((e ≢ OutOfMemory) × (out.new.items ≡ out.old.items ++ unread_line machine depth (symbol_of symbol.now).bytes e)) }
+    ensures line { OnOk result ((e ≢ OutOfMemory) × (out.new.items ≡ out.old.items ++ unread_line (names_of_lines names.entry) machine depth (symbol_of symbol.now).bytes e)) }
     ensures variable { IfOk result (λ v. (e ≢ OutOfMemory) × (v ≡ unread_parameter (symbol_of symbol.now).bytes e)) }
 {
     if lacks_layout(e) {
-        return put_further(out, machine, depth, symbol);
+        return put_further(out, names, machine, depth, symbol);
     }
     match e {
         Error::OutOfMemory => Err(AllocError),
@@ -326,20 +345,21 @@ fn put_unread(
 fn put_line(
     alloc: Global,
     out: &mut Vec<u8>,
-    names: &CallNames<'_, '_>,
+    names: LineNames<'_, '_>,
     machine: Option<Machine>,
     depth: usize,
     symbol: &Symbol<'_>,
 ) -> Result<Option<bool>, AllocError>
-    ensures line { OnOk result (out.new.items ≡ out.old.items ++ scope_line (names_of_calls names.now) machine depth (symbol_of symbol.now).bytes (record_at (symbol_of symbol.now).bytes)) }
+    ensures line { OnOk result (out.new.items ≡ out.old.items ++ scope_line (names_of_lines names.entry) machine depth (symbol_of symbol.now).bytes (record_at (symbol_of symbol.now).bytes)) }
     ensures variable { IfOk result (λ v. v ≡ parameter_by (symbol_of symbol.now).bytes (record_at (symbol_of symbol.now).bytes)) }
 {
     match symbol.parse(alloc) {
         Ok(parsed) => {
-            put_says(out, names, machine, depth, &parsed)?;
+            let end = names.end_of(symbol.raw_kind(), &parsed);
+            put_says(out, names, machine, depth, &parsed, &end)?;
             Ok(parameter_in(&parsed))
         }
-        Err(e) => put_unread(out, machine, depth, symbol, e),
+        Err(e) => put_unread(out, names, machine, depth, symbol, e),
     }
 }
 
@@ -347,7 +367,7 @@ fn put_line(
 fn put_symbol(
     alloc: Global,
     out: &mut Vec<u8>,
-    names: &CallNames<'_, '_>,
+    names: LineNames<'_, '_>,
     machine: Option<Machine>,
     ranges: &mut RangeLines,
     around: &[Bases],
@@ -355,7 +375,7 @@ fn put_symbol(
     symbol: &Symbol<'_>,
 ) -> Result<Option<bool>, AllocError>
     requires { length around.now + 1 < 2 ^ 64 }
-    ensures lines { OnOk result (out.new.items ≡ out.old.items ++ symbol_lines (names_of_calls names.now) machine (reverse around.now) variable (symbol_of symbol.now).bytes) }
+    ensures lines { OnOk result (out.new.items ≡ out.old.items ++ symbol_lines (names_of_lines names.entry) machine (reverse around.now) variable (symbol_of symbol.now).bytes) }
     ensures variable { IfOk result (λ v. v ≡ variable_behind variable (symbol_of symbol.now).bytes) }
 {
     if !is_of_ranges(symbol.raw_kind()) {
@@ -403,11 +423,11 @@ fn enter(
 fn put_symbols(
     alloc: Global,
     out: &mut Vec<u8>,
-    names: &CallNames<'_, '_>,
+    names: LineNames<'_, '_>,
     machine: Option<Machine>,
     mut symbols: SymbolIter<'_>,
 ) -> Result<(), AllocError>
-    ensures { OnOk result (out.new.items ≡ out.old.items ++ scopes_left (names_of_calls names.now) machine [] None (symbols_left symbols.entry)) }
+    ensures { OnOk result (out.new.items ≡ out.old.items ++ scopes_left (names_of_lines names.entry) machine [] None (symbols_left symbols.entry)) }
 {
     let mut around = Vec::new(alloc);
     let mut ranges = RangeLines::new(alloc);
@@ -441,11 +461,11 @@ fn put_symbols(
 pub fn put_scopes(
     alloc: Global,
     out: &mut Vec<u8>,
-    names: &CallNames<'_, '_>,
+    names: LineNames<'_, '_>,
     header: Option<Machine>,
     info: &ModuleInfo<'_>,
 ) -> Result<(), AllocError>
-    ensures { OnOk result (out.new.items ≡ out.old.items ++ scopes_text (names_of_calls names.now) header info.now) }
+    ensures { OnOk result (out.new.items ≡ out.old.items ++ scopes_text (names_of_lines names.entry) header info.now) }
 {
     let machine = machine_in(alloc, header, info)?;
     match info.symbols() {

@@ -4,14 +4,15 @@ ghost use Rattle.std.specs.Prelude.{◌≡◌, ◌≢◌, ◌++◌, drop, flat_m
 ghost use Rattle.std.specs.Option.{option_map};
 ghost use Rattle.std.specs.Fmt.{decimal};
 ghost use Rattle.pdb.specs.Error.TheVariants.{OutOfMemory};
-ghost use Rattle.pdb.specs.Data.{name_of, shown};
+ghost use Rattle.pdb.specs.Data.{shown};
 ghost use Rattle.pdb.specs.Forms.{Is, kind_at, record_at};
 ghost use Rattle.pdb.specs.Text.{name_bytes};
 ghost use Rattle.pdb.specs.Views.{symbol_of, symbols_left};
 ghost use Rattle.pdb_text.specs.Digits.{hex};
 ghost use Rattle.pdb_tool.specs.Depth.{blanks, depth_at};
 ghost use Rattle.pdb_tool.specs.FieldTexts.{field, fields_text};
-ghost use Rattle.pdb_tool.specs.SymbolTexts.{damage_text, further_text, global_symbols_text, lacks_layout, name_text, parsed_text, record_text, symbol_line, symbol_list_text, symbols_text, unread_text};
+ghost use Rattle.pdb_tool.specs.LineViews.{names_of_lines};
+ghost use Rattle.pdb_tool.specs.SymbolTexts.{damage_text, declared_name, further_text, global_symbols_text, lacks_layout, name_text, parsed_text, record_text, symbol_line, symbol_list_text, symbols_text, unread_text};
 ghost use Rattle.pdb_tool.specs.ModuleMachines.{module_machine};
 ghost use Rattle.pdb.specs.Left.{Left};
 ghost use Rattle.pdb.specs.ModuleStream.{symbols_of};
@@ -33,7 +34,9 @@ use crate::fields_data::{
 };
 use crate::fields_references::{put_compile_flags_symbol, put_export, put_procedure_reference};
 use crate::kind_names::kind_name;
+use crate::line_names::LineNames;
 use crate::module_machine::machine_of_module;
+use crate::qualified_texts::put_behind_qualified;
 use crate::record_texts::put_record_says;
 use crate::values::put_behind_blank;
 use pdb::{
@@ -104,18 +107,34 @@ fn put_name(out: &mut Vec<u8>, name: Option<RawString<'_>>) -> Result<(), AllocE
     }
 }
 
-/// What the record of a symbol says: its fields and its name.
+/// The name of what a record tells; that of the function of an inlined call.
+fn put_declared_name(
+    out: &mut Vec<u8>,
+    names: LineNames<'_, '_>,
+    parsed: &SymbolData<'_>,
+) -> Result<(), AllocError>
+    ensures { OnOk result (out.new.items ≡ out.old.items ++ declared_name (names_of_lines names.entry) (shown parsed.now)) }
+{
+    match parsed {
+        SymbolData::InlineSite(s) => put_behind_qualified(out, names.called(s.inlinee)),
+        _ => put_name(out, parsed.name()),
+    }
+}
+
+/// What the record of a symbol says: its fields, its name, and the name of its type.
 fn put_says(
     out: &mut Vec<u8>,
+    names: LineNames<'_, '_>,
     machine: Option<Machine>,
     symbol: &Symbol<'_>,
     parsed: &SymbolData<'_>,
 ) -> Result<(), AllocError>
     requires { Is (symbol_of symbol.now).bytes (shown parsed.now) }
-    ensures { OnOk result (out.new.items ≡ out.old.items ++ (fields_text machine (symbol_of symbol.now).bytes (shown parsed.now) ++ name_text (name_of (shown parsed.now)))) }
+    ensures { OnOk result (out.new.items ≡ out.old.items ++ parsed_text (names_of_lines names.entry) machine (symbol_of symbol.now).bytes (Ok (shown parsed.now))) }
 {
     put_fields(out, machine, symbol, parsed)?;
-    put_name(out, parsed.name())
+    put_declared_name(out, names, parsed)?;
+    names.put_declared(out, symbol.raw_kind(), parsed)
 }
 
 /// Whether a record isn't read since its kind has no layout here, which is no damage.
@@ -167,11 +186,12 @@ fn put_further(
 /// A record that couldn't be parsed: where its kind has no layout it may be a further record.
 fn put_unparsed(
     out: &mut Vec<u8>,
+    names: LineNames<'_, '_>,
     machine: Option<Machine>,
     symbol: &Symbol<'_>,
     e: Error,
 ) -> Result<(), AllocError>
-    ensures { OnOk result ((e ≢ OutOfMemory) × (out.new.items ≡ out.old.items ++ parsed_text machine (symbol_of symbol.now).bytes (Err e))) }
+    ensures { OnOk result ((e ≢ OutOfMemory) × (out.new.items ≡ out.old.items ++ parsed_text (names_of_lines names.entry) machine (symbol_of symbol.now).bytes (Err e))) }
 {
     if lacks_layout(e) {
         put_further(out, machine, symbol)
@@ -185,14 +205,15 @@ fn put_unparsed(
 fn put_record(
     alloc: Global,
     out: &mut Vec<u8>,
+    names: LineNames<'_, '_>,
     machine: Option<Machine>,
     symbol: &Symbol<'_>,
 ) -> Result<(), AllocError>
-    ensures { OnOk result (out.new.items ≡ out.old.items ++ record_text machine (symbol_of symbol.now).bytes) }
+    ensures { OnOk result (out.new.items ≡ out.old.items ++ record_text (names_of_lines names.entry) machine (symbol_of symbol.now).bytes) }
 {
     match symbol.parse(alloc) {
-        Ok(parsed) => put_says(out, machine, symbol, &parsed),
-        Err(e) => put_unparsed(out, machine, symbol, e),
+        Ok(parsed) => put_says(out, names, machine, symbol, &parsed),
+        Err(e) => put_unparsed(out, names, machine, symbol, e),
     }
 }
 // end
@@ -202,17 +223,18 @@ fn put_record(
 fn put_symbol(
     alloc: Global,
     out: &mut Vec<u8>,
+    names: LineNames<'_, '_>,
     machine: Option<Machine>,
     depth: usize,
     symbol: &Symbol<'_>,
 ) -> Result<(), AllocError>
-    ensures { OnOk result (out.new.items ≡ out.old.items ++ symbol_line machine depth (symbol_of symbol.now)) }
+    ensures { OnOk result (out.new.items ≡ out.old.items ++ symbol_line (names_of_lines names.entry) machine depth (symbol_of symbol.now)) }
 {
     put_blanks(out, depth)?;
     put_hex8(out, symbol.index().0)?;
     out.push(b' ')?;
     put_kind(out, symbol.raw_kind())?;
-    put_record(alloc, out, machine, symbol)?;
+    put_record(alloc, out, names, machine, symbol)?;
     put_line_end(out)
 }
 
@@ -220,17 +242,18 @@ fn put_symbol(
 fn put_symbol_list(
     alloc: Global,
     out: &mut Vec<u8>,
+    names: LineNames<'_, '_>,
     machine: Option<Machine>,
     mut symbols: SymbolIter<'_>,
 ) -> Result<(), AllocError>
-    ensures { OnOk result (out.new.items ≡ out.old.items ++ symbol_list_text machine 0 (symbols_left symbols.entry)) }
+    ensures { OnOk result (out.new.items ≡ out.old.items ++ symbol_list_text (names_of_lines names.entry) machine 0 (symbols_left symbols.entry)) }
 {
     let mut depth = 0usize;
     loop {
         match symbols.next() {
             Ok(Some(symbol)) => {
                 depth = depth_of(depth, &symbol);
-                put_symbol(alloc, out, machine, depth, &symbol)?;
+                put_symbol(alloc, out, names, machine, depth, &symbol)?;
                 if symbol.starts_scope() {
                     depth += 1;
                 }
@@ -262,14 +285,15 @@ pub fn machine_in(
 pub fn put_symbols_of(
     alloc: Global,
     out: &mut Vec<u8>,
+    names: LineNames<'_, '_>,
     header: Option<Machine>,
     info: &ModuleInfo<'_>,
 ) -> Result<(), AllocError>
-    ensures { OnOk result (out.new.items ≡ out.old.items ++ symbols_text header info.now) }
+    ensures { OnOk result (out.new.items ≡ out.old.items ++ symbols_text (names_of_lines names.entry) header info.now) }
 {
     let machine = machine_in(alloc, header, info)?;
     match info.symbols() {
-        Ok(symbols) => put_symbol_list(alloc, out, machine, symbols),
+        Ok(symbols) => put_symbol_list(alloc, out, names, machine, symbols),
         Err(e) => put_refusal_line(out, e),
     }
 }
@@ -280,10 +304,11 @@ pub fn put_symbols_of(
 pub fn put_global_symbols(
     alloc: Global,
     out: &mut Vec<u8>,
+    names: LineNames<'_, '_>,
     header: Option<Machine>,
     symbols: &SymbolTable<'_>,
 ) -> Result<(), AllocError>
-    ensures { OnOk result (out.new.items ≡ out.old.items ++ global_symbols_text header symbols.now) }
+    ensures { OnOk result (out.new.items ≡ out.old.items ++ global_symbols_text (names_of_lines names.entry) header symbols.now) }
 {
-    put_symbol_list(alloc, out, header, symbols.iter())
+    put_symbol_list(alloc, out, names, header, symbols.iter())
 }

@@ -155,15 +155,17 @@ impl TextAsked<'_> {
             FileText::Lines(_) | FileText::Sources(_) => {
                 self.shared = is_missed(&pdb.string_table());
             }
-            FileText::Scopes(_) => {
+            FileText::Scopes(_) | FileText::AllSymbols => {
                 let ids = is_missed(&pdb.id_information());
                 self.shared = is_missed(&pdb.type_information()) || ids;
             }
             FileText::Symbols(places) => {
+                let names = is_missed(&pdb.id_information()) | is_missed(&pdb.type_information());
                 let header = is_missed(&pdb.debug_information());
                 let globals = places.is_empty() && is_missed(&pdb.global_symbols());
-                self.shared = header || globals;
+                self.shared = names || header || globals;
             }
+            FileText::Types(_) => self.shared = is_missed(&pdb.type_information()),
             FileText::Find(_) => {
                 let names = is_missed(&pdb.id_information()) | is_missed(&pdb.type_information());
                 let places = is_missed(&pdb.global_symbols()) | is_missed(&pdb.address_map());
@@ -174,9 +176,7 @@ impl TextAsked<'_> {
                 let places = is_missed(&pdb.string_table()) | is_missed(&pdb.address_map());
                 self.shared = names | places;
             }
-            FileText::Modules(_) | FileText::AllSymbols => {
-                self.shared = is_missed(&pdb.debug_information());
-            }
+            FileText::Modules(_) => self.shared = is_missed(&pdb.debug_information()),
             FileText::Sections(_) => self.shared = is_missed(&pdb.sections()),
             FileText::Streams(_) => {
                 let names = is_missed(&pdb.pdb_information()) | is_missed(&pdb.debug_information());
@@ -210,11 +210,14 @@ impl TextAsked<'_> {
             }
             FileText::Scopes(places) => !ask_modules(alloc, pdb, true, places),
             FileText::Symbols(places) => {
-                !places.is_empty() && !ask_modules(alloc, pdb, false, places)
+                !places.is_empty() && !ask_modules(alloc, pdb, true, places)
             }
-            FileText::AllSymbols => !ask_all(alloc, pdb, false),
+            FileText::AllSymbols => !ask_all(alloc, pdb, true),
             FileText::Find(_) | FileText::Where(_) => !ask_all(alloc, pdb, true),
-            FileText::Modules(_) | FileText::Sections(_) | FileText::Streams(_) => false,
+            FileText::Modules(_)
+            | FileText::Sections(_)
+            | FileText::Streams(_)
+            | FileText::Types(_) => false,
         };
     }
 }

@@ -24,12 +24,33 @@ pub fn put_signed(out: &mut Vec<u8>, n: i64) -> Result<(), AllocError>
     out.extend_from_slice(text.as_bytes())
 }
 
-/// A number of any width, in decimal digits.
+/// A number of up to 128 bits in decimal digits.
+pub fn put_wide(out: &mut Vec<u8>, n: i128) -> Result<(), AllocError>
+    ensures { OnOk result (out.new.items ≡ out.old.items ++ signed_decimal n) }
+{
+    if (0..0x1_0000_0000).contains(&n) {
+        return put_decimal(out, n as u64);
+    }
+    let alloc = *out.allocator();
+    let text = format!(in alloc; "{n}")?;
+    out.extend_from_slice(text.as_bytes())
+}
+
+/// A number of 128 bits from 0 on, in decimal digits.
+pub fn put_unsigned(out: &mut Vec<u8>, n: u128) -> Result<(), AllocError>
+    ensures { OnOk result (out.new.items ≡ out.old.items ++ decimal n) }
+{
+    let alloc = *out.allocator();
+    let text = format!(in alloc; "{n}")?;
+    out.extend_from_slice(text.as_bytes())
+}
+
+/// A number of any width, in decimal digits. A byte has a sign: it stands behind the prefix `LF_CHAR`.
 pub fn put_variant(out: &mut Vec<u8>, value: Variant) -> Result<(), AllocError>
     ensures { OnOk result (out.new.items ≡ out.old.items ++ variant_text value) }
 {
     match value {
-        Variant::U8(n) => put_decimal(out, u64::from(n)),
+        Variant::U8(n) => put_signed(out, i64::from(n.cast_signed())),
         Variant::U16(n) => put_decimal(out, u64::from(n)),
         Variant::U32(n) => put_decimal(out, u64::from(n)),
         Variant::U64(n) => put_decimal(out, n),

@@ -33,6 +33,8 @@ pub enum Topic {
     Sections,
     /// The streams of the file.
     Streams,
+    /// Types, with their sizes and members.
+    Types,
 }
 
 /// The request that arguments are.
@@ -89,6 +91,7 @@ fn lookup_in(word: &str) -> Option<Topic>
         "modules" => Some(Topic::Modules),
         "sections" => Some(Topic::Sections),
         "streams" => Some(Topic::Streams),
+        "types" => Some(Topic::Types),
         _ => None,
     }
 }

@@ -7,7 +7,9 @@ ghost use Rattle.pdb_tool.specs.Work.{ending, judging, named, over_file, over_op
 ghost use Rattle.pdb_tool.specs.Words.{Tells};
 ghost use Rattle.pdb_tool.specs.declared.words.Topic.{Topic};
 
-use crate::operands::{Operand, all_numbers, all_questions, all_sources, first_empty, operands_in};
+use crate::operands::{
+    Operand, all_indices, all_numbers, all_questions, all_sources, first_empty, operands_in,
+};
 use crate::options::{Form, Options, Wanted};
 use crate::sources_asked::SourceAsked;
 use crate::words::{Request, Topic, WordsError, request_in};
@@ -36,6 +38,8 @@ pub enum Work<'w> {
     Symbols(Operand<'w>, Vec<u32>),
     /// Print the symbols of all modules.
     AllSymbols(Operand<'w>),
+    /// Print the types of these indices.
+    Types(Operand<'w>, Vec<u32>),
     /// Print the source files of the modules of these numbers.
     Sources(Operand<'w>, Vec<u32>),
     /// Print where the functions and data stand whose names match one of the operands.
@@ -158,6 +162,7 @@ fn over_file<'w>(
         Topic::Lines => Ok(Work::Lines(file, all_numbers(alloc, &rest)?)),
         Topic::Scopes => Ok(Work::Scopes(file, all_numbers(alloc, &rest)?)),
         Topic::Symbols => symbols_work(alloc, options, file, &rest),
+        Topic::Types => Ok(Work::Types(file, all_indices(alloc, &rest)?)),
         Topic::Sources => Ok(Work::Sources(file, all_numbers(alloc, &rest)?)),
         Topic::Key => Ok(Work::Keys(options.form, file, rest)),
         Topic::Check => Ok(Work::Checks(file, rest)),

@@ -8,43 +8,43 @@ fn data_and_types(rt: HostRuntime) -> Result<(), Fail> {
     let rows: [(&[u8], &str); 15] = [
         (
             b"\x06\x11t\x00\x00\x00\x11\x00r\x00",
-            "S_REGISTER type_index=00000074 register=0011",
+            "S_REGISTER type_index=00000074 register=0011: int",
         ),
         (
             b"\x07\x11\x02\x10\x00\x00\x03\x80\xfe\xff\xff\xffc\x00",
-            "S_CONSTANT type_index=00001002 value=-2 managed=false c",
+            "S_CONSTANT type_index=00001002 value=-2 managed=false c: ??",
         ),
         (
             b"\x2d\x11\x02\x10\x00\x00\x0a\x80\xff\xff\xff\xff\xff\xff\xff\xffm\x00",
-            "S_MANCONSTANT type_index=00001002 value=18446744073709551615 managed=true m",
+            "S_MANCONSTANT type_index=00001002 value=18446744073709551615 managed=true m: ??",
         ),
         (
             b"\x08\x11\x03\x10\x00\x00t\x00",
-            "S_UDT type_index=00001003 t",
+            "S_UDT type_index=00001003 t: ??",
         ),
         (
             b"\x03\x10\x03\x10\x00\x00\x02ab",
-            "S_UDT_ST type_index=00001003 ab",
+            "S_UDT_ST type_index=00001003 ab: ??",
         ),
         (
             b"\x0a\x11\x04\x10\x00\x00\x02\x11\x00a\x00\x22\x01bc\x00",
-            "S_MANYREG type_index=00001004 registers=0011:a,0122:bc",
+            "S_MANYREG type_index=00001004 registers=0011:a,0122:bc: ??",
         ),
         (
             b"\x17\x11\x04\x10\x00\x00\x01\x00\x12\x00d\x00",
-            "S_MANYREG2 type_index=00001004 registers=0012:d",
+            "S_MANYREG2 type_index=00001004 registers=0012:d: ??",
         ),
         (
             b"\x0a\x11\x04\x10\x00\x00\x00",
-            "S_MANYREG type_index=00001004 registers=-",
+            "S_MANYREG type_index=00001004 registers=-: ??",
         ),
         (
             b"\x0d\x11\x05\x10\x00\x00\x20\x00\x00\x00\x03\x00g\x00",
-            "S_GDATA32 type_index=00001005 offset=0003:00000020 global=true managed=false g",
+            "S_GDATA32 type_index=00001005 offset=0003:00000020 global=true managed=false g: ??",
         ),
         (
             b"\x1c\x11\x05\x10\x00\x00\x20\x00\x00\x00\x03\x00h\x00",
-            "S_LMANDATA type_index=00001005 offset=0003:00000020 global=false managed=true h",
+            "S_LMANDATA type_index=00001005 offset=0003:00000020 global=false managed=true h: ??",
         ),
         (
             b"\x0e\x11\x0b\x00\x00\x00\x30\x00\x00\x00\x02\x00p\x00",
@@ -56,15 +56,15 @@ fn data_and_types(rt: HostRuntime) -> Result<(), Fail> {
         ),
         (
             b"\x12\x11\x06\x10\x00\x00\x40\x00\x00\x00\x04\x00t\x00",
-            "S_LTHREAD32 type_index=00001006 offset=0004:00000040 global=false t",
+            "S_LTHREAD32 type_index=00001006 offset=0004:00000040 global=false t: ??",
         ),
         (
             b"\x13\x11\x06\x10\x00\x00\x40\x00\x00\x00\x04\x00t\x00",
-            "S_GTHREAD32 type_index=00001006 offset=0004:00000040 global=true t",
+            "S_GTHREAD32 type_index=00001006 offset=0004:00000040 global=true t: ??",
         ),
         (
             b"\x11\x11\xf8\xff\xff\xff\x08\x10\x00\x00\x4f\x01y\x00",
-            "S_REGREL32 offset=-8 type_index=00001008 register=014f y",
+            "S_REGREL32 offset=-8 type_index=00001008 register=014f y: ??",
         ),
     ];
     for (record, wanted) in rows {
@@ -78,27 +78,27 @@ fn values_of_constants(rt: HostRuntime) -> Result<(), Fail> {
     let rows: [(&[u8], &str); 6] = [
         (
             b"\x07\x11\x01\x10\x00\x00\xff\x7fa\x00",
-            "S_CONSTANT type_index=00001001 value=32767 managed=false a",
+            "S_CONSTANT type_index=00001001 value=32767 managed=false a: ??",
         ),
         (
             b"\x07\x11\x01\x10\x00\x00\x00\x80\xfea\x00",
-            "S_CONSTANT type_index=00001001 value=254 managed=false a",
+            "S_CONSTANT type_index=00001001 value=-2 managed=false a: ??",
         ),
         (
             b"\x07\x11\x01\x10\x00\x00\x01\x80\x00\x80a\x00",
-            "S_CONSTANT type_index=00001001 value=-32768 managed=false a",
+            "S_CONSTANT type_index=00001001 value=-32768 managed=false a: ??",
         ),
         (
             b"\x07\x11\x01\x10\x00\x00\x02\x80\xfe\xffa\x00",
-            "S_CONSTANT type_index=00001001 value=65534 managed=false a",
+            "S_CONSTANT type_index=00001001 value=65534 managed=false a: ??",
         ),
         (
             b"\x07\x11\x01\x10\x00\x00\x04\x80\xfe\xff\xff\xffa\x00",
-            "S_CONSTANT type_index=00001001 value=4294967294 managed=false a",
+            "S_CONSTANT type_index=00001001 value=4294967294 managed=false a: ??",
         ),
         (
             b"\x07\x11\x01\x10\x00\x00\x09\x80\x00\x00\x00\x00\x00\x00\x00\x80a\x00",
-            "S_CONSTANT type_index=00001001 value=-9223372036854775808 managed=false a",
+            "S_CONSTANT type_index=00001001 value=-9223372036854775808 managed=false a: ??",
         ),
     ];
     for (record, wanted) in rows {
@@ -112,51 +112,51 @@ fn flags_of_locals(rt: HostRuntime) -> Result<(), Fail> {
     let rows: [(&[u8], &str); 12] = [
         (
             b"\x3e\x11\x07\x10\x00\x00\x00\x00x\x00",
-            "S_LOCAL type_index=00001007 flags=- x",
+            "S_LOCAL type_index=00001007 flags=- x: ??",
         ),
         (
             b"\x3e\x11\x07\x10\x00\x00\x01\x00x\x00",
-            "S_LOCAL type_index=00001007 flags=param x",
+            "S_LOCAL type_index=00001007 flags=param x: ??",
         ),
         (
             b"\x3e\x11\x07\x10\x00\x00\x02\x00x\x00",
-            "S_LOCAL type_index=00001007 flags=addrtaken x",
+            "S_LOCAL type_index=00001007 flags=addrtaken x: ??",
         ),
         (
             b"\x3e\x11\x07\x10\x00\x00\x04\x00x\x00",
-            "S_LOCAL type_index=00001007 flags=compgenx x",
+            "S_LOCAL type_index=00001007 flags=compgenx x: ??",
         ),
         (
             b"\x3e\x11\x07\x10\x00\x00\x08\x00x\x00",
-            "S_LOCAL type_index=00001007 flags=aggregate x",
+            "S_LOCAL type_index=00001007 flags=aggregate x: ??",
         ),
         (
             b"\x3e\x11\x07\x10\x00\x00\x10\x00x\x00",
-            "S_LOCAL type_index=00001007 flags=aggregated x",
+            "S_LOCAL type_index=00001007 flags=aggregated x: ??",
         ),
         (
             b"\x3e\x11\x07\x10\x00\x00\x20\x00x\x00",
-            "S_LOCAL type_index=00001007 flags=aliased x",
+            "S_LOCAL type_index=00001007 flags=aliased x: ??",
         ),
         (
             b"\x3e\x11\x07\x10\x00\x00\x40\x00x\x00",
-            "S_LOCAL type_index=00001007 flags=alias x",
+            "S_LOCAL type_index=00001007 flags=alias x: ??",
         ),
         (
             b"\x3e\x11\x07\x10\x00\x00\x80\x00x\x00",
-            "S_LOCAL type_index=00001007 flags=retvalue x",
+            "S_LOCAL type_index=00001007 flags=retvalue x: ??",
         ),
         (
             b"\x3e\x11\x07\x10\x00\x00\x00\x01x\x00",
-            "S_LOCAL type_index=00001007 flags=optimizedout x",
+            "S_LOCAL type_index=00001007 flags=optimizedout x: ??",
         ),
         (
             b"\x3e\x11\x07\x10\x00\x00\x00\x02x\x00",
-            "S_LOCAL type_index=00001007 flags=enreg_glob x",
+            "S_LOCAL type_index=00001007 flags=enreg_glob x: ??",
         ),
         (
             b"\x3e\x11\x07\x10\x00\x00\x11\x02x\x00",
-            "S_LOCAL type_index=00001007 flags=param+aggregated+enreg_glob x",
+            "S_LOCAL type_index=00001007 flags=param+aggregated+enreg_glob x: ??",
         ),
     ];
     for (record, wanted) in rows {
@@ -258,19 +258,19 @@ fn code(rt: HostRuntime) -> Result<(), Fail> {
         ),
         (
             b"\x10\x11\x08\x00\x00\x00\x90\x00\x00\x00\x00\x00\x00\x00\x21\x00\x00\x00\x04\x00\x00\x00\x1e\x00\x00\x00\x09\x10\x00\x00\x50\x00\x00\x00\x01\x00\x00f\x00",
-            "S_GPROC32 parent=00000008 end=00000090 next=- len=33 dbg_start_offset=4 dbg_end_offset=30 type_index=00001009 offset=0001:00000050 flags=- global=true dpc=false f",
+            "S_GPROC32 parent=00000008 end=00000090 next=- len=33 dbg_start_offset=4 dbg_end_offset=30 type_index=00001009 offset=0001:00000050 flags=- global=true dpc=false f: ??",
         ),
         (
             b"\x5d\x11\x10\x00\x00\x00\x60\x00\x00\x00\x01\x10\x00\x00\x07\x00\x00\x00\x0c\x02\x08",
-            "S_INLINESITE2 parent=00000010 end=00000060 inlinee=00001001 invocations=7 annotations=0c0208",
+            "S_INLINESITE2 parent=00000010 end=00000060 inlinee=00001001 invocations=7 annotations=0c0208 ??",
         ),
         (
             b"\x4d\x11\x10\x00\x00\x00\x60\x00\x00\x00\x01\x10\x00\x00\x07\x00\x00\x00\x0c\x02\x08",
-            "S_INLINESITE parent=00000010 end=00000060 inlinee=00001001 invocations=- annotations=070000000c0208",
+            "S_INLINESITE parent=00000010 end=00000060 inlinee=00001001 invocations=- annotations=070000000c0208 ??",
         ),
         (
             b"\x4d\x11\x00\x00\x00\x00\x60\x00\x00\x00\x01\x10\x00\x00",
-            "S_INLINESITE parent=- end=00000060 inlinee=00001001 invocations=- annotations=-",
+            "S_INLINESITE parent=- end=00000060 inlinee=00001001 invocations=- annotations=- ??",
         ),
         (
             b"\x03\x11\x20\x00\x00\x00p\x00\x00\x00\x12\x00\x00\x00p\x00\x00\x00\x01\x00\x00",

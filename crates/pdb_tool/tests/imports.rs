@@ -152,7 +152,7 @@ fn texts_are(
 fn calls_have_the_names_of_ids_of_other_modules(rt: HostRuntime) -> Result<(), Fail> {
     let found: (&[u8], &[u8], &[u8], &[u8]) = (
         b"ns::ab\na.c:10:0\nmain\na.c:2:0\n\n",
-        b"procedure 0001:00000100 48 main\n  inlined ns::ab\n",
+        b"procedure 0001:00000100 48 main: ??\n  inlined ns::ab: int\n",
         b"inlined 0001:00000108 - 2 ns::ab\n",
         b"inlined 0001:00000108 - 2 a.c:10:0 ns::ab\n",
     );
@@ -165,7 +165,7 @@ fn calls_have_the_names_of_ids_of_other_modules(rt: HostRuntime) -> Result<(), F
 fn calls_of_ids_that_are_not_exported_have_no_names(rt: HostRuntime) -> Result<(), Fail> {
     let unnamed: (&[u8], &[u8], &[u8], &[u8]) = (
         b"??\na.c:10:0\nmain\na.c:2:0\n\n",
-        b"procedure 0001:00000100 48 main\n  inlined ??\n",
+        b"procedure 0001:00000100 48 main: ??\n  inlined ??\n",
         b"",
         b"inlined 0001:00000108 - 2 a.c:10:0 ??\n",
     );
@@ -179,10 +179,10 @@ fn calls_of_ids_that_are_not_exported_have_no_names(rt: HostRuntime) -> Result<(
 fn scopes_of_all_modules(rt: HostRuntime) -> Result<(), Fail> {
     let bytes = file(rt.alloc(), 0x8000_0001)?;
     let wanted: &[u8] =
-        b"module 0 a.obj\nprocedure 0001:00000100 48 main\n  inlined ns::ab\nmodule 1 b.obj\nmodule 2 b.obj\n";
+        b"module 0 a.obj\nprocedure 0001:00000100 48 main: ??\n  inlined ns::ab: int\nmodule 1 b.obj\nmodule 2 b.obj\n";
     both(&rt, &bytes, FileText::Scopes(&[]), wanted);
     let two: &[u8] =
-        b"module 1 b.obj\nmodule 0 a.obj\nprocedure 0001:00000100 48 main\n  inlined ns::ab\n";
+        b"module 1 b.obj\nmodule 0 a.obj\nprocedure 0001:00000100 48 main: ??\n  inlined ns::ab: int\n";
     both(&rt, &bytes, FileText::Scopes(&[1, 0]), two);
     Ok(())
 }

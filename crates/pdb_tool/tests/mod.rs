@@ -17,5 +17,6 @@ mod parts;
 mod records;
 mod records_code;
 mod streams;
+mod types;
 mod wanted;
 mod work;

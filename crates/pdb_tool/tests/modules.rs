@@ -1,13 +1,15 @@
 //! The texts of modules whose streams are made by hand.
 
 use super::streams::{Sizes, module_of, symbols_of};
+use crate::line_names::LineNames;
 use crate::line_texts::put_lines;
 use crate::scope_texts::put_scopes;
 use crate::symbol_texts::put_symbols_of;
 use crate::tests::fakes::is;
 use pdb::{ItemFinder, Stream, StringTable};
 use pdb_records::Machine;
-use pdb_resolve::{CallNames, GlobalIds};
+use pdb_resolve::GlobalIds;
+use pdb_types::TypeDefinitions;
 use std::alloc::Global;
 use std::process::Abort;
 use std::test::Fail;
@@ -27,6 +29,25 @@ static IDS: [u8; 84] = [
     0x00, 0x00, 0x00, 0x00, 0x00, 0x00, 0x00, 0x00, 0x0a, 0x00, 0x05, 0x16, 0x00, 0x00, 0x00, 0x00,
     0x6e, 0x73, 0x00, 0xf1, 0x0e, 0x00, 0x01, 0x16, 0x00, 0x10, 0x00, 0x00, 0x74, 0x00, 0x00, 0x00,
     0x61, 0x62, 0x00, 0xf1,
+];
+
+/// Types from index 0x1000 on: `const char`, `const char*`, `(int, const char*)`, `int (int, const char*)`, a pointer to
+/// it, `int[3]`, `volatile unsigned`, a pointer again, `S`, and `void (int, const char*)`.
+static TYPES: [u8; 213] = [
+    0x0b, 0xca, 0x31, 0x01, 0x38, 0x00, 0x00, 0x00, 0x00, 0x10, 0x00, 0x00, 0x0a, 0x10, 0x00, 0x00,
+    0x9d, 0x00, 0x00, 0x00, 0x00, 0x00, 0x00, 0x00, 0x00, 0x00, 0x00, 0x00, 0x00, 0x00, 0x00, 0x00,
+    0x00, 0x00, 0x00, 0x00, 0x00, 0x00, 0x00, 0x00, 0x00, 0x00, 0x00, 0x00, 0x00, 0x00, 0x00, 0x00,
+    0x00, 0x00, 0x00, 0x00, 0x00, 0x00, 0x00, 0x00, 0x0a, 0x00, 0x01, 0x10, 0x70, 0x00, 0x00, 0x00,
+    0x01, 0x00, 0xf2, 0xf1, 0x0a, 0x00, 0x02, 0x10, 0x00, 0x10, 0x00, 0x00, 0x0c, 0x00, 0x01, 0x00,
+    0x0e, 0x00, 0x01, 0x12, 0x02, 0x00, 0x00, 0x00, 0x74, 0x00, 0x00, 0x00, 0x01, 0x10, 0x00, 0x00,
+    0x0e, 0x00, 0x08, 0x10, 0x74, 0x00, 0x00, 0x00, 0x00, 0x00, 0x02, 0x00, 0x02, 0x10, 0x00, 0x00,
+    0x0a, 0x00, 0x02, 0x10, 0x03, 0x10, 0x00, 0x00, 0x0c, 0x00, 0x01, 0x00, 0x0e, 0x00, 0x03, 0x15,
+    0x74, 0x00, 0x00, 0x00, 0x23, 0x00, 0x00, 0x00, 0x0c, 0x00, 0x00, 0xf1, 0x0a, 0x00, 0x01, 0x10,
+    0x75, 0x00, 0x00, 0x00, 0x02, 0x00, 0xf2, 0xf1, 0x0a, 0x00, 0x02, 0x10, 0x03, 0x10, 0x00, 0x00,
+    0x0c, 0x00, 0x01, 0x00, 0x1f, 0x00, 0x05, 0x15, 0x00, 0x00, 0x00, 0x02, 0x00, 0x00, 0x00, 0x00,
+    0x00, 0x00, 0x00, 0x00, 0x00, 0x00, 0x00, 0x00, 0x10, 0x00, 0x53, 0x00, 0x2e, 0x3f, 0x41, 0x55,
+    0x53, 0x40, 0x40, 0x00, 0xf1, 0x0e, 0x00, 0x08, 0x10, 0x03, 0x00, 0x00, 0x00, 0x00, 0x00, 0x02,
+    0x00, 0x02, 0x10, 0x00, 0x00,
 ];
 
 /// A procedure.
@@ -143,28 +164,29 @@ fn scopes_as_a_tree(rt: HostRuntime) -> Result<(), Fail> {
     };
     let info = module_of(&rt, bytes.as_slice(), &sizes)?;
     let ids = ItemFinder::new(rt.alloc(), &IDS)?;
-    let types = ItemFinder::empty(rt.alloc());
+    let types = ItemFinder::new(rt.alloc(), &TYPES)?;
+    let definitions = TypeDefinitions::empty(rt.alloc());
     let global = GlobalIds::empty(rt.alloc());
-    let names = CallNames::new(&ids, &types, &global);
+    let names = LineNames::new(&ids, &types, &definitions, &global);
     let mut out = Vec::new(rt.alloc());
-    put_scopes(rt.alloc(), &mut out, &names, Some(Machine::X64), &info)?;
-    let wanted: &[u8] = b"procedure 0001:00000050 33 f\n\
-        \x20 local p\n\
+    put_scopes(rt.alloc(), &mut out, names, Some(Machine::X64), &info)?;
+    let wanted: &[u8] = b"procedure 0001:00000050 33 f: void (int, const char*)\n\
+        \x20 local p: int (*)(int, const char*)\n\
         \x20   [rsp-12] 0001:00000050 8\n\
         \x20   [rsp-12] 0001:0000005c 21\n\
         \x20   +4:[rsp+40] 0001:00000050 5\n\
         \x20 block 0001:00000070 18\n\
-        \x20   inlined ns::ab\n\
-        \x20     local x\n\
+        \x20   inlined ns::ab: int\n\
+        \x20     local x: int (*)(int, const char*)\n\
         \x20       [rbp+16]\n\
-        \x20   register eax r\n\
+        \x20   register eax r: int\n\
         \x20   inlined ??\n\
-        \x20 relative [rsp-8] y\n\
+        \x20 relative [rsp-8] y: S\n\
         separated 0003:000000b0 9\n\
         \x20 label 0001:00000060 k\n\
         thunk 0001:00000080 5 th\n\
-        \x20 data 0003:00000020 g\n\
-        thread 0004:00000040 t\n\
+        \x20 data 0003:00000020 g: int[3]\n\
+        thread 0004:00000040 t: volatile unsigned\n\
         error 1 the data ends before a record does\n";
     is(&rt, "out.as_slice()", &out.as_slice(), &wanted);
     Ok(())
@@ -186,16 +208,62 @@ fn symbols_by_their_scopes(rt: HostRuntime) -> Result<(), Fail> {
         older_lines: 0,
     };
     let info = module_of(&rt, bytes.as_slice(), &sizes)?;
+    let ids = ItemFinder::new(rt.alloc(), &IDS)?;
+    let types = ItemFinder::new(rt.alloc(), &TYPES)?;
+    let definitions = TypeDefinitions::empty(rt.alloc());
+    let global = GlobalIds::empty(rt.alloc());
+    let names = LineNames::new(&ids, &types, &definitions, &global);
     let mut out = Vec::new(rt.alloc());
-    put_symbols_of(rt.alloc(), &mut out, None, &info)?;
+    put_symbols_of(rt.alloc(), &mut out, names, None, &info)?;
     let wanted: &[u8] = b"00000004 S_GPROC32 parent=- end=00000090 next=- len=33 \
         dbg_start_offset=4 dbg_end_offset=30 type_index=00001009 offset=0001:00000050 flags=- \
-        global=true dpc=false f\n\
-        \x20 0000002d S_UDT type_index=00001003 u\n\
+        global=true dpc=false f: void (int, const char*)\n\
+        \x20 0000002d S_UDT type_index=00001003 u: int (int, const char*)\n\
         00000037 S_END\n\
         0000003b S_END\n\
         0000003f S_PUB32 error 1 bytes=01\n\
         error 1 the data ends before a record does\n";
+    is(&rt, "out.as_slice()", &out.as_slice(), &wanted);
+    Ok(())
+}
+
+#[test]
+fn types_of_symbols(rt: HostRuntime) -> Result<(), Fail> {
+    // Procedures whose type is that of an id, and one whose id isn't there; an inlined call; a constant and a variable of
+    // index 0, which is no type.
+    let records: [&[u8]; 6] = [
+        b"\x46\x11\0\0\0\0\x90\0\0\0\0\0\0\0\x21\0\0\0\x04\0\0\0\x1e\0\0\0\x01\x10\0\0\x50\0\0\0\x01\0\0i\0",
+        b"\x56\x11\0\0\0\0\x90\0\0\0\0\0\0\0\x21\0\0\0\x04\0\0\0\x1e\0\0\0\x00\x10\0\0\x50\0\0\0\x01\0\0j\0",
+        b"\x4d\x11\x04\0\0\0\x60\0\0\0\x01\x10\0\0",
+        b"\x4d\x11\x04\0\0\0\x60\0\0\0\x01\x10\0\x80",
+        b"\x07\x11\x06\x10\0\0\x00\x80\xfec\0",
+        b"\x3e\x11\0\0\0\0\0\0z\0",
+    ];
+    let bytes = symbols_of(&rt, rt.alloc(), &records)?;
+    let sizes = Sizes {
+        symbols: bytes.len(),
+        older_lines: 0,
+    };
+    let info = module_of(&rt, bytes.as_slice(), &sizes)?;
+    let ids = ItemFinder::new(rt.alloc(), &IDS)?;
+    let types = ItemFinder::new(rt.alloc(), &TYPES)?;
+    let definitions = TypeDefinitions::empty(rt.alloc());
+    let global = GlobalIds::empty(rt.alloc());
+    let names = LineNames::new(&ids, &types, &definitions, &global);
+    let mut out = Vec::new(rt.alloc());
+    put_symbols_of(rt.alloc(), &mut out, names, None, &info)?;
+    let wanted: &[u8] = b"00000004 S_LPROC32_ID parent=- end=00000090 next=- len=33 \
+        dbg_start_offset=4 dbg_end_offset=30 type_index=00001001 offset=0001:00000050 flags=- \
+        global=false dpc=false i: int\n\
+        \x20 0000002d S_LPROC32_DPC_ID parent=- end=00000090 next=- len=33 \
+        dbg_start_offset=4 dbg_end_offset=30 type_index=00001000 offset=0001:00000050 flags=- \
+        global=false dpc=true j\n\
+        \x20   00000056 S_INLINESITE parent=00000004 end=00000060 inlinee=00001001 invocations=- \
+        annotations= ns::ab: int\n\
+        \x20     00000066 S_INLINESITE parent=00000004 end=00000060 inlinee=80001001 invocations=- \
+        annotations= ??\n\
+        \x20       00000076 S_CONSTANT type_index=00001006 value=-2 managed=false c: volatile unsigned\n\
+        \x20       00000083 S_LOCAL type_index=00000000 flags=- z\n";
     is(&rt, "out.as_slice()", &out.as_slice(), &wanted);
     Ok(())
 }
@@ -226,8 +294,12 @@ fn register_is(
         older_lines: 0,
     };
     let info = module_of(rt, bytes.as_slice(), &sizes)?;
+    let none = ItemFinder::empty(alloc);
+    let definitions = TypeDefinitions::empty(alloc);
+    let global = GlobalIds::empty(alloc);
+    let names = LineNames::new(&none, &none, &definitions, &global);
     let mut out = Vec::new(alloc);
-    put_symbols_of(alloc, &mut out, header, &info)?;
+    put_symbols_of(alloc, &mut out, names, header, &info)?;
     let start = b"00000004 S_DEFRANGE_REGISTER register=".len();
     is(
         rt,
@@ -259,12 +331,13 @@ fn refused_symbols(rt: HostRuntime) -> Result<(), Fail> {
         older_lines: 0,
     };
     let info = module_of(&rt, &[5, 0, 0, 0], &sizes)?;
-    let ids = ItemFinder::empty(rt.alloc());
-    let mut out = Vec::new(rt.alloc());
-    put_symbols_of(rt.alloc(), &mut out, None, &info)?;
+    let none = ItemFinder::empty(rt.alloc());
+    let definitions = TypeDefinitions::empty(rt.alloc());
     let global = GlobalIds::empty(rt.alloc());
-    let names = CallNames::new(&ids, &ids, &global);
-    put_scopes(rt.alloc(), &mut out, &names, None, &info)?;
+    let names = LineNames::new(&none, &none, &definitions, &global);
+    let mut out = Vec::new(rt.alloc());
+    put_symbols_of(rt.alloc(), &mut out, names, None, &info)?;
+    put_scopes(rt.alloc(), &mut out, names, None, &info)?;
     let wanted: &[u8] = b"error 2 not supported: Unsupported symbol data format\n\
         error 2 not supported: Unsupported symbol data format\n";
     is(&rt, "out.as_slice()", &out.as_slice(), &wanted);

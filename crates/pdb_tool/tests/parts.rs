@@ -74,14 +74,14 @@ fn texts_of_a_file(rt: HostRuntime) -> Result<(), Fail> {
     both(&rt, &bytes, FileText::Code(&asked), code);
     both(&rt, &bytes, FileText::Lines(&[]), b"");
     both(&rt, &bytes, FileText::Lines(&[0, 1]), b"module 0 a\nnone\n");
-    let scopes: &[u8] = b"procedure 0001:00000050 33 f\n";
+    let scopes: &[u8] = b"procedure 0001:00000050 33 f: ??\n";
     both(&rt, &bytes, FileText::Scopes(&[]), scopes);
     both(&rt, &bytes, FileText::Scopes(&[0]), scopes);
     let globals: &[u8] =
         b"00000000 S_PUB32 code=false function=true managed=false msil=false offset=0001:00000010 p\n";
     both(&rt, &bytes, FileText::Symbols(&[]), globals);
     let symbols: &[u8] =
-        b"00000004 S_GPROC32 parent=- end=00000090 next=- len=33 dbg_start_offset=4 dbg_end_offset=30 type_index=00001009 offset=0001:00000050 flags=- global=true dpc=false f\n";
+        b"00000004 S_GPROC32 parent=- end=00000090 next=- len=33 dbg_start_offset=4 dbg_end_offset=30 type_index=00001009 offset=0001:00000050 flags=- global=true dpc=false f: ??\n";
     both(&rt, &bytes, FileText::Symbols(&[0]), symbols);
     both(&rt, &bytes, FileText::AllSymbols, symbols);
     Ok(())

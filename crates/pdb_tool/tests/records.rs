@@ -260,32 +260,32 @@ fn registers_of_variables(rt: HostRuntime) -> Result<(), Fail> {
         (
             Some(Machine::X64),
             b"\x06\x11t\x00\x00\x00\x4a\x01r\x00",
-            "S_REGISTER type_index=00000074 register=rcx",
+            "S_REGISTER type_index=00000074 register=rcx: int",
         ),
         (
             Some(Machine::X86),
             b"\x06\x11t\x00\x00\x00\x4a\x01r\x00",
-            "S_REGISTER type_index=00000074 register=014a",
+            "S_REGISTER type_index=00000074 register=014a: int",
         ),
         (
             Some(Machine::X64),
             b"\x11\x11\xf8\xff\xff\xff\x08\x10\x00\x00\x4f\x01y\x00",
-            "S_REGREL32 offset=-8 type_index=00001008 register=rsp y",
+            "S_REGREL32 offset=-8 type_index=00001008 register=rsp y: ??",
         ),
         (
             Some(Machine::Arm64),
             b"\x11\x11\xf8\xff\xff\xff\x08\x10\x00\x00\x51\x00y\x00",
-            "S_REGREL32 offset=-8 type_index=00001008 register=sp y",
+            "S_REGREL32 offset=-8 type_index=00001008 register=sp y: ??",
         ),
         (
             Some(Machine::X86),
             b"\x0a\x11\x04\x10\x00\x00\x02\x11\x00a\x00\x12\x01bc\x00",
-            "S_MANYREG type_index=00001004 registers=eax:a,0112:bc",
+            "S_MANYREG type_index=00001004 registers=eax:a,0112:bc: ??",
         ),
         (
             Some(Machine::X86),
             b"\x17\x11\x04\x10\x00\x00\x01\x00\x12\x00d\x00",
-            "S_MANYREG2 type_index=00001004 registers=ecx:d",
+            "S_MANYREG2 type_index=00001004 registers=ecx:d: ??",
         ),
     ];
     for (machine, record, wanted) in rows {
@@ -300,12 +300,12 @@ fn bits_that_no_field_has(rt: HostRuntime) -> Result<(), Fail> {
         (
             None,
             b"\x3e\x11\x07\x10\x00\x00\x00\x04x\x00",
-            "S_LOCAL type_index=00001007 flags=enreg_stat x",
+            "S_LOCAL type_index=00001007 flags=enreg_stat x: ??",
         ),
         (
             None,
             b"\x3e\x11\x07\x10\x00\x00\x01\xfex\x00",
-            "S_LOCAL type_index=00001007 flags=param+enreg_glob+enreg_stat x",
+            "S_LOCAL type_index=00001007 flags=param+enreg_glob+enreg_stat x: ??",
         ),
     ];
     for (machine, record, wanted) in rows {

@@ -1,9 +1,12 @@
 //! Small streams, and their texts.
 
+use crate::line_names::LineNames;
 use crate::symbol_texts::put_global_symbols;
 use crate::tests::fakes::is;
-use pdb::{DebugInformation, FallibleIterator, ModuleInfo, Stream, SymbolTable};
+use pdb::{DebugInformation, FallibleIterator, ItemFinder, ModuleInfo, Stream, SymbolTable};
 use pdb_records::Machine;
+use pdb_resolve::GlobalIds;
+use pdb_types::TypeDefinitions;
 use std::alloc::{AllocError, Global};
 use std::process::Abort;
 use std::test::Fail;
@@ -79,8 +82,12 @@ pub fn line_on(
     let mut list = Vec::new(alloc);
     put_record(rt, &mut list, record)?;
     let table = SymbolTable::new(Stream::new(list.as_slice()).expect(rt, "a short stream"));
+    let none = ItemFinder::empty(alloc);
+    let definitions = TypeDefinitions::empty(alloc);
+    let global = GlobalIds::empty(alloc);
+    let names = LineNames::new(&none, &none, &definitions, &global);
     let mut out = Vec::new(alloc);
-    put_global_symbols(alloc, &mut out, machine, &table)?;
+    put_global_symbols(alloc, &mut out, names, machine, &table)?;
     let wanted = format!(in alloc; "00000000 {wanted}\n")?;
     is(rt, "out.as_slice()", &out.as_slice(), &wanted.as_bytes());
     Ok(())

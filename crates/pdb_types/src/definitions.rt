@@ -1,6 +1,6 @@
 //! The full definitions of types, which records that only declare a type stand for.
 
-ghost use Rattle.std.specs.Prelude.{◌≡◌, ◌++◌, ℕ, List, map, IfOk, OnOk};
+ghost use Rattle.std.specs.Prelude.{◌≡◌, ◌++◌, ℕ, List, [], map, IfOk, OnOk};
 ghost use Rattle.std.specs.Option.{option_map, option_to_list};
 ghost use Rattle.std.specs.List.Sorted.{IsSortedBy};
 ghost use Rattle.std.specs.Ordering.{is_lt, nat_cmp};
@@ -181,6 +181,15 @@ impl<'t> TypeDefinitions<'t> {
         let mut sorted = rows_of(alloc, items)?;
         sort(&mut sorted)?;
         Ok(TypeDefinitions { sorted })
+    }
+
+    /// No definitions. It takes no memory.
+    pub fn empty(alloc: Global) -> Self
+        ensures { result ≡ [] }
+    {
+        TypeDefinitions {
+            sorted: Vec::new(alloc),
+        }
     }
 
     // The index of the first definition of a key.

@@ -1,25 +1,31 @@
-use Rattle.std.proofs.Common.{◌≡◌, ℕ, List, [], ◌∷◌, length, refl, arith}
-use Rattle.std.proofs.lemmas.Grind.{common_steps}
+use Rattle.std.proofs.Common.{ℕ, List, Option, subst}
 use Rattle.std.specs.Prelude.{OnErr, OnOk}
 use Rattle.std.specs.Io.KnownBytes.{Appends}
+use Rattle.pdb.specs.ModuleStream.{ModuleBytes}
 use Rattle.pdb_text.specs.Written.{WroteFront}
-use Rattle.pdb_tool.specs.ModuleTexts.{places_text, symbols_command}
-use Rattle.pdb_tool.specs.ModuleMachines.{file_machine}
+use Rattle.pdb_tool.specs.LineNames.{names_from}
+use Rattle.pdb_tool.specs.ModuleTexts.{in_file, places_text}
 use Rattle.pdb_tool.specs.SymbolTexts.{symbols_text}
+use Rattle.pdb_tool.proofs.PlacesTexts.{no_symbols, some_symbols}
 use Rattle.pdb_tool.proofs.commands.write_numbered.Goals as goal
 
-some_places : (P : List ℕ → Type 0) (file ks : List ℕ) → (length ks ≡ 0 → ⊥) → P (places_text (symbols_text (file_machine file)) file ks) → P (symbols_command file ks)
-some_places P file [] some h = absurd (some refl)
-some_places P file (k ∷ ks) some h = h
+pub returns-in-Some-clause-ok : goal.returns-in-Some-clause-ok
+returns-in-Some-clause-ok g c =
+    let t = c.in_ok-tables.tables in
+    let p = c.machine_of_file.new.pdb.file in
+    let named = subst (λ (f : List ℕ → Option ℕ). OnOk c.write_places.result (Appends (g.W.Write.contents c.args.out.now) (g.W.Write.contents c.write_places.new.out) (places_text (in_file (λ (ids : ℕ → Option ℕ) (m : ModuleBytes). symbols_text (names_from t.ids t.types f ids) t.header m) p) p c.args.places.now))) c.in_ok-tables.ensures.definitions c.write_places.ensures.ok in
+    let written = rw (c.in_ok-tables.ensures.ids, c.in_ok-tables.ensures.types, c.in_ok-tables.ensures.header, c.as_ref.ensures.value, c.as_ref-2.ensures.value, c.in_ok-ids.ensures.is, c.in_ok-types.ensures.is, c.in_ok-header.ensures.is, c.machine_of_file.ensures.continues.file, c.types_stream.ensures.continues.file, c.ids_stream.ensures.continues.file) at named in
+    rw (some_symbols c.args.pdb.now.file c.args.places.now _ _ c.in-Some.ensures.cases.0) written
 
-pub returns-else-is_empty-clause-front : goal.returns-else-is_empty-clause-front
-returns-else-is_empty-clause-front g c =
-    let some : length c.args.places.now ≡ 0 → ⊥ = λ e. grind (arith, common_steps, e) in
-    some_places (λ t. OnErr c.write_places.result (WroteFront (g.W.Write.contents c.args.out.now) (g.W.Write.contents c.write_places.new.out) t)) c.args.pdb.now.file c.args.places.now some
-    (rw (c.in_ok-header.ensures.is, c.machine_of_file.ensures.continues.file) at c.write_places.ensures.front)
+pub returns-in-Some-clause-front : goal.returns-in-Some-clause-front
+returns-in-Some-clause-front g c =
+    let t = c.in_ok-tables.tables in
+    let p = c.machine_of_file.new.pdb.file in
+    let named = subst (λ (f : List ℕ → Option ℕ). OnErr c.write_places.result (WroteFront (g.W.Write.contents c.args.out.now) (g.W.Write.contents c.write_places.new.out) (places_text (in_file (λ (ids : ℕ → Option ℕ) (m : ModuleBytes). symbols_text (names_from t.ids t.types f ids) t.header m) p) p c.args.places.now))) c.in_ok-tables.ensures.definitions c.write_places.ensures.front in
+    let written = rw (c.in_ok-tables.ensures.ids, c.in_ok-tables.ensures.types, c.in_ok-tables.ensures.header, c.as_ref.ensures.value, c.as_ref-2.ensures.value, c.in_ok-ids.ensures.is, c.in_ok-types.ensures.is, c.in_ok-header.ensures.is, c.machine_of_file.ensures.continues.file, c.types_stream.ensures.continues.file, c.ids_stream.ensures.continues.file) at named in
+    rw (some_symbols c.args.pdb.now.file c.args.places.now _ _ c.in-Some.ensures.cases.0) written
 
-pub returns-else-is_empty-clause-ok : goal.returns-else-is_empty-clause-ok
-returns-else-is_empty-clause-ok g c =
-    let some : length c.args.places.now ≡ 0 → ⊥ = λ e. grind (arith, common_steps, e) in
-    some_places (λ t. OnOk c.write_places.result (Appends (g.W.Write.contents c.args.out.now) (g.W.Write.contents c.write_places.new.out) t)) c.args.pdb.now.file c.args.places.now some
-    (rw (c.in_ok-header.ensures.is, c.machine_of_file.ensures.continues.file) at c.write_places.ensures.ok)
+pub returns-clause-front : goal.returns-clause-front
+returns-clause-front g c =
+    let written = rw (c.in_ok-tables.ensures.definitions, c.in_ok-tables.ensures.ids, c.in_ok-tables.ensures.types, c.in_ok-tables.ensures.header, c.as_ref.ensures.value, c.as_ref-2.ensures.value, c.in_ok-ids.ensures.is, c.in_ok-types.ensures.is, c.in_ok-header.ensures.is, c.machine_of_file.ensures.continues.file, c.types_stream.ensures.continues.file, c.ids_stream.ensures.continues.file) at c.write_globals.ensures.front in
+    rw (no_symbols c.args.pdb.now.file c.args.places.now c.in-None.ensures.cases) written

@@ -1,0 +1,169 @@
+//! The names at the ends of lines: those of types, and those of functions that are inlined.
+
+ghost use Rattle.std.specs.Prelude.{◌≡◌, ◌++◌, OnOk};
+ghost use Rattle.std.specs.Option.{option_map};
+ghost use Rattle.pdb.specs.Data.{shown};
+ghost use Rattle.pdb.specs.Qualified.{shown_qualified};
+ghost use Rattle.pdb_resolve.specs.ImportTables.{ids_by};
+ghost use Rattle.pdb_types.specs.FullTypes.{first_definition};
+ghost use Rattle.pdb_tool.specs.LineNames.{declared_type, has_id, names_from, procedure_type, typed_end, typed_text};
+ghost use Rattle.pdb_tool.specs.LineViews.{end_of, names_of_lines};
+
+use crate::type_names::put_type_name;
+use pdb::{IdIndex, ItemFinder, QualifiedName, SymbolData, TypeIndex};
+use pdb_resolve::{CallNames, GlobalIds};
+use pdb_text::put_line_end;
+use pdb_types::{TypeDefinitions, function_type};
+use std::alloc::AllocError;
+
+/// Whether a procedure of this kind has an id in the place of its type: `S_LPROC32_ID`, `S_GPROC32_ID`,
+/// `S_LPROC32_DPC_ID`.
+fn has_id(kind: u16) -> bool
+    ensures { result ≡ has_id kind }
+{
+    matches!(kind, 0x1146 | 0x1147 | 0x1156)
+}
+
+/// What the names at the ends of lines are found by.
+#[derive(Clone, Copy)]
+pub struct LineNames<'x, 'a> {
+    calls: CallNames<'x, 'a>,
+    ids: &'x ItemFinder<'a>,
+    types: &'x ItemFinder<'a>,
+    definitions: &'x TypeDefinitions<'a>,
+    global: &'x GlobalIds<'x>,
+}
+
+impl<'x, 'a> LineNames<'x, 'a> {
+    /// The names by ids, types, the definitions among these, and the ids that the whole file knows.
+    pub fn new(
+        ids: &'x ItemFinder<'a>,
+        types: &'x ItemFinder<'a>,
+        definitions: &'x TypeDefinitions<'a>,
+        global: &'x GlobalIds<'x>,
+    ) -> Self
+        ensures { names_of_lines result ≡ names_from ids.entry.now types.entry.now (first_definition definitions.entry.now) (ids_by global.entry.now) }
+    {
+        let calls = CallNames::new(ids, types, global);
+        LineNames {
+            calls,
+            ids,
+            types,
+            definitions,
+            global,
+        }
+    }
+
+    /// The name of the function of an inlined call, by the id of the call.
+    pub fn called(&self, id: IdIndex) -> Option<QualifiedName<'a>>
+        ensures { option_map shown_qualified result ≡ (names_of_lines self.now).called id.0 }
+    {
+        self.calls.find(id)
+    }
+
+    // The type of a function, by its id.
+    fn function_type(&self, id: u32) -> Option<TypeIndex>
+        ensures { result ≡ (names_of_lines self.now).function_type id }
+    {
+        let item = self.ids.find(id)?;
+        function_type(&item)
+    }
+
+    // The type of the function of an inlined call, by the id of the call.
+    fn called_type(&self, id: IdIndex) -> Option<TypeIndex>
+        ensures { result ≡ (names_of_lines self.now).called_type id.0 }
+    {
+        let id = self.global.find(id)?;
+        self.function_type(id.0)
+    }
+
+    // The type of a procedure of a kind, by the index that stands in the place of its type.
+    fn procedure_type(&self, kind: u16, index: TypeIndex) -> Option<TypeIndex>
+        ensures { result ≡ procedure_type (names_of_lines self.now) kind index }
+    {
+        if has_id(kind) {
+            self.function_type(index.0)
+        } else {
+            Some(index)
+        }
+    }
+
+    // The type of what a record of a kind declares.
+    fn declared_type(&self, kind: u16, parsed: &SymbolData<'_>) -> Option<TypeIndex>
+        ensures { result ≡ declared_type (names_of_lines self.now) kind (shown parsed.now) }
+    {
+        match parsed {
+            SymbolData::Procedure(s) => self.procedure_type(kind, s.type_index),
+            SymbolData::Data(s) => Some(s.type_index),
+            SymbolData::ThreadStorage(s) => Some(s.type_index),
+            SymbolData::Local(s) => Some(s.type_index),
+            SymbolData::RegisterVariable(s) => Some(s.type_index),
+            SymbolData::RegisterRelative(s) => Some(s.type_index),
+            SymbolData::Constant(s) => Some(s.type_index),
+            SymbolData::UserDefinedType(s) => Some(s.type_index),
+            SymbolData::MultiRegisterVariable(s) => Some(s.type_index),
+            SymbolData::InlineSite(s) => self.called_type(s.inlinee),
+            _ => None,
+        }
+    }
+
+    /// The end of the line of a record of a kind.
+    pub fn end_of(self, kind: u16, parsed: &SymbolData<'_>) -> LineEnd<'x, 'a>
+        ensures { end_of result ≡ typed_end (names_of_lines self.entry) (declared_type (names_of_lines self.entry) kind (shown parsed.now)) }
+    {
+        LineEnd {
+            names: self,
+            index: self.declared_type(kind, parsed),
+        }
+    }
+
+    /// The name of the type of what a record of a kind declares, behind a colon.
+    pub fn put_declared(
+        &self,
+        out: &mut Vec<u8>,
+        kind: u16,
+        parsed: &SymbolData<'_>,
+    ) -> Result<(), AllocError>
+        ensures { OnOk result (out.new.items ≡ out.old.items ++ typed_text (names_of_lines self.now) (declared_type (names_of_lines self.now) kind (shown parsed.now))) }
+    {
+        self.put_type(out, self.declared_type(kind, parsed))
+    }
+
+    /// The end of the line of something of a type.
+    pub fn end(self, index: Option<TypeIndex>) -> LineEnd<'x, 'a>
+        ensures { end_of result ≡ typed_end (names_of_lines self.entry) index }
+    {
+        LineEnd { names: self, index }
+    }
+
+    // The name of a type behind a colon, where the index is that of a type.
+    #[tactic(auto, unfolding(crate::specs::LineNames::typed_text))]
+    fn put_type(&self, out: &mut Vec<u8>, index: Option<TypeIndex>) -> Result<(), AllocError>
+        ensures { OnOk result (out.new.items ≡ out.old.items ++ typed_text (names_of_lines self.now) index) }
+    {
+        match index {
+            Some(TypeIndex(0)) | None => Ok(()),
+            Some(index) => {
+                out.extend_from_slice(b": ")?;
+                put_type_name(self.types, self.definitions, out, index)
+            }
+        }
+    }
+}
+
+/// How a line ends: with the name of a type behind a colon, where it has one.
+#[derive(Clone, Copy)]
+pub struct LineEnd<'x, 'a> {
+    names: LineNames<'x, 'a>,
+    index: Option<TypeIndex>,
+}
+
+impl<'x, 'a> LineEnd<'x, 'a> {
+    /// Writes the end of the line.
+    pub fn put(&self, out: &mut Vec<u8>) -> Result<(), AllocError>
+        ensures { OnOk result (out.new.items ≡ out.old.items ++ end_of self.now) }
+    {
+        self.names.put_type(out, self.index)?;
+        put_line_end(out)
+    }
+}
