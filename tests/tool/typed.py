@@ -7,7 +7,7 @@ import random
 from struct import error, pack, unpack_from
 
 from across import container, numbers
-from program import FILES, REAL, ran, tell
+from program import FILES, REAL, damage_notice, ran, tell
 from streams import File, u16, u32
 
 CORPUS = os.environ.get("PDB_FILES")
@@ -512,7 +512,7 @@ def compare_types(what, path):
     status, out, err = ran("types", path)
     lines = out.split(b"\n")[:-1]
     other = next((it for it in zip(lines, wanted) if it[0] != it[1]), (len(lines), len(wanted)))
-    tell((status, err) == (0, b"") and lines == wanted, f"types of {what}", other)
+    tell((status, err) == (0, damage_notice(path, out)) and lines == wanted, f"types of {what}", (err, *other))
     some = [0, 0x74, 0x103, 0x674, 0xFFF, 0x1000, 0x1001, 0x7FFFFFFF, 0xFFFFFFFF] + [index for index, _ in listed[::97]]
     wanted = b"".join(line + b"\n" for index in some for line in types.lines(index))
     found = ran("types", path, *(f"{index:x}" for index in some))

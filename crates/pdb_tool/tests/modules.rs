@@ -259,9 +259,9 @@ fn types_of_symbols(rt: HostRuntime) -> Result<(), Fail> {
         dbg_start_offset=4 dbg_end_offset=30 type_index=00001000 offset=0001:00000050 flags=- \
         global=false dpc=true j\n\
         \x20   00000056 S_INLINESITE parent=00000004 end=00000060 inlinee=00001001 invocations=- \
-        annotations= ns::ab: int\n\
+        annotations=- ns::ab: int\n\
         \x20     00000066 S_INLINESITE parent=00000004 end=00000060 inlinee=80001001 invocations=- \
-        annotations= ??\n\
+        annotations=- ??\n\
         \x20       00000076 S_CONSTANT type_index=00001006 value=-2 managed=false c: volatile unsigned\n\
         \x20       00000083 S_LOCAL type_index=00000000 flags=- z\n";
     is(&rt, "out.as_slice()", &out.as_slice(), &wanted);
