@@ -16,7 +16,7 @@
  *         uint8_t, in bytes. Where a capacity is too small the call writes what fits, returns PDB_ROOM, and sets how much
  *         there is: call with capacity 0 to get the size first. A list with an error behind its items returns that error,
  *         whether or not the items fit: compare *count with the capacity.
- * Borrow  pdb_module, pdb_symbol, pdb_file, pdb_import, pdb_image_t and a name of pdb_name point into the bytes that were
+ * Borrow  pdb_module, pdb_symbol, pdb_file, pdb_import, pdb_member, pdb_image_t and a name of pdb_name point into the bytes that were
  *         passed in that call. They are valid as long as these stay where they are, unchanged. No zero byte ends a name: use sizes.
  * Memory  Calls that may take memory say so. All of it is freed before they return. Where malloc fails, they return
  *         PDB_OUT_OF_MEMORY; nothing aborts, and the same call may be made again. What a buffer then holds is unspecified,
@@ -337,6 +337,78 @@ pdb_code pdb_exports(const uint8_t *stream, size_t stream_size, uint32_t symbols
 
 /* The name at the offset place of the string table, whose bytes are names; borrows them. Takes no memory. */
 pdb_code pdb_name(const uint8_t *names, size_t names_size, uint32_t place, pdb_bytes *out);
+
+/* ---- Types, of the bytes of the stream of types. An index below 4096 is that of a simple type, as 116 of int; the types
+ * of the stream have the others. Ask for many indices at once: each call reads the whole stream. All three calls take
+ * memory. An error is that of the stream, PDB_LARGE, or PDB_OUT_OF_MEMORY: then nothing is written, and each count is 0. Types
+ * behind a damaged record are not present. */
+
+#define PDB_TYPES_STREAM 2
+
+typedef struct pdb_type_name_t {
+    size_t at;   /* the offset of the name in names */
+    size_t size; /* the number of its bytes */
+} pdb_type_name_t;
+
+/* The names of the types of count indices in C++, as "int (*[2])(char)": a row of each, and the names one after the other.
+ * *size is how many bytes they have. A name has at most 65541 bytes: behind 65536 bytes it ends with "<...>", and so does
+ * what stands more than 64 records deep. What has no name is "??". PDB_ROOM where rows_room is below count, or names_room below
+ * *size; what fits is written. */
+pdb_code pdb_type_name(const uint8_t *types, size_t types_size, const uint32_t *indices, size_t count,
+                       pdb_type_name_t *rows, size_t rows_room, uint8_t *names, size_t names_room, size_t *size);
+
+typedef struct pdb_type_size_t {
+    uint64_t size;     /* bytes of an object of the type; 0 where it has no size */
+    uint32_t full;     /* of a class, a union or an enumeration that is only declared the index of its definition; of one that
+                        * is defined its own; 0 where there is no definition, and of every other type */
+    uint32_t has_size; /* 1 or 0: a function has no size, nor has what is only declared in the whole file */
+} pdb_type_size_t;
+
+/* The sizes of the types of count indices. PDB_ROOM where rows_room is below count; what fits is written. */
+pdb_code pdb_type_size(const uint8_t *types, size_t types_size, const uint32_t *indices, size_t count,
+                       pdb_type_size_t *rows, size_t rows_room);
+
+/* What a member doesn't have is 0 or empty. */
+typedef struct pdb_member {
+    pdb_bytes name;      /* borrows types */
+    uint64_t value;      /* of an enumerator its value; of a virtual function its offset in the table of virtual functions; of
+                          * others the offset in the object: in bytes */
+    uint64_t value_high; /* bits 64 to 127 of the value: it is in two's complement, so that all are set where it is negative */
+    uint64_t entry;      /* of a virtual base class: its entry in the table of virtual base classes */
+    size_t owner;        /* which of the indices it belongs to, from 0 */
+    uint32_t type_index; /* its type */
+    uint16_t attributes; /* CV_fldattr_t of cvinfo.h: its last 2 bits are PDB_PRIVATE, .. */
+    uint8_t form;        /* PDB_BASE_CLASS, ..; 0 where the list has an error here */
+    uint8_t refused;     /* 0, or the error: nothing of this type follows */
+    uint8_t has_value;   /* 1 or 0 */
+    uint8_t has_bit;     /* 1 or 0: whether it is a bit field; value is then that of its bytes */
+    uint8_t bit;         /* the first bit of a bit field, from the lowest bit of those bytes */
+} pdb_member;
+
+enum { PDB_PRIVATE = 1, PDB_PROTECTED = 2, PDB_PUBLIC_ACCESS = 3 };
+
+enum {
+    PDB_BASE_CLASS = 1,
+    PDB_VIRTUAL_BASE_CLASS,          /* value is the offset of the pointer to its table, in the object */
+    PDB_INDIRECT_VIRTUAL_BASE_CLASS, /* one of a base class */
+    PDB_VIRTUAL_TABLE_POINTER,       /* type_index is the type of the pointer */
+    PDB_VIRTUAL_TABLE_OFFSET,        /* the same, with its offset */
+    PDB_FRIEND_CLASS,
+    PDB_FRIEND_FUNCTION,
+    PDB_ENUMERATOR,
+    PDB_DATA_MEMBER,
+    PDB_STATIC_MEMBER,
+    PDB_MEMBER_FUNCTION,             /* one for each overload */
+    PDB_UNREAD_FUNCTIONS,            /* the list of the overloads of a name isn't there, or has an error behind those before */
+    PDB_NESTED_TYPE,
+    PDB_MORE_MEMBERS                 /* more than 1024 lists go on in one another: the others aren't read */
+};
+
+/* The members of the types of count indices, one type after the other; *rows_count is how many there are. A type that is only
+ * declared has the members of its definition; what is no class, union or enumeration has none. PDB_ROOM where room is below
+ * *rows_count; what fits is written. */
+pdb_code pdb_members(const uint8_t *types, size_t types_size, const uint32_t *indices, size_t count,
+                     pdb_member *records, size_t room, size_t *rows_count);
 
 /* ---- Frames of addresses. */
 

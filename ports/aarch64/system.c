@@ -1,5 +1,5 @@
 /* The functions of the kit that the proved programs call, and that it has for x86-64 alone: arguments, the environment and
- * errno. All others are those of the C library.
+ * errno. All others are those of the C library. Also the line that pdb_tool prints behind its version.
  *
  * Nothing here is proved. Each function keeps what the proofs state of the function of its name. rattle_arg and
  * rattle_env_at write what fits and return the size, -1 where there is nothing of this number, or -2 where it doesn't fit;
@@ -9,15 +9,28 @@
 #include <stdint.h>
 #include <stdlib.h>
 #include <string.h>
+#include <unistd.h>
 
 extern char **environ;
 static size_t count;
 static char **arguments;
 
+/* The object and the target, which a program prints behind its version; empty where it has no such option. */
+extern const char pdb_about[];
+
+static void print_about(void) {
+    const char *rest = pdb_about;
+    ssize_t done;
+    while (*rest && (done = write(1, rest, strlen(rest))) > 0) rest += done;
+}
+
+static int is_version(const char *word) { return !strcmp(word, "--version") || !strcmp(word, "version") || !strcmp(word, "-V"); }
+
 /* glibc passes the arguments of the program to what runs before `main`. */
 __attribute__((constructor)) static void begin(int given, char **words) {
     count = (size_t)given;
     arguments = words;
+    if (count == 2 && is_version(words[1])) atexit(print_about);
 }
 
 static int64_t put(const char *text, uint8_t *bytes, size_t capacity) {

@@ -17,8 +17,8 @@ export const CODES = Object.freeze(Object.fromEntries(Object.entries(NAMES).map(
 export const nameOf = (code) => NAMES[code] ?? `Code${code}`;
 
 /**
- * An error of the library: `code` is its number in pdb.h, and `error` its name. `number` is what the error of a file that can't
- * be opened carries, and otherwise 0.
+ * An error of the library: `code` is its number in pdb.h, and `error` its name. `number` is what the error carries: of a file
+ * that can't be opened a page size, a page or a stream; the stream that isn't there. Otherwise it is 0.
  */
 export class PdbError extends Error {
     constructor(code, message = nameOf(code), number = 0) {

@@ -73,6 +73,11 @@ export class Memory {
         if (index >= 0) this.#blocks.splice(index, 1);
     }
 
+    /** Whether the module has a call. */
+    has(name) {
+        return name in this.#exports;
+    }
+
     /**
      * Calls the library; addresses and sizes are BigInts, other numbers are numbers. A trap, as where the stack ends,
      * leaves the instance as it stood then, so it takes no more calls.

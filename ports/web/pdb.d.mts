@@ -5,7 +5,7 @@ export class PdbError extends Error {
     constructor(code: number, message?: string, number?: number);
     readonly code: number;
     readonly error: string;
-    /** Of a file that can't be opened: a page size, a page or a stream; otherwise 0. */
+    /** Of a file that can't be opened: a page size, a page or a stream; the stream that isn't there; otherwise 0. */
     readonly number: number;
 }
 /** The engine or `memoryLimit` allows no more memory; the same call may be made again. */
@@ -18,7 +18,10 @@ export const CODES: Readonly<Record<string, number>>;
 /** A file: its bytes, a Blob or File, or in Node a path. */
 export type Source = Uint8Array | ArrayBuffer | Blob | string | URL;
 export interface OpenOptions {
-    /** pdb.wasm: its module, its bytes or its URL. Otherwise the file beside pdb.mjs. */
+    /**
+     * pdb.wasm or pdb-types.wasm: its module, its bytes or its URL. Otherwise pdb.wasm beside pdb.mjs, which lacks the calls of
+     * types. "pdb-types.wasm" is the file beside pdb.mjs that has them.
+     */
     wasm?: WebAssembly.Module | Uint8Array | ArrayBuffer | string | URL;
     /** Is called with the number of bytes that were read, and with that of all. */
     onProgress?: (done: number, of: number) => void;
@@ -101,7 +104,7 @@ export interface PdbSymbol {
     kind: number;
     /** The record layout; null where the record can't be read. */
     form: Form | null;
-    /** 0 and null, or why the record can't be read. */
+    /** 0 and null, or why the record can't be read; UnimplementedSymbolKind is about `kind`. */
     code: number;
     error: string | null;
     name: string | null;
@@ -131,6 +134,8 @@ export interface Line extends Named {
     length: number | null;
     /** By the offset of its checksum: `index` of SourceFile. */
     file: number;
+    /** 0, or the code of why the file has no name; InvalidFileChecksumOffset is about `file`. */
+    fileCode: number;
     lineStart: number;
     lineEnd: number;
     columnStart: number | null;
@@ -143,10 +148,35 @@ export interface SourceFile extends Named {
     checksum: Uint8Array;
 }
 /** An inlined function; the first one of an id counts. */
-export interface Inlinee extends Named { id: number; line: number; file: number; }
+export interface Inlinee extends Named { id: number; line: number; file: number; fileCode: number; }
 /** A module from which a module imports, and the types and ids that it takes. */
 export interface Import extends Named { numbers: number[]; }
 export interface Export { kind: "type" | "id"; local: number; global: number; }
+/** The size of a type in bytes, and of a class, a union or an enumeration the index of its definition. */
+export interface TypeSize { size: bigint | null; full: number | null; }
+export type MemberKind =
+    | "BaseClass" | "VirtualBaseClass" | "IndirectVirtualBaseClass" | "VirtualTablePointer" | "VirtualTableOffset" | "FriendClass"
+    | "FriendFunction" | "Enumerator" | "DataMember" | "StaticMember" | "MemberFunction" | "UnreadFunctions" | "NestedType"
+    | "MoreMembers";
+export const MEMBER_KINDS: readonly (MemberKind | null)[];
+export interface Member {
+    /** null where the list of members has an error here. */
+    kind: MemberKind | null;
+    /** 0 and null, or that error. */
+    code: number;
+    error: string | null;
+    name: string;
+    typeIndex: number | null;
+    /** Of an enumerator its value; of others an offset, in the object or in the table of virtual functions. */
+    value: bigint | null;
+    /** Of a virtual base class, in its table. */
+    entry: bigint | null;
+    /** The first bit of a bit field. */
+    bit: number | null;
+    /** CV_fldattr_t of cvinfo.h. */
+    attributes: number;
+    access: "private" | "protected" | "public" | null;
+}
 /** An address relative to the load address, or an offset in a section. What is out of range, and null, has no code. */
 export type Address = number | bigint | { section: number; offset: number } | null;
 /** A function at an address, and the line there; line and column are 0 where unknown. */
@@ -202,6 +232,10 @@ export class Pdb {
     exports(k: number): List<Export>;
     /** The name at an offset of the string table. */
     nameAt(offset: number): string;
+    /** The names of types in C++, their sizes and their members, by their indices: each call reads all types once. Throws where pdb-types.wasm isn't used. */
+    typeNames(indices: readonly number[]): string[];
+    typeSizes(indices: readonly number[]): TypeSize[];
+    members(indices: readonly number[]): Member[][];
     /** Of each address the frames from the innermost inlined function to the function itself, at least one. */
     frames(addresses: readonly Address[]): Frame[][];
 }

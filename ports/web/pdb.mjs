@@ -6,13 +6,13 @@ import { CODES, PdbError, PdbOutOfMemory } from "./errors.mjs";
 import { Memory, borrowed, u64 } from "./memory.mjs";
 import {
     FORMS, NO_STREAM, SIZES, contributionOf, debugInformationOf, exportOf, fileOf, framesOf, guidText, imageOf, importOf,
-    informationOf, inlineeOf, lineOf, moduleOf, putAddress, sectionOf, symbolOf,
+    MEMBER_KINDS, informationOf, inlineeOf, lineOf, memberOf, moduleOf, putAddress, sectionOf, symbolOf, typeSizeOf,
 } from "./records.mjs";
 import { isNode, sourceOf } from "./source.mjs";
 
-export { CODES, FORMS, PdbError, PdbOutOfMemory, guidText };
+export { CODES, FORMS, MEMBER_KINDS, PdbError, PdbOutOfMemory, guidText };
 
-const DONE = 0, END = 30, ROOM = 31, DBI_STREAM = 3, SYMBOLS_AT = 4, GLOBALS_AT = 0;
+const DONE = 0, END = 30, ROOM = 31, INFORMATION_STREAM = 1, TYPES_STREAM = 2, DBI_STREAM = 3, SYMBOLS_AT = 4, GLOBALS_AT = 0;
 const GUESS = 1 << 16, FIRST_ROWS = 64, ROWS = 1024, KEY_SIZE = 40;
 // A memory of 32 bits has 4 GB, of which the file may take so many.
 const LARGEST = 3 * 2 ** 30;
@@ -23,6 +23,7 @@ export class Pdb {
     #modules = null;
     #header = null;
     #names = null;
+    #types = null;
     #nameAt = new Map();
     #last = null;
 
@@ -59,8 +60,9 @@ export class Pdb {
         }
     }
 
-    #check(code, what) {
-        if (code !== DONE) throw this.#memory.error(code, what);
+    /** Throws the error of a code; one of a stream that isn't there has the number of the stream. */
+    #check(code, what, stream = 0) {
+        if (code !== DONE) throw this.#memory.error(code, what, code === CODES.StreamNotFound ? stream : 0);
     }
 
     /** Calls with the file's bytes first. All numbers behind them are addresses and sizes. */
@@ -71,7 +73,7 @@ export class Pdb {
     information() {
         return this.#with((take, memory) => {
             const at = take(SIZES.information);
-            this.#check(this.#call("pdb_information", at), "information");
+            this.#check(this.#call("pdb_information", at), "information", INFORMATION_STREAM);
             return informationOf(memory.view, at, memory);
         });
     }
@@ -79,7 +81,7 @@ export class Pdb {
     debugInformation() {
         this.#header ??= this.#with((take, memory) => {
             const at = take(SIZES.debugInformation);
-            this.#check(this.#call("pdb_debug_information", at), "debug information");
+            this.#check(this.#call("pdb_debug_information", at), "debug information", DBI_STREAM);
             return debugInformationOf(memory.view, at);
         });
         return this.#header;
@@ -94,7 +96,7 @@ export class Pdb {
     }
 
     /** Takes a block that is as large as a call wants it: its bytes, which the caller gives back. */
-    #sized(guess, what, size, call) {
+    #sized(guess, what, size, call, stream = 0) {
         const memory = this.#memory;
         for (let capacity = Math.min(guess, this.#size); ; ) {
             const at = memory.take(capacity);
@@ -105,7 +107,7 @@ export class Pdb {
                 if (code !== DONE) memory.give(at);
             }
             if (code === DONE) return { at, size: u64(memory.view, size) };
-            if (code !== ROOM) throw memory.error(code, what);
+            if (code !== ROOM) this.#check(code, what, stream);
             capacity = u64(memory.view, size);
         }
     }
@@ -118,7 +120,7 @@ export class Pdb {
             return this.#sized(guess, `stream ${number}`, size, (at, capacity) => {
                 const code = this.#call("pdb_streams", numbers, 1, row, 1, at, capacity, size);
                 return code || memory.view.getUint32(row + 20, true);
-            });
+            }, number);
         });
     }
 
@@ -138,7 +140,7 @@ export class Pdb {
     }
 
     stream(number) {
-        if (!Number.isInteger(number) || number < 0 || number > 0xffff) throw this.#memory.error(CODES.StreamNotFound, `stream ${number}`);
+        if (!Number.isInteger(number) || number < 0 || number > 0xffff) this.#check(CODES.StreamNotFound, `stream ${number}`, number);
         return this.#copied(this.#stream(number, GUESS));
     }
 
@@ -153,7 +155,7 @@ export class Pdb {
             const [n, bytes] = [u64(memory.view, count), u64(memory.view, size)];
             const rows = take(n * SIZES.streamName), names = take(bytes);
             if (code === ROOM) code = this.#call("pdb_stream_names", rows, n, count, names, bytes, size);
-            this.#check(code, "names of streams");
+            this.#check(code, "names of streams", INFORMATION_STREAM);
             return Array.from({ length: n }, (_, k) => {
                 const { view } = memory, at = rows + k * SIZES.streamName, number = view.getUint32(at + 16, true);
                 return { name: memory.text(names + u64(view, at), u64(view, at + 8)), number: number === NO_STREAM ? null : number };
@@ -353,6 +355,46 @@ export class Pdb {
             return this.#list(call, size, SIZES.line, (view, row) => ({ ...lineOf(view, row), nameAt: null, name: null }));
         });
         yield* this.#each(found, "annotations");
+    }
+
+    /** Does work with indices in memory and with a call over the stream of types, which is kept. */
+    #withTypes(indices, work) {
+        if (!this.#memory?.has("pdb_members")) throw new Error("pdb.wasm has no types: open the file with { wasm: \"pdb-types.wasm\" }");
+        this.#types ??= this.#stream(TYPES_STREAM, 1 << 20);
+        return this.#with((take, memory) => {
+            const { at, size } = this.#types, asked = take(4 * indices.length);
+            indices.forEach((it, k) => memory.view.setUint32(asked + 4 * k, it, true));
+            const call = (name, ...values) => memory.call(name, big(at), big(size), big(asked), big(indices.length), ...values.map(big));
+            return work(call, take, memory);
+        });
+    }
+
+    typeNames(indices) {
+        return this.#withTypes(indices, (call, take, memory) => {
+            const rows = take(SIZES.typeName * indices.length), size = take(8);
+            const names = this.#sized(GUESS, "names of types", size, (at, capacity) => call("pdb_type_name", rows, indices.length, at, capacity, size));
+            const { view } = memory, found = indices.map((_, k) => memory.text(names.at + u64(view, rows + 16 * k), u64(view, rows + 16 * k + 8)));
+            memory.give(names.at);
+            return found;
+        });
+    }
+
+    typeSizes(indices) {
+        return this.#withTypes(indices, (call, take, memory) => {
+            const rows = take(SIZES.typeSize * indices.length);
+            this.#check(call("pdb_type_size", rows, indices.length), "sizes of types");
+            return indices.map((_, k) => typeSizeOf(memory.view, rows + SIZES.typeSize * k));
+        });
+    }
+
+    members(indices) {
+        return this.#withTypes(indices, (call) => {
+            const { list, code } = this.#list((rows, most, count) => call("pdb_members", rows, most, count), FIRST_ROWS, SIZES.member, memberOf);
+            this.#check(code, "members");
+            const found = indices.map(() => []);
+            for (const { owner, member } of list) found[owner].push(member);
+            return found;
+        });
     }
 
     frames(addresses) {

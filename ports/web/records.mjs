@@ -8,7 +8,7 @@ export const NO_STREAM = 0xffff;
 /** How many bytes each record has. */
 export const SIZES = Object.freeze({
     information: 44, debugInformation: 16, stream: 24, streamName: 24, section: 44, module: 48, contribution: 32, symbol: 88,
-    line: 40, file: 32, inlinee: 20, import: 24, export: 8, address: 8, frame: 56, image: 80,
+    line: 40, file: 32, inlinee: 20, import: 24, export: 8, address: 8, frame: 56, image: 80, typeName: 16, typeSize: 16, member: 64,
 });
 
 /** The record layouts of symbols, by their numbers. */
@@ -18,6 +18,12 @@ export const FORMS = Object.freeze([
     "AnnotationReference", "Trampoline", "Export", "Local", "BuildInfo", "InlineSite", "InlineSiteEnd", "ProcedureEnd",
     "Label", "Block", "RegisterRelative", "Thunk", "SeparatedCode",
 ]);
+/** What a member of a type is, by its number. */
+export const MEMBER_KINDS = Object.freeze([
+    null, "BaseClass", "VirtualBaseClass", "IndirectVirtualBaseClass", "VirtualTablePointer", "VirtualTableOffset", "FriendClass",
+    "FriendFunction", "Enumerator", "DataMember", "StaticMember", "MemberFunction", "UnreadFunctions", "NestedType", "MoreMembers",
+]);
+const ACCESS = [null, "private", "protected", "public"];
 const CHECKSUMS = ["none", "md5", "sha1", "sha256"];
 
 /** A GUID as text, of its bytes in the order in which they are printed. */
@@ -82,12 +88,12 @@ export function symbolOf(view, at, memory, options) {
     return symbol;
 }
 
-/** A line record; `nameAt` is the offset of its file's name in the string table, or null. */
+/** A line record; `nameAt` is the offset of its file's name in the string table, or null, and then `fileCode` says why. */
 export function lineOf(view, at) {
     const known = (flag, place) => (view.getUint8(at + flag) ? u32(view, at + place) : null);
     return {
         section: u16(view, at + 4), offset: u32(view, at), length: known(8, 12), file: u32(view, at + 16),
-        nameAt: u16(view, at + 6) ? null : u32(view, at + 20), lineStart: u32(view, at + 24), lineEnd: u32(view, at + 28),
+        nameAt: u16(view, at + 6) ? null : u32(view, at + 20), fileCode: u16(view, at + 6), lineStart: u32(view, at + 24), lineEnd: u32(view, at + 28),
         columnStart: known(9, 32), columnEnd: known(10, 36), isStatement: view.getUint8(at + 11) === 1,
     };
 }
@@ -99,7 +105,7 @@ export function fileOf(view, at, memory) {
 
 export function inlineeOf(view, at) {
     const [id, line, file, nameAt, code] = [0, 4, 8, 12, 16].map((it) => u32(view, at + it));
-    return { id, line, file, nameAt: code ? null : nameAt };
+    return { id, line, file, nameAt: code ? null : nameAt, fileCode: code };
 }
 
 export function importOf(view, at) {
@@ -111,6 +117,24 @@ export function importOf(view, at) {
 export function exportOf(view, at) {
     const local = u32(view, at);
     return { kind: local >>> 31 ? "id" : "type", local, global: u32(view, at + 4) };
+}
+
+export function typeSizeOf(view, at) {
+    return { size: u32(view, at + 12) ? view.getBigUint64(at, true) : null, full: u32(view, at + 8) || null };
+}
+
+/** A member of a type, and which of the indices it is of; one that is no form is the error behind the members. */
+export function memberOf(view, at, memory) {
+    const [form, code, hasValue, hasBit, bit] = [54, 55, 56, 57, 58].map((it) => view.getUint8(at + it));
+    const attributes = u16(view, at + 52), kind = MEMBER_KINDS[form];
+    const value = (view.getBigInt64(at + 24, true) << 64n) | view.getBigUint64(at + 16, true);
+    const isVirtual = kind === "VirtualBaseClass" || kind === "IndirectVirtualBaseClass";
+    const member = {
+        kind, code, error: code ? nameOf(code) : null, name: memory.text(...borrowed(view, at)), typeIndex: u32(view, at + 48) || null,
+        value: hasValue ? value : null, entry: isVirtual ? view.getBigUint64(at + 32, true) : null, bit: hasBit ? bit : null,
+        attributes, access: ACCESS[attributes & 3],
+    };
+    return { owner: u64(view, at + 40), member };
 }
 
 export function imageOf(view, at, memory) {

@@ -103,6 +103,25 @@ class Frame(c.Structure):
     ]
 
 
+class TypeName(c.Structure):
+    _fields_ = _all(size_t, "at", "size")
+
+
+class TypeSize(c.Structure):
+    _fields_ = [("size", u64), *_all(u32, "full", "has_size")]
+
+
+class Member(c.Structure):
+    _fields_ = [
+        ("name", Bytes),
+        *_all(u64, "value", "value_high", "entry"),
+        ("owner", size_t),
+        ("type_index", u32),
+        ("attributes", u16),
+        *_all(u8, "form", "refused", "has_value", "has_bit", "bit"),
+    ]
+
+
 class Image(c.Structure):
     _fields_ = [
         ("path", Bytes),
@@ -130,6 +149,7 @@ LIBRARY = _load()
 _DATA = [c.c_char_p, size_t]
 _SIZES = [u32, u32, u32]
 _SIZE = c.POINTER(size_t)
+_INDICES = [c.POINTER(u32), size_t]
 
 
 def _rows(row: Any) -> List[Any]:
@@ -159,6 +179,9 @@ _CALLS: Any = {
     "pdb_imports": [*_DATA, *_SIZES, *_rows(Import)],
     "pdb_exports": [*_DATA, *_SIZES, *_rows(Export)],
     "pdb_name": [*_DATA, u32, c.POINTER(Bytes)],
+    "pdb_type_name": [*_DATA, *_INDICES, c.POINTER(TypeName), size_t, c.c_char_p, size_t, _SIZE],
+    "pdb_type_size": [*_DATA, *_INDICES, c.POINTER(TypeSize), size_t],
+    "pdb_members": [*_DATA, *_INDICES, *_rows(Member)],
     "pdb_frames": [*_DATA, c.POINTER(Address), size_t, *_rows(Frame), c.c_char_p, size_t, _SIZE],
     "pdb_image": [*_DATA, c.POINTER(Image)],
 }

@@ -5,8 +5,12 @@ from typing import Dict, Optional, Type
 
 
 class PdbError(Exception):
-    """An error of the library; `code` is its number in pdb.h. `number` is what the error of a file that can't be opened
-    carries: a page size, a page or a stream, and otherwise 0."""
+    """An error of the library; `code` is its number in pdb.h.
+
+    `number` is what the error carries: of a file that can't be opened a page size, a page or a stream; the stream that isn't
+    there; the kind of a symbol that isn't read; the file of a line or of an inlined function that has no name. It is 0 of
+    each other error.
+    """
 
     code: int = 0
     number: int = 0
@@ -192,11 +196,9 @@ class UnknownCodeView(PdbError):
 _BY_CODE: Dict[int, Type[PdbError]] = {it.code: it for it in PdbError.__subclasses__()}
 
 
-def error_of(code: int) -> PdbError:
-    """The exception of an error code."""
+def error_of(code: int, number: int = 0) -> PdbError:
+    """The exception of an error code, with the number that the error carries."""
     known = _BY_CODE.get(code)
-    if known is not None:
-        return known()
-    error = PdbError(f"error {code}")
-    error.code = code
+    error = known() if known is not None else PdbError(f"error {code}")
+    error.code, error.number = code, number
     return error

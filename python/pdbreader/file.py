@@ -6,7 +6,7 @@ from functools import cached_property
 from typing import Iterable, Iterator, List, Tuple, Union
 
 from . import functions
-from .errors import GlobalSymbolsNotFound
+from .errors import GlobalSymbolsNotFound, PdbError
 from .records import (
     Address,
     Contribution,
@@ -17,13 +17,16 @@ from .records import (
     Information,
     Inlinee,
     Line,
+    Member,
     Module,
     Section,
     SourceFile,
     StreamName,
     Symbol,
+    TypeSize,
 )
 
+_TYPES_STREAM = 2
 _DBI_STREAM = 3
 
 
@@ -138,6 +141,22 @@ class PdbFile:
         if number is None:
             raise GlobalSymbolsNotFound
         return functions.global_symbols(self.stream(number))
+
+    @cached_property
+    def _types(self) -> bytes:
+        return self.stream(_TYPES_STREAM)
+
+    def type_names(self, indices: Iterable[int]) -> List[bytes]:
+        """The names in C++ of the types of these indices."""
+        return functions.type_names(self._types, indices)
+
+    def type_sizes(self, indices: Iterable[int]) -> List[TypeSize]:
+        """The sizes of the types of these indices, and their definitions."""
+        return functions.type_sizes(self._types, indices)
+
+    def members(self, indices: Iterable[int]) -> List[List[Union[Member, PdbError]]]:
+        """The members of the types of these indices. An error in a list is its last item."""
+        return functions.members(self._types, indices)
 
     @cached_property
     def _names(self) -> bytes:

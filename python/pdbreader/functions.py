@@ -7,10 +7,10 @@ from __future__ import annotations
 import ctypes as c
 import struct
 import uuid
-from typing import Any, Iterable, Iterator, List, Optional, Sequence, Tuple, Union
+from typing import Any, Iterable, Iterator, List, Optional, Sequence, Tuple, Type, Union
 
 from . import _library as raw
-from .errors import PdbError, error_of
+from .errors import InvalidFileChecksumOffset, PdbError, StreamNotFound, UnimplementedSymbolKind, error_of
 from .records import (
     Address,
     ChecksumKind,
@@ -24,16 +24,20 @@ from .records import (
     Information,
     Inlinee,
     Line,
+    Member,
+    MemberKind,
     Module,
     PdbReference,
     Section,
     SourceFile,
     StreamName,
     Symbol,
+    TypeSize,
 )
 
 Sizes = Tuple[int, int, int]
 _DONE, _END, _ROOM, _NO_STREAM = 0, 30, 31, 0xFFFF
+_INFORMATION, _DBI = 1, 3
 _AT_ONCE = 256
 _FORMS = [None, *Form]
 
@@ -50,8 +54,20 @@ def _check(code: int) -> None:
         raise error_of(code)
 
 
-def _error(code: int) -> Optional[PdbError]:
-    return error_of(code) if code else None
+def _check_file(code: int, file: bytes, stream: int = 0) -> None:
+    """Raises the error of a call that takes a file: of one that can't be opened with the number that it carries, and of one
+    that lacks a stream with the stream."""
+    if code == _DONE:
+        return
+    number = raw.u32()
+    if raw.LIBRARY.pdb_opens(file, len(file), number) != code:
+        number.value = stream if code == StreamNotFound.code else 0
+    raise error_of(code, number.value)
+
+
+def _error(code: int, carrier: Type[PdbError], number: int) -> Optional[PdbError]:
+    """The error of a row; one kind of error carries a number that the row has."""
+    return error_of(code, number if code == carrier.code else 0) if code else None
 
 
 def version() -> Tuple[int, int, int]:
@@ -69,25 +85,20 @@ def message(code: int) -> str:
 
 def opens(file: bytes) -> None:
     """Raises the error of a file that can't be opened, with the number that it carries."""
-    number = raw.u32()
-    code = raw.LIBRARY.pdb_opens(file, len(file), number)
-    if code != _DONE:
-        error = error_of(code)
-        error.number = number.value
-        raise error
+    _check_file(raw.LIBRARY.pdb_opens(file, len(file), raw.u32()), file)
 
 
 def information(file: bytes) -> Information:
     """Which file it is, by the information stream."""
     out = raw.Information()
-    _check(raw.LIBRARY.pdb_information(file, len(file), out))
+    _check_file(raw.LIBRARY.pdb_information(file, len(file), out), file, _INFORMATION)
     return Information(uuid.UUID(bytes=bytes(out.guid)), out.version, out.signature, out.age)
 
 
 def debug_information(file: bytes) -> DebugInformation:
     """The header of the DBI stream."""
     out = raw.DebugInformation()
-    _check(raw.LIBRARY.pdb_debug_information(file, len(file), out))
+    _check_file(raw.LIBRARY.pdb_debug_information(file, len(file), out), file, _DBI)
     symbols_stream = None if out.symbols_stream == _NO_STREAM else out.symbols_stream
     return DebugInformation(out.age, symbols_stream, out.machine, out.flags)
 
@@ -95,7 +106,7 @@ def debug_information(file: bytes) -> DebugInformation:
 def key(file: bytes) -> str:
     """The key under which a symbol server stores the file."""
     room, size = c.create_string_buffer(40), raw.size_t()
-    _check(raw.LIBRARY.pdb_key(file, len(file), room, len(room), size))
+    _check_file(raw.LIBRARY.pdb_key(file, len(file), room, len(room), size), file)
     return room.raw[: size.value].decode("ascii")
 
 
@@ -109,9 +120,9 @@ def streams(file: bytes, numbers: Iterable[int]) -> List[Union[bytes, PdbError]]
     if code == _ROOM:
         room = c.create_string_buffer(size.value)
         code = raw.LIBRARY.pdb_streams(file, len(file), asked, count, rows, count, room, size.value, size)
-    _check(code)
+    _check_file(code, file)
     data = memoryview(room)
-    return [error_of(it.code) if it.code else bytes(data[it.at : it.at + it.size]) for it in rows]
+    return [_error(it.code, StreamNotFound, it.number) or bytes(data[it.at : it.at + it.size]) for it in rows]
 
 
 def stream(file: bytes, number: int) -> bytes:
@@ -129,7 +140,7 @@ def named_stream(file: bytes, name: bytes) -> bytes:
     if code == _ROOM:
         room = c.create_string_buffer(size.value)
         code = raw.LIBRARY.pdb_named_stream(file, len(file), name, len(name), room, size.value, size)
-    _check(code)
+    _check_file(code, file)
     return room.raw[: size.value]
 
 
@@ -141,7 +152,7 @@ def stream_names(file: bytes) -> List[StreamName]:
     if code == _ROOM:
         rows, names = (raw.StreamName * count.value)(), c.create_string_buffer(max(1, size.value))
         code = raw.LIBRARY.pdb_stream_names(file, len(file), rows, len(rows), count, names, size.value, size)
-    _check(code)
+    _check_file(code, file, _INFORMATION)
     data = names.raw
     return [StreamName(data[it.at : it.at + it.size], None if it.number == _NO_STREAM else it.number) for it in rows]
 
@@ -153,7 +164,7 @@ def sections(file: bytes) -> List[Section]:
     if code == _ROOM:
         rows = (raw.Section * count.value)()
         code = raw.LIBRARY.pdb_sections(file, len(file), rows, len(rows), count)
-    _check(code)
+    _check_file(code, file)
     return [
         Section(
             name=bytes(it.name)[: it.name_size],
@@ -198,7 +209,7 @@ def _symbol(it: Any) -> Symbol:
         index=it.index,
         kind=it.kind,
         form=_FORMS[it.form],
-        error=_error(it.refused),
+        error=_error(it.refused, UnimplementedSymbolKind, it.kind),
         record=it.record.copy(),
         name=it.name.copy() if it.has_name else None,
         section=it.section if it.has_place else None,
@@ -249,7 +260,7 @@ def _line(it: Any) -> Line:
         length=it.length if it.has_length else None,
         file=it.file,
         file_name=None if it.file_refused else it.file_name,
-        file_error=_error(it.file_refused),
+        file_error=_error(it.file_refused, InvalidFileChecksumOffset, it.file),
         line_start=it.line_start,
         line_end=it.line_end,
         column_start=it.column_start if it.has_column_start else None,
@@ -277,7 +288,8 @@ def inlinees(stream: bytes, sizes: Sizes) -> Iterator[Inlinee]:
     """The inlined functions of a module."""
     rows, code = _listed(raw.LIBRARY.pdb_inlinees, raw.Inlinee, 12, stream, sizes)
     for it in rows:
-        yield Inlinee(it.id, it.line, it.file, None if it.file_refused else it.file_name, _error(it.file_refused))
+        error = _error(it.file_refused, InvalidFileChecksumOffset, it.file)
+        yield Inlinee(it.id, it.line, it.file, None if error else it.file_name, error)
     _check(code)
 
 
@@ -325,13 +337,71 @@ def frames(file: bytes, addresses: Iterable[Address]) -> List[List[Frame]]:
         code = raw.LIBRARY.pdb_frames(
             file, len(file), asked, len(wanted), rows, len(rows), count, names, size.value, size
         )
-    _check(code)
+    _check_file(code, file)
     found: List[List[Frame]] = [[] for _ in wanted]
     data = names.raw
     for it in rows:
         function = data[it.name_at : it.name_at + it.name_size] if it.has_name else None
         path = data[it.file_at : it.file_at + it.file_size] if it.has_file else None
         found[it.address].append(Frame(function, path, it.line, it.column))
+    return found
+
+
+def _indices(indices: Iterable[int]) -> Any:
+    wanted = [_fits(32, it) for it in indices]
+    return (raw.u32 * len(wanted))(*wanted)
+
+
+def type_names(types: bytes, indices: Iterable[int]) -> List[bytes]:
+    """The names in C++ of the types of these indices, by the stream of types, which is stream 2. It is read once."""
+    asked, size, names = _indices(indices), raw.size_t(), c.create_string_buffer(1)
+    rows = (raw.TypeName * len(asked))()
+    given = (types, len(types), asked, len(asked), rows, len(rows))
+    code = raw.LIBRARY.pdb_type_name(*given, names, 0, size)
+    if code == _ROOM:
+        names = c.create_string_buffer(size.value)
+        code = raw.LIBRARY.pdb_type_name(*given, names, size.value, size)
+    _check(code)
+    data = names.raw
+    return [data[it.at : it.at + it.size] for it in rows]
+
+
+def type_sizes(types: bytes, indices: Iterable[int]) -> List[TypeSize]:
+    """The sizes of the types of these indices, by the stream of types, and their definitions. It is read once."""
+    asked = _indices(indices)
+    rows = (raw.TypeSize * len(asked))()
+    _check(raw.LIBRARY.pdb_type_size(types, len(types), asked, len(asked), rows, len(rows)))
+    return [TypeSize(it.size if it.has_size else None, it.full or None) for it in rows]
+
+
+def _member(it: Any) -> Member:
+    value = it.value_high << 64 | it.value
+    signed = value - (1 << 128) if value >> 127 else value
+    kind = MemberKind(it.form)
+    is_virtual = kind in (MemberKind.VIRTUAL_BASE_CLASS, MemberKind.INDIRECT_VIRTUAL_BASE_CLASS)
+    return Member(
+        kind=kind,
+        name=it.name.copy(),
+        type_index=it.type_index or None,
+        value=signed if it.has_value else None,
+        entry=it.entry if is_virtual else None,
+        bit=it.bit if it.has_bit else None,
+        attributes=it.attributes,
+    )
+
+
+def members(types: bytes, indices: Iterable[int]) -> List[List[Union[Member, PdbError]]]:
+    """The members of the types of these indices, by the stream of types, which is read once. A type that is only declared
+    has those of its definition. An error in a list is its last item."""
+    asked, count, rows = _indices(indices), raw.size_t(), (raw.Member * 0)()
+    code = raw.LIBRARY.pdb_members(types, len(types), asked, len(asked), rows, 0, count)
+    if code == _ROOM:
+        rows = (raw.Member * count.value)()
+        code = raw.LIBRARY.pdb_members(types, len(types), asked, len(asked), rows, len(rows), count)
+    _check(code)
+    found: List[List[Union[Member, PdbError]]] = [[] for _ in asked]
+    for it in rows:
+        found[it.owner].append(_member(it) if it.form else error_of(it.refused))
     return found
 
 

@@ -214,6 +214,59 @@ class Frame:
 
 
 @dataclass(frozen=True)
+class TypeSize:
+    """The size of a type, and its definition."""
+
+    size: Optional[int]  # bytes of an object of the type
+    full: Optional[int]  # of a class, a union or an enumeration the index of its definition
+
+
+class MemberKind(enum.IntEnum):
+    """What a member of a type is."""
+
+    BASE_CLASS = 1
+    VIRTUAL_BASE_CLASS = 2  # value is the offset of the pointer to its table
+    INDIRECT_VIRTUAL_BASE_CLASS = 3  # one of a base class
+    VIRTUAL_TABLE_POINTER = 4
+    VIRTUAL_TABLE_OFFSET = 5
+    FRIEND_CLASS = 6
+    FRIEND_FUNCTION = 7
+    ENUMERATOR = 8
+    DATA_MEMBER = 9
+    STATIC_MEMBER = 10
+    MEMBER_FUNCTION = 11  # one for each overload
+    UNREAD_FUNCTIONS = 12  # the list of the overloads of a name isn't there, or has an error
+    NESTED_TYPE = 13
+    MORE_MEMBERS = 14  # more than 1024 lists go on in one another: the others aren't read
+
+
+class Access(enum.IntEnum):
+    """Who may use a member."""
+
+    PRIVATE = 1
+    PROTECTED = 2
+    PUBLIC = 3
+
+
+@dataclass(frozen=True)
+class Member:
+    """A member of a class, a structure, a union or an enumeration."""
+
+    kind: MemberKind
+    name: bytes
+    type_index: Optional[int]
+    value: Optional[int]  # of an enumerator; otherwise an offset: in the object, or in the table of virtual functions
+    entry: Optional[int]  # of a virtual base class, in its table
+    bit: Optional[int]  # the first bit of a bit field
+    attributes: int  # CV_fldattr_t of cvinfo.h
+
+    @property
+    def access(self) -> Optional[Access]:
+        """Who may use it; None where the file doesn't say so."""
+        return Access(self.attributes & 3) if self.attributes & 3 else None
+
+
+@dataclass(frozen=True)
 class PdbReference:
     """The PDB that an image names."""
 

@@ -322,6 +322,62 @@ static void each_room_of_stream_names(void) {
     free(all);
 }
 
+/* Names, sizes and members of the first types, in buffers of each size. */
+#define TYPES 24
+static void names_of_types(const uint8_t *types, size_t n, const uint32_t *asked) {
+    size_t size, again;
+    pdb_type_name_t rows[TYPES];
+    uint8_t *all = filled(1 << 16);
+    want(pdb_type_name(types, n, asked, TYPES, rows, TYPES, all, 1 << 16, &size) == 0 && size > TYPES, "names of types", size);
+    for (size_t room = 0; room <= size; room++) {
+        size_t rows_room = room * TYPES / size;
+        pdb_type_name_t *got = filled((rows_room + 1) * sizeof *got);
+        uint8_t *text = filled(room + 1);
+        pdb_code code = pdb_type_name(types, n, asked, TYPES, got, rows_room, text, room, &again);
+        front("rows of names of types", got, rows, rows_room, TYPES, sizeof *got, rows_room < TYPES ? PDB_ROOM : PDB_DONE);
+        want(!memcmp(text, all, room) && text[room] == 0xff && again == size, "bytes of names of types", room);
+        want(code == (room < size ? PDB_ROOM : PDB_DONE), "code of names of types", room);
+        free(text);
+        free(got);
+    }
+    free(all);
+}
+
+static void members_of_types(const uint8_t *types, size_t n, const uint32_t *asked) {
+    size_t count, again;
+    pdb_member *all = filled(4096 * sizeof *all);
+    want(pdb_members(types, n, asked, TYPES, all, 4096, &count) == 0, "members", n);
+    for (size_t room = 0; room <= count; room++) {
+        pdb_member *got = filled((room + 1) * sizeof *got);
+        pdb_code code = pdb_members(types, n, asked, TYPES, got, room, &again);
+        for (size_t i = 0; i < room; i++)
+            want(got[i].form == all[i].form && got[i].owner == all[i].owner && got[i].value == all[i].value && got[i].name.data == all[i].name.data, "member", i);
+        want(got[room].form == 0xff && code == (room < count ? PDB_ROOM : PDB_DONE) && again == count, "members", room);
+        free(got);
+    }
+    free(all);
+}
+
+static void each_room_of_types(void) {
+    uint32_t asked[TYPES];
+    size_t n, size = 77;
+    uint8_t *types = stream(PDB_TYPES_STREAM, &n), text = 0xff;
+    pdb_type_size_t all[TYPES];
+    for (uint32_t k = 0; k < TYPES; k++) asked[k] = k < 2 ? 0x74 + k : 0x1000 + 3 * k;
+    names_of_types(types, n, asked);
+    members_of_types(types, n, asked);
+    want(pdb_type_size(types, n, asked, TYPES, all, TYPES) == 0 && all[0].size == 4 && all[0].has_size == 1, "sizes of types", 0);
+    for (size_t room = 0; room <= TYPES; room++) {
+        pdb_type_size_t *got = filled((room + 1) * sizeof *got);
+        front("sizes of types", got, all, room, TYPES, sizeof *got, pdb_type_size(types, n, asked, TYPES, got, room));
+        free(got);
+    }
+    pdb_type_name_t *row = filled(sizeof *row);
+    want(pdb_type_name(types, 55, asked, 1, row, 1, &text, 1, &size) == PDB_UNEXPECTED_EOF && size == 0 && text == 0xff && row->at == SIZE_MAX, "no types", size);
+    free(row);
+    free(types);
+}
+
 /* After an error nothing is written. */
 static void calls_in_error(void) {
     size_t count = 77, size = 77;
@@ -384,6 +440,7 @@ int main(int count, char **words) {
     each_room_of_sections();
     each_room_of_contributions();
     each_room_of_stream_names();
+    each_room_of_types();
     calls_in_error();
     lists_in_error();
     files_in_error();

@@ -1,32 +1,39 @@
 """Tests of the page, in Chromium: it is fed files as a person would do it, and shows what the programs for Linux print."""
-import http.server
+import importlib.util
 import os
 import shutil
+import struct
 import subprocess
 import sys
-import threading
 import time
+import urllib.parse
 
+import attacks
+import reach
 import windows
 
 TOP = windows.TOP
-PAGE = f"{TOP}/ports/out/web/index.html"
+OUT = f"{TOP}/ports/out/web"
+PAGE = f"{OUT}/index.html"
 TOOL = f"{TOP}/crates/pdb_tool/out/pdb_tool"
 SECONDS = 60
-# A file of some 50 MB with 1,000,000 symbols: within so many seconds it is read, within so many milliseconds 480,000 of them
-# are searched, and so many a picture takes while the list scrolls. The best of some tries counts, since other work may run.
-LARGE, ROWS, READY, SEARCH, SCROLL, TRIES_OF = "globals-1000000", 1000000, 5, 50, 50, 5
+# Files of more than 51 MB are read within so many seconds. Of the symbols of the first one 480,000 are searched within so many
+# milliseconds, and so many a picture takes while the list scrolls. The best of some tries counts, since other work may run.
+LARGE, ROWS, READY, SEARCH, SCROLL, TRIES_OF = "globals-1100000", 1100000, 5, 50, 50, 5
+FURTHER, LEAST_SIZE = "inlined-50000", 51_000_000
 SCROLLING = """
-const done = arguments[0], room = at("list"), times = [], steps = 60;
-const drawn = (from) => Math.abs(Number(room.querySelector(".item")?.getAttribute("aria-rowindex") ?? -1e9) - from) < 60;
+const done = arguments[1], rows = arguments[0], room = at("list"), times = [], steps = 60;
+const drawn = (from) => Math.abs(Number(room.querySelector(".item")?.getAttribute("aria-rowindex") ?? -1e9) - from) < 90;
+const last = () => room.querySelector(".item:last-child");
 (async () => {
     for (let k = 1; k <= steps; k++) {
         const to = Math.floor((room.scrollHeight - room.clientHeight) * k / steps), begun = performance.now();
         room.scrollTop = to;
-        do await new Promise(requestAnimationFrame); while (!drawn(to / 26) && performance.now() - begun < 1000);
+        do await new Promise(requestAnimationFrame); while (!drawn(rows * k / steps) && performance.now() - begun < 1000);
         times.push(performance.now() - begun);
     }
-    done(times.sort((a, b) => a - b)[steps / 2]);
+    const [end, of] = [last().getBoundingClientRect().bottom, room.getBoundingClientRect().bottom];
+    done([times.sort((a, b) => a - b)[steps / 2], Number(last().getAttribute("aria-rowindex")) - 1, Math.round(of - end)]);
 })();
 """
 # Lines of traces, each of which names 0x1108 of cpp-lld.pdb: `nested` begins at 0001:00000000, and section 1 at 0x1000.
@@ -35,18 +42,6 @@ TRACES = (
     *("app!nested+0x108", "04 000000a1`b2c3d4e0 00007ff6`c0a01108 app!nested+0x108 [/tour/main.cpp @ 63]"),
     "app.exe!nested() + 0x108 bytes",
 )
-# What the page's own scripts can't do, by its policy: each is tried in a worker.
-TRIES = """
-const tried = [], attempt = async (name, work) => { try { await work(); tried.push(`${name} went`); } catch { tried.push(`${name} failed`); } };
-const opened = (it) => new Promise((done, fail) => { it.onopen = it.onload = done; it.onerror = fail; });
-await attempt("fetch", () => fetch(`${home}/f`));
-await attempt("request", () => { const it = new XMLHttpRequest(), end = opened(it); it.open("GET", `${home}/x`); it.send(); return end; });
-await attempt("socket", () => opened(new WebSocket(home.replace("http", "ws"))));
-await attempt("script", () => importScripts(`${home}/s`));
-await attempt("eval", () => eval("1"));
-postMessage(tried);
-"""
-FORBIDDEN = [f"{it} failed" for it in ("fetch", "request", "socket", "script", "eval")]
 
 
 def driver(width, height=900):
@@ -68,9 +63,9 @@ def driver(width, height=900):
 class Page:
     """The page, as one opens it from a folder."""
 
-    def __init__(self, width):
+    def __init__(self, width, path=PAGE):
         self.browser = driver(width)
-        self.browser.get(f"file://{PAGE}")
+        self.browser.get(f"file://{urllib.parse.quote(path)}")
 
     def run(self, code, *values):
         return self.browser.execute_script(code, *values)
@@ -139,17 +134,23 @@ def of_parts(note, page):
     note("page: the map", page.run("return document.querySelectorAll('#tiles button').length") > 0)
 
 
-def of_large(note, page, folder):
-    """A large file is ready, searched and scrolled in time."""
-    subprocess.run([sys.executable, f"{TOP}/tests/speed/files", folder, LARGE], check=True)
-    file, ready = f"{folder}/{LARGE}.pdb", []
+def ready_in(note, page, folder, name):
+    """In how many seconds a large file is ready, at best."""
+    subprocess.run([sys.executable, f"{TOP}/tests/speed/files", folder, name], check=True)
+    file, ready = f"{folder}/{name}.pdb", []
     for _ in range(TRIES_OF):
         begun = time.time()
-        page.feed(file)
+        state = page.feed(file)
         ready.append(time.time() - begun)
-        if ready[-1] < READY:
-            break
-    note(f"page: {os.path.getsize(file)} bytes ready within {READY} s", min(ready) < READY, ready)
+    size = os.path.getsize(file)
+    note(f"page: {name}, {size} bytes, ready within {READY} s", state == "ready" and size > LEAST_SIZE and min(ready) < READY, ready)
+    return min(ready)
+
+
+def of_large(note, page, folder):
+    """A large file is ready, searched and scrolled in time."""
+    print(f"the page: {FURTHER} ready in {ready_in(note, page, folder, FURTHER):.1f} s")
+    ready = ready_in(note, page, folder, LARGE)
     page.run("choose(at('tab-symbols')); at('form').value = 'all'")
     searched = []
     for text in ("", *["symbol_9", "9_xx", "qq"] * TRIES_OF):
@@ -160,52 +161,78 @@ def of_large(note, page, folder):
     note(f"page: searched within {SEARCH} ms", max(best) * 480000 / ROWS <= SEARCH, searched)
     page.run("document.body.dataset.found = ''; at('find').value = ''; search()")
     page.wait("document.body.dataset.found !== ''")
-    taken = min(page.browser.execute_async_script(SCROLLING) for _ in range(TRIES_OF))
-    note(f"page: rows scroll within {SCROLL} ms", taken <= SCROLL, taken)
-    print(f"the page: ready in {min(ready):.1f} s, searched in {best} ms, a picture in {taken:.0f} ms while it scrolls")
+    scrolled = [page.browser.execute_async_script(SCROLLING, ROWS) for _ in range(TRIES_OF)]
+    taken = min(it[0] for it in scrolled)
+    note(f"page: rows scroll within {SCROLL} ms", taken <= SCROLL, scrolled)
+    note("page: the last row is in sight at the end", all(last == ROWS and 0 <= below < 4 for _, last, below in scrolled), scrolled)
+    print(f"the page: {LARGE} ready in {ready:.1f} s, {ROWS} symbols searched in {best} ms, a picture in {taken:.0f} ms while it scrolls")
 
 
-def of_policy(note, page):
-    """Nothing leaves the page: what its scripts try is refused, and a server hears nothing."""
-    heard = []
+def listed(file, *words):
+    return windows.run([f"{TOP}/crates/pdb_list/out/pdb_list", file, *words], text=True, errors="replace").stdout.splitlines()
 
-    class Listener(http.server.BaseHTTPRequestHandler):
-        def do_GET(self):  # pylint: disable=invalid-name; its name is given
-            heard.append(self.path)
-            self.send_response(200)
-            self.end_headers()
 
-        def log_message(self, *_):
-            pass
+def fails(file, *words):
+    """Whether a list of `pdb_list` ends with an error; that a file has no global symbols is none."""
+    last = listed(file, *words)[-1:]
+    return bool(last) and last[0].startswith("error ") and last[0] != "error 8"
 
-    server = http.server.HTTPServer(("127.0.0.1", 0), Listener)
-    threading.Thread(target=server.serve_forever, daemon=True).start()
-    home = f"http://127.0.0.1:{server.server_port}"
-    code = f"const home = '{home}'; (async () => {{ {TRIES} }})()"
-    tried = page.browser.execute_async_script("const done = arguments[1]; const it = new Worker(URL.createObjectURL(new Blob([arguments[0]]))); it.onmessage = (e) => done(e.data); it.onerror = (e) => done(e.message)", code)
-    note("page: a worker's requests", tried == FORBIDDEN, tried)
-    page.run("new Image().src = `${arguments[0]}/i`; for (const [tag, from] of [['iframe', 'src'], ['script', 'src']]) { const it = document.createElement(tag); it[from] = `${arguments[0]}/${tag}`; document.body.append(it); }", home)
-    time.sleep(0.5)
-    server.shutdown()
-    note("page: what a server heard", heard == [], heard)
+
+def with_a_short_contribution(folder, name):
+    """The name of a file whose last contribution lacks a byte: in the header of its DBI stream the list is a byte shorter, and
+    the part behind it a byte longer."""
+    with open(f"{folder}/{name}", "rb") as it:
+        data = bytearray(it.read())
+    at = data.index(struct.pack("<iI", -1, 19990903)) + 28
+    sizes = struct.unpack_from("<2I", data, at)
+    struct.pack_into("<2I", data, at, sizes[0] - 1, sizes[1] + 1)
+    with open(f"{folder}/short-contribution.pdb", "wb") as it:
+        it.write(data)
+    return "short-contribution.pdb"
+
+
+def of_damage(note, page, folder, names):
+    """Each tab says what of the file can't be read that it depends on."""
+    seen = set()
+    for name in names:
+        file = f"{folder}/{name}"
+        if page.feed(file) != "ready":
+            continue
+        # The last line of `info` is of the DBI stream.
+        modules = fails(file, "info") or fails(file, "modules")
+        count = sum(it.startswith("module ") for it in listed(file, "modules"))
+        symbols = fails(file, "globals") or any(fails(file, "symbols", str(k)) for k in range(count))
+        wanted = {"map": modules or fails(file, "contributions"), "symbols": modules or symbols}
+        shown = {it: page.run("return !at(arguments[0]).hidden && at(arguments[0]).textContent.includes('damaged')", f"{it}Damage") for it in wanted}
+        note(f"page: damage of {name}", shown == wanted, [shown, wanted])
+        seen |= {it for it, damaged in wanted.items() if damaged}
+    note("page: files whose parts are damaged", seen == {"map", "symbols"}, seen)
+
+
+def missing():
+    """The programs that aren't installed and that drive a browser; empty where all are."""
+    sys.path.append("/usr/lib/python3/dist-packages")
+    found = [it for it in ("chromium", "chromedriver") if not shutil.which(it)]
+    return " and ".join(found) or ("" if importlib.util.find_spec("selenium") else "selenium")
 
 
 def tests(note, skip, folder, whole, damaged):
     """All of them, over files and some damaged ones."""
-    sys.path.append("/usr/lib/python3/dist-packages")
-    missing = [it for it in ("chromium", "chromedriver") if not shutil.which(it)]
-    if missing or subprocess.run([sys.executable, "-c", "import sys; sys.path.append('/usr/lib/python3/dist-packages'); import selenium"], capture_output=True, check=False).returncode:
-        skip(f"the page, since {' and '.join(missing) or 'selenium'} isn't installed")
+    if missing():
+        skip(f"the page, since {missing()} isn't installed")
         return
     page = Page(1280)
     try:
         of_files(note, page, folder, whole, damaged[::4])
         of_traces(note, page, f"{folder}/{whole[0]}")
         of_parts(note, page)
+        of_damage(note, page, folder, [with_a_short_contribution(folder, whole[0]), *damaged[::4]])
+        reach.tests(note, page, f"{folder}/{whole[0]}")
+        attacks.by_names(note, page, folder, whole[0])
         of_large(note, page, folder)
         errors = [it["message"] for it in page.browser.get_log("browser") if it["level"] == "SEVERE"]
         note("page: errors on the console", not errors, errors)
-        of_policy(note, page)
+        attacks.by_scripts(note, page, PAGE, folder)
     finally:
         page.browser.quit()
     page = Page(400)

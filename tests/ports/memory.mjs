@@ -54,7 +54,10 @@ for (const it of [null, -1, 2 ** 32, 2n ** 40n, NaN, { section: 70000, offset: 1
     check(`the frames of ${String(it)}`, JSON.stringify(whole.frames([it])) === nowhere, whole.frames([it]));
 }
 check("addresses as BigInts", JSON.stringify(whole.frames([0x1108n])) === JSON.stringify(whole.frames([0x1108])), null);
-for (const it of [-1, 0.5, 1e9]) check(`stream ${it}`, errorOf(() => whole.stream(it))?.error === "StreamNotFound", null);
+for (const it of [-1, 0.5, 1e9, 60000]) {
+    const error = errorOf(() => whole.stream(it));
+    check(`stream ${it}`, error?.error === "StreamNotFound" && error.number === it, [error?.error, error?.number]);
+}
 check("a name of no stream", errorOf(() => whole.namedStream("/нет"))?.error === "StreamNameNotFound", null);
 check("no module", errorOf(() => [...whole.symbols(9999)]) instanceof RangeError, null);
 check("the text of an error", errorOf(() => whole.stream(60000))?.message === "stream 60000: no stream of this number", errorOf(() => whole.stream(60000))?.message);
@@ -71,10 +74,18 @@ const wrongPage = Uint8Array.from(bytes);
 new DataView(wrongPage.buffer).setUint32(32, 1337, true);
 const refused = await openPdb(wrongPage).catch((e) => e);
 check("a page size", refused.error === "InvalidPageSize" && refused.number === 1337, [refused.error, refused.number]);
+for (const [stream, call] of [[1, "information"], [3, "debugInformation"]]) {
+    // The directory has a u32 count, and then the size of each stream; 0xffffffff is that of none.
+    const without = Uint8Array.from(bytes), view = new DataView(without.buffer), pageSize = view.getUint32(32, true);
+    view.setUint32(view.getUint32(view.getUint32(52, true) * pageSize, true) * pageSize + 4 + 4 * stream, 0xffffffff, true);
+    const pdb = await openPdb(without).catch((e) => e), error = pdb instanceof Error ? pdb : errorOf(() => pdb[call]());
+    check(`${call} without stream ${stream}`, error?.error === "StreamNotFound" && error.number === stream, [String(error), error?.number]);
+}
 check("the bytes of the GUID", whole.information().guidBytes.join() === whole.stream(1).slice(12, 28).join(), null);
 check("bytes are no PDB", (await openPdb(new Uint8Array(9)).catch((e) => e)).error === "UnrecognizedFileFormat", null);
 check("no source", (await openPdb(7).catch((e) => e)) instanceof TypeError, null);
 check("errors are errors", new PdbError(1) instanceof Error && new PdbError(1).error === "UnexpectedEof", null);
+check("types without pdb-types.wasm", errorOf(() => whole.typeNames([116]))?.message.includes("pdb-types.wasm"), null);
 whole.close();
 check("a closed file", errorOf(() => whole.key())?.message === "the file was closed", null);
 process.exit(wrong ? 1 : 0);

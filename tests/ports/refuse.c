@@ -44,10 +44,12 @@ static void replace(uint8_t *module, const char *name, void *by) {
     want(found == 1, name, (size_t)found);
 }
 
-/* ---- The calls, each over the file, the DBI stream or the stream of a module, into buffers that are large enough. */
-enum { LARGE = 1 << 20, OF_FILE = 9 };
-static uint8_t *file, *stream, *out, *more;
-static size_t file_size, stream_size, count, total;
+/* ---- The calls, each over the file, the stream of types, the DBI stream or the stream of a module, into buffers that are large
+ * enough. */
+enum { LARGE = 1 << 20, OF_FILE = 9, OF_TYPES = 12, INDICES = 200 };
+static uint8_t *file, *types, *stream, *out, *more;
+static size_t file_size, types_size, stream_size, count, total;
+static uint32_t indices[INDICES];
 static pdb_module module;
 
 static pdb_code opens(void) { return pdb_opens(file, file_size, (uint32_t *)out); }
@@ -69,6 +71,10 @@ static pdb_code frames(void) {
     return pdb_frames(file, file_size, asked, 40, (pdb_frame *)out, 999, &count, more, LARGE, &total);
 }
 
+static pdb_code type_names(void) { return pdb_type_name(types, types_size, indices, INDICES, (pdb_type_name_t *)out, INDICES, more, LARGE, &total); }
+static pdb_code type_sizes(void) { return pdb_type_size(types, types_size, indices, INDICES, (pdb_type_size_t *)out, INDICES); }
+static pdb_code members(void) { return pdb_members(types, types_size, indices, INDICES, (pdb_member *)out, LARGE / sizeof(pdb_member), &count); }
+
 #define OF_MODULE(name, row) \
     static pdb_code name(void) { \
         return pdb_##name(stream, stream_size, module.symbols_size, module.lines_size, module.c13_lines_size, (row *)out, 9999, &count); \
@@ -82,6 +88,7 @@ OF_MODULE(exports, pdb_export)
 static const struct { const char *name; pdb_code (*call)(void); int every; } calls[] = {
     {"opens", opens, 1}, {"information", information, 1}, {"debug_information", debug_information, 1}, {"key", key, 1}, {"streams", streams, 1},
     {"named_stream", named_stream, 1}, {"stream_names", stream_names, 1}, {"sections", sections, 1}, {"frames", frames, 1},
+    {"type_names", type_names, 1}, {"type_sizes", type_sizes, 1}, {"members", members, 1},
     {"lines", lines, 0}, {"files", files, 0}, {"inlinees", inlinees, 0}, {"imports", imports, 0}, {"exports", exports, 0},
 };
 
@@ -124,10 +131,12 @@ static void read_file(const char *path) {
     fclose(in);
 }
 
+/* The bytes of a stream; *size is 0 where there is none. */
 static uint8_t *stream_of(uint16_t number, size_t *size) {
     pdb_stream row;
     uint8_t *bytes = malloc(LARGE * 4);
-    want(pdb_streams(file, file_size, &number, 1, &row, 1, bytes, LARGE * 4, size) == PDB_DONE && !row.code, "stream", number);
+    pdb_code code = pdb_streams(file, file_size, &number, 1, &row, 1, bytes, LARGE * 4, size);
+    want(code == PDB_DONE && (!row.code || row.code == PDB_STREAM_NOT_FOUND), "stream", number);
     return bytes;
 }
 
@@ -140,15 +149,17 @@ int main(int words_count, char **words) {
     more = malloc(LARGE);
     uint8_t *dbi = stream_of(PDB_DBI_STREAM, &dbi_size), *loaded = (uint8_t *)GetModuleHandleA("pdb.dll");
     want(pdb_modules(dbi, dbi_size, modules, 999, &listed) == PDB_DONE && listed > 0, "modules", listed);
+    types = stream_of(PDB_TYPES_STREAM, &types_size);
+    for (uint32_t k = 0; k < INDICES; k++) indices[k] = 0x1000 + k;
     replace(loaded, "malloc", (void *)counted_malloc);
     replace(loaded, "realloc", (void *)counted_realloc);
     replace(loaded, "free", (void *)counted_free);
-    for (size_t k = 0; k < OF_FILE; k++) refuse_each(k);
+    for (size_t k = 0; k < (types_size ? OF_TYPES : OF_FILE); k++) refuse_each(k);
     for (size_t m = 0; m < listed; m++) {
         module = modules[m];
         if (module.stream == PDB_NO_STREAM) continue;
         stream = stream_of((uint16_t)module.stream, &stream_size);
-        for (size_t k = OF_FILE; k < sizeof calls / sizeof *calls; k++) refuse_each(k);
+        for (size_t k = OF_TYPES; k < sizeof calls / sizeof *calls; k++) refuse_each(k);
         free(stream);
     }
     printf("refused %lu, failed %d\n", (unsigned long)refused, failed);

@@ -4,15 +4,18 @@ import json
 import os
 import re
 import shutil
+import sys
 
 import browser
 import windows
 
 HERE, TOP = windows.HERE, windows.TOP
-OUT = f"{TOP}/ports/out/web"
-BUILT = ("pdb.wasm", "index.html", "pdb.mjs", "errors.mjs", "memory.mjs", "records.mjs", "source.mjs", "pdb.d.mts")
+OUT = browser.OUT
+BUILT = ("pdb.wasm", "pdb-types.wasm", "index.html", "pdb.mjs", "errors.mjs", "memory.mjs", "records.mjs", "source.mjs", "pdb.d.mts")
 MODULES = 3
 LIMITS = 60
+TYPES = 300
+OF_TYPES = {"pdb_type_name", "pdb_type_size", "pdb_members"}
 MOST_BYTES = {"index.html": 500_000, "pdb.wasm": 80_000}
 
 
@@ -43,19 +46,21 @@ def header(note):
     code = 'WebAssembly.compile(require("fs").readFileSync(process.argv[1])).then((m) => console.log(JSON.stringify({'
     code += "exports: WebAssembly.Module.exports(m), imports: WebAssembly.Module.imports(m), "
     code += 'about: WebAssembly.Module.customSections(m, "pdb.module").map((it) => new TextDecoder().decode(it))})))'
-    found = json.loads(windows.run(["node", "-e", code, f"{OUT}/pdb.wasm"], text=True).stdout or "{}")
     with open(f"{TOP}/include/pdb.h", encoding="utf-8") as it:
         declared = set(re.findall(r"(?m)^(?:pdb_code|uint32_t|void) (pdb_\w+)\(", it.read()))
     wanted = declared | {"memory", "__heap_base", "pdb_heap_bounds", "pdb_heap_blocks"}
-    exported = {it["name"] for it in found.get("exports", [])}
     for file, most in MOST_BYTES.items():
         with open(f"{OUT}/{file}", "rb") as it:
             data = it.read()
         size = len(gzip.compress(data) if file == "pdb.wasm" else data)
         note(f"{file}: size", size < most, size)
-    note("pdb.wasm: exports", exported == wanted, exported ^ wanted)
-    note("pdb.wasm: imports", found.get("imports") == [], found)
-    note("pdb.wasm: module and target", "retargeted to wasm64" in "".join(found.get("about", [])), found)
+        print(f"{file}: {size} bytes{' by gzip' if file == 'pdb.wasm' else ''}")
+    for file, names in (("pdb.wasm", wanted - OF_TYPES), ("pdb-types.wasm", wanted)):
+        found = json.loads(windows.run(["node", "-e", code, f"{OUT}/{file}"], text=True).stdout or "{}")
+        exported = {it["name"] for it in found.get("exports", [])}
+        note(f"{file}: exports", exported == names, exported ^ names)
+        note(f"{file}: imports", found.get("imports") == [], found)
+        note(f"{file}: module and target", "retargeted to wasm64" in "".join(found.get("about", [])), found)
 
 
 def texts(note, folder, files):
@@ -79,6 +84,18 @@ def texts(note, folder, files):
             note(f"Node: {kind} of {file}", own == wanted, [len(it or "") for it in (own, wanted)])
 
 
+def types(note, folder, files):
+    """The names, sizes and members of types are those of the Python package, over the library for Linux."""
+    indices = [*(f"{it:x}" for it in range(0x1000, 0x1000 + TYPES)), "74", "620", "0", "ffffffff"]
+    for file in files:
+        native = windows.run([sys.executable, f"{TOP}/examples/layout.py", f"{folder}/{file}", *indices])
+        wanted = re.sub(r"(?m)^(  error \d+) .*$", r"\1", native.stdout.decode("utf-8", "replace"))
+        done = windows.run(["node", f"{HERE}/types.mjs", f"{OUT}/pdb.mjs", f"{folder}/{file}", *indices])
+        own = done.stdout.decode("utf-8", "replace")
+        fails = native.returncode == 4 and done.returncode == 1 and b"PdbError" in done.stderr
+        note(f"Node: types of {file}", fails or (native.returncode == 0 and own == wanted), [native.stderr[-200:], done.stderr[-200:], own[:100], wanted[:100]])
+
+
 def tests(note, skip, folder, whole, damaged):
     """All of them, over files and damaged ones in a folder."""
     browser.tests(note, skip, folder, whole, damaged)
@@ -87,11 +104,12 @@ def tests(note, skip, folder, whole, damaged):
         return
     header(note)
     texts(note, folder, [*whole, *damaged])
+    types(note, folder, [*whole, *damaged[::8]])
     done = windows.run(["node", f"{HERE}/memory.mjs", f"{OUT}/pdb.mjs", f"{folder}/{whole[0]}", str(LIMITS)], text=True)
     note("Node: memory and other arguments", done.returncode == 0, done.stdout + done.stderr)
     if shutil.which("tsc"):
         words = ["--noEmit", "--strict", "--target", "es2022", "--module", "nodenext", "--moduleResolution", "nodenext", "--lib", "es2022,dom,dom.iterable"]
         done = windows.run(["tsc", *words, f"{OUT}/pdb.d.mts"], text=True)
-        note("types", done.returncode == 0, done.stdout)
+        note("the types of the JavaScript module", done.returncode == 0, done.stdout)
     else:
         skip("the types of the JavaScript module, since tsc isn't installed")

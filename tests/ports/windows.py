@@ -5,18 +5,22 @@ import os
 import re
 import shutil
 import subprocess
+import sys
 
 HERE = os.path.dirname(os.path.realpath(__file__))
 TOP = os.path.realpath(f"{HERE}/../..")
 OUT = f"{TOP}/ports/out/windows"
 BUILT = ("pdb_tool.exe", "pdb_list.exe", "pdb.dll", "pdb.lib", "libpdb.dll.a", "libpdb.a")
 MINGW = "x86_64-w64-mingw32-"
-EXAMPLES = ("list", "resolve", "tables", "key")
+EXAMPLES = ("list", "resolve", "tables", "key", "layout")
+TYPES = [*(f"{it:x}" for it in range(0x1000, 0x1100)), "74", "0", "ffffffff"]
 ADDRESSES = [*(f"0x{it:x}" for it in range(0xFF0, 0x3000, 0x55)), "0", "0xffffffff", "0001:00000108", "0002:00000010", "ffff:ffffffff"]
 IMPORTS = {"pdb.dll": {"msvcrt.dll"}, "pdb_tool.exe": {"KERNEL32.dll", "msvcrt.dll"}, "pdb_list.exe": {"KERNEL32.dll", "msvcrt.dll"}}
 # How many times memory is refused in the DLL at least.
 REFUSED = 25
 MOST_BYTES = 250_000
+# What pdb_tool.exe prints behind its version.
+OWN = r"LLVM module of the proved crate pdb_tool, sha256 [0-9a-f]{64}, retargeted to x86_64-w64-windows-gnu\n"
 OF_C = {"malloc", "realloc", "free", "memcpy", "memmove", "memset", "memcmp", "strlen"}
 
 
@@ -92,6 +96,7 @@ def headers(note):
     note("pdb.dll: exports", exported == declared, exported ^ declared)
     called = set(re.findall(r"(?m)^\t[0-9a-f]+\t +\d+  (\w+)$", text))
     note("pdb.dll: size", os.path.getsize(f"{OUT}/pdb.dll") < MOST_BYTES)
+    print(f"pdb.dll: {os.path.getsize(f'{OUT}/pdb.dll')} bytes")
     defined = set(re.findall(r"(?m)^[0-9a-f]+ [A-Z] (\w+)$", run([f"{MINGW}nm", "-g", "--defined-only", f"{OUT}/libpdb.a"], text=True).stdout))
     note("libpdb.a: exports", defined == declared, defined ^ declared)
     note("pdb.dll: functions of C", called <= OF_C and {"malloc", "realloc", "free"} <= called, called)
@@ -150,19 +155,21 @@ def streams(it, file):
         it.note(f"Windows: {name}: writers that fail", ends[0] == ends[1] and ends[0][0][0], ends)
 
 
-def version(it):
-    """The version of `pdb_tool` is that of Linux, and the module and the target stand behind it."""
-    a, b = run([f"{TOP}/crates/pdb_tool/out/pdb_tool", "--version"], text=True), it.run([f"{OUT}/pdb_tool.exe", "--version"], text=True)
-    own = r"LLVM module of the proved crate pdb_tool, sha256 [0-9a-f]{64}, retargeted to x86_64-w64-windows-gnu\n"
-    it.note("Windows: pdb_tool --version", a.stdout and re.fullmatch(re.escape(a.stdout) + own, b.stdout) and b.returncode == 0, b)
+def version(what, note, program, run_there, own):
+    """The version of `pdb_tool` is that of Linux, and a line stands behind it that names what was compiled and the target."""
+    for words in (["--version"], ["-V"], ["version"]):
+        a, b = run([f"{TOP}/crates/pdb_tool/out/pdb_tool", *words], text=True), run_there([program, *words], text=True)
+        note(f"{what}: pdb_tool {words[0]}", a.stdout and re.fullmatch(re.escape(a.stdout) + own, b.stdout) and b.returncode == 0, b)
 
 
 def calls_of(file, listed):
-    """Examples in C, the programs with the same texts, and the arguments of both."""
-    yield "list", ["pdb_list"], [file, *listed]
-    yield "tables", ["pdb_list"], [file, "names", "contributions", "sections"]
-    yield "resolve", ["pdb_tool", "resolve"], [file, *ADDRESSES]
-    yield "key", ["pdb_tool", "key"], [file]
+    """Examples in C, the programs for Linux with the same texts, and the arguments of both."""
+    pdb_list, pdb_tool = (f"{TOP}/crates/{it}/out/{it}" for it in ("pdb_list", "pdb_tool"))
+    yield "list", [pdb_list], [file, *listed]
+    yield "tables", [pdb_list], [file, "names", "contributions", "sections"]
+    yield "resolve", [pdb_tool, "resolve"], [file, *ADDRESSES]
+    yield "key", [pdb_tool, "key"], [file]
+    yield "layout", [sys.executable, f"{TOP}/examples/layout.py"], [file, *TYPES]
 
 
 def compiled(it, source, linked, name, *flags):
@@ -180,7 +187,7 @@ def library(it, files, damaged):
     listed = [word for word in commands(2) if word not in ("names", "contributions", "sections")]
     for number, file in enumerate([*files, *damaged[::8]]):
         for name, program, words in calls_of(file, listed):
-            a = run([f"{TOP}/crates/{program[0]}/out/{program[0]}", *program[1:], *words], cwd=it.folder)
+            a = run([*program, *words], cwd=it.folder)
             for how in [name, f"{name}-static"][: 1 + (number < len(files))]:
                 b = it.run([f"{how}.exe", *words])
                 it.note(f"Windows: {how}.exe {file}", (a.returncode, a.stdout) == (b.returncode, b.stdout), [a.returncode, b.returncode, a.stderr, b.stderr])
@@ -230,7 +237,7 @@ def tests(note, skip, folder, prefix, files, damaged):
     try:
         texts(it, files, damaged)
         arguments(it, files[0])
-        version(it)
+        version("Windows", note, f"{OUT}/pdb_tool.exe", it.run, OWN)
         streams(it, files[0])
         if shutil.which(f"{MINGW}gcc"):
             library(it, files, damaged)

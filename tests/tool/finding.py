@@ -22,9 +22,9 @@ inlined 0001:000003c6 0x13c6 23 tour::clamp
 inlined 0001:00000534 0x1534 11 tour::clamp
 """
 USAGES = {
-    "find": b"usage: pdb_tool find FILE NAME..\n",
-    "where": b"usage: pdb_tool where FILE SOURCE[:LINE[-LINE]]..\n",
-    "sources": b"usage: pdb_tool sources FILE [K..]\n",
+    "find": b"usage: pdb_tool find [--json] FILE NAME..\n",
+    "where": b"usage: pdb_tool where [--json] FILE SOURCE[:LINE[-LINE]]..\n",
+    "sources": b"usage: pdb_tool sources [--json] FILE [K..]\n",
     "modules": b"usage: pdb_tool modules [--json] FILE\n",
     "sections": b"usage: pdb_tool sections [--json] FILE\n",
     "streams": b"usage: pdb_tool streams [--json] FILE\n",

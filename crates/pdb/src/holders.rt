@@ -5,6 +5,7 @@ ghost use Rattle.std.specs.Option.{option_map};
 
 use pdb_base::{ImageSectionHeader, Result, Stream};
 use pdb_items::{ItemFinder, ItemIter};
+use pdb_types::TypeDefinitions;
 use std::alloc::Global;
 use std::marker::Model;
 
@@ -27,6 +28,8 @@ impl<'s> TypeInformation<'s> {
     ghost use Rattle.pdb_base.specs.Refusal.{Answers, Gives};
     ghost use Rattle.pdb_items.specs.Items.{item_records_of, items_in, known_items_in};
     ghost use Rattle.pdb_items.specs.ItemViews.{items_left, items_bytes, items_steps};
+    ghost use Rattle.pdb_types.specs.FullTypes.{first_definition};
+    ghost use Rattle.pdb.specs.Definitions.{definitions_in};
 
     pub(crate) fn new(types: Stream<'s>) -> Self
         ensures { result ≡ types.entry }
@@ -49,6 +52,15 @@ impl<'s> TypeInformation<'s> {
         ensures steps { IfOk result (λ it. items_steps it ≡ 0) }
     {
         ItemIter::new(self.types.as_slice())
+    }
+
+    /// The full definitions among the types up to the first fault, which sizes and names of types are found by. It is
+    /// refused as `iter` is, and takes memory for a row of each definition.
+    #[tactic(auto, unfolding(crate::specs::Definitions::definitions_in, pdb_items::specs::Items::known_items_in))]
+    pub fn definitions(&self, alloc: Global) -> Result<TypeDefinitions<'_>>
+        ensures { Gives first_definition ⊥ result (definitions_in self.now) }
+    {
+        Ok(TypeDefinitions::new(alloc, self.iter()?)?)
     }
 
     /// The types up to the first fault, found by their indices. It is refused as `iter` is, and takes four bytes of

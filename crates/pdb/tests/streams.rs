@@ -315,6 +315,35 @@ fn types_and_ids_without_a_header_are_refused(rt: HostRuntime) -> Result<()> {
         &refused,
     );
     is(&rt, "known ids", &ids.finder(rt.alloc()).err(), &refused);
+    is(
+        &rt,
+        "definitions",
+        &types.definitions(rt.alloc()).err(),
+        &refused,
+    );
+    Ok(())
+}
+
+/// A declaration of `S`, and its definition of 12 bytes.
+const STRUCTURES: [u8; 104] = *b"\x0b\xca\x31\x01\x38\0\0\0\0\x10\0\0\x02\x10\0\0\x30\0\0\0\
+    \0\0\0\0\0\0\0\0\0\0\0\0\0\0\0\0\0\0\0\0\0\0\0\0\0\0\0\0\0\0\0\0\0\0\0\0\
+    \x16\0\x05\x15\0\0\x80\0\0\0\0\0\0\0\0\0\0\0\0\0\0\0S\0\
+    \x16\0\x05\x15\0\0\0\0\0\0\0\0\0\0\0\0\0\0\0\0\x0c\0S\0";
+
+#[test]
+fn definitions_of_types(rt: HostRuntime) -> Result<()> {
+    let bytes = file_of_items(rt.alloc(), &STRUCTURES, &IDS)?;
+    let mut pdb = PDB::open(rt.alloc(), MemorySource::new(&bytes))?;
+    let information = pdb.type_information()?;
+    let types = information.finder(rt.alloc())?;
+    let definitions = information.definitions(rt.alloc())?;
+    let full = definitions.full(&types, TypeIndex(0x1000));
+    is(&rt, "definition", &full, &Some(TypeIndex(0x1001)));
+    let size = definitions.size(&types, TypeIndex(0x1000));
+    is(&rt, "size", &size, &Some(12));
+    let mut name = Vec::new(rt.alloc());
+    put_name(&types, &definitions, &mut name, TypeIndex(0x1000))?;
+    is(&rt, "name", &name.as_slice(), &b"S".as_slice());
     Ok(())
 }
 

@@ -3,6 +3,8 @@ pub mod Codes
 pub mod Records
 pub mod StreamSteps
 pub mod StreamNameSteps
+pub mod TypeSteps
+pub mod MemberRowSteps
 pub mod ListSteps
 pub mod DbiHeaders
 pub mod FileSteps

@@ -17,3 +17,5 @@ pub mod ImageRows
 pub mod Version
 pub mod Messages
 pub mod Opened
+pub mod TypeRows
+pub mod MemberRows

@@ -9,12 +9,15 @@ use crate::imports::PdbImport;
 use crate::information::{PdbDebugInformation, PdbInformation};
 use crate::inlinees::PdbInlinee;
 use crate::lines::PdbLine;
+use crate::members::PdbMember;
 use crate::modules::PdbModule;
 use crate::names::PdbName;
 use crate::sections::PdbSection;
 use crate::stream_names::PdbStreamName;
 use crate::streams::PdbStream;
 use crate::symbols::PdbSymbol;
+use crate::type_names::PdbTypeName;
+use crate::type_sizes::PdbTypeSize;
 
 const _: () = prove!(size_of::<PdbInformation>() == 44);
 
@@ -49,3 +52,9 @@ const _: () = prove!(size_of::<PdbContribution>() == 32);
 const _: () = prove!(size_of::<PdbStreamName>() == 24);
 
 const _: () = prove!(size_of::<PdbImage<'_>>() == 80);
+
+const _: () = prove!(size_of::<PdbTypeName>() == 16);
+
+const _: () = prove!(size_of::<PdbTypeSize>() == 16);
+
+const _: () = prove!(size_of::<PdbMember<'_>>() == 64);

@@ -1,7 +1,7 @@
 //! Rooms of the caller's, which are filled as far as they reach.
 
 ghost use Rattle.std.specs.Prelude.{◌≡◌, ◌+◌, [], ◌∷◌, IfOk, IfErr};
-ghost use Rattle.pdb_c.specs.Rooms.{put};
+ghost use Rattle.pdb_c.specs.Rooms.{over, put};
 
 use pdb::{Error, Result};
 
@@ -25,6 +25,15 @@ pub fn put_row<T: Copy>(room: &mut [T], at: usize, row: T)
 {
     if at < room.len() {
         room[at] = row;
+    }
+}
+
+/// Puts rows in a room from its start on.
+pub fn put_rows<T: Copy>(rows: &[T], room: &mut [T])
+    ensures { room.new ≡ over rows.now room.old }
+{
+    for (at, row) in rows.iter().enumerate() {
+        put_row(room, at, *row);
     }
 }
 

@@ -3,11 +3,10 @@
 ghost use Rattle.std.specs.Prelude.{◌≡◌, ◌++◌, [], ◌∷◌, length, Ok, Err, OnOk, IfOk};
 ghost use Rattle.pdb.specs.Refusal.{Gives};
 ghost use Rattle.pdb.specs.DbiViews.{stream_name};
-ghost use Rattle.pdb_c.specs.Rooms.{over};
 ghost use Rattle.pdb_c.specs.StreamNameRows.{Named, name_row, name_rows, names_bytes, named, stream_names_in, AreNamed, NamesTold};
 
 use crate::answers::{both_code, code_of, room_code};
-use crate::rooms::{put_bytes, put_row};
+use crate::rooms::{put_bytes, put_rows};
 use pdb::{MemorySource, PDB, Result, StreamName, StreamNames};
 use std::alloc::{AllocError, Global};
 
@@ -85,15 +84,6 @@ fn stream_names_of(alloc: Global, file: &[u8]) -> Result<Listed>
     let information = pdb.pdb_information()?;
     let names = information.stream_names(alloc)?;
     Ok(rows_of(alloc, &names)?)
-}
-
-/// Puts rows.
-fn put_rows(rows: &[PdbStreamName], records: &mut [PdbStreamName])
-    ensures { records.new ≡ over rows.now records.old }
-{
-    for (place, row) in rows.iter().enumerate() {
-        put_row(records, place, *row);
-    }
 }
 
 /// Puts rows and the bytes of their names, and counts both.

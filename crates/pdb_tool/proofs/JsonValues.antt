@@ -6,6 +6,8 @@ use Rattle.json.specs.Tree.{items_tokens, json_tokens}
 use Rattle.pdb_resolve.specs.Frames.{Frame}
 use Rattle.pdb_tool.specs.FrameObjects.{frame_items, frame_value}
 use Rattle.pdb_tool.specs.Objects.{known_value, text_value}
+use Rattle.pdb_text.specs.Digits.{hex}
+use Rattle.pdb_tool.specs.SourceTexts.{digest_value}
 use Rattle.pdb_tool.specs.StreamRoles.{StreamRole}
 use Rattle.pdb_tool.specs.StreamTexts.{what_items}
 
@@ -16,6 +18,14 @@ known_none (b ∷ bytes) h = absurd (omega arith)
 pub known_some : (bytes : List ℕ) → 0 < length bytes → known_value bytes ≡ text_value bytes
 known_some [] h = absurd (omega arith)
 known_some (b ∷ bytes) h = refl
+
+pub digest_none : (digest : List ℕ) → length digest ≡ 0 → digest_value digest ≡ null
+digest_none [] h = refl
+digest_none (b ∷ bytes) h = absurd (omega arith)
+
+pub digest_some : (digest : List ℕ) → 0 < length digest → digest_value digest ≡ text_value (flat_map (hex 2) digest)
+digest_some [] h = absurd (omega arith)
+digest_some (b ∷ bytes) h = refl
 
 -- the tokens of frames one after another, and the end of their array
 pub items_of_frames : (fs : List Frame) → items_tokens (frame_items fs) ≡ flat_map (λ f. json_tokens (frame_value f)) fs ++ end_array ∷ []

@@ -22,6 +22,8 @@ pub mod StreamFilters
 pub mod StreamNames
 pub mod JsonValues
 pub mod ReadBack
+pub mod FoundReadBack
 pub mod OpenScopes
 pub mod GlobalKinds
 pub mod ScopeLines
+pub mod KeptLemmas

@@ -17,15 +17,15 @@ known_numbers : (bytes : List ℕ) → HasNumbers (known_value bytes)
 known_numbers [] = tt
 known_numbers (b ∷ bytes) = tt
 
-name_numbers : (name : Option Qualified) → HasNumbers (name_value name)
+pub name_numbers : (name : Option Qualified) → HasNumbers (name_value name)
 name_numbers None = tt
 name_numbers (Some name) = known_numbers (qualified_text (Some name))
 
-file_numbers : (file : Option (List ℕ)) → HasNumbers (file_value file)
+pub file_numbers : (file : Option (List ℕ)) → HasNumbers (file_value file)
 file_numbers None = tt
 file_numbers (Some name) = known_numbers name
 
-number_below : (n : ℕ) → n < 2 ^ 32 → IsNumber (decimal n)
+pub number_below : (n : ℕ) → n < 2 ^ 32 → IsNumber (decimal n)
 number_below n h = IsNumber-decimal n (omega arith)
 
 frame_numbers : (f : Frame) → HasLine f → HasNumbers (frame_value f)
@@ -41,11 +41,11 @@ known_depth : (bytes : List ℕ) → depth (known_value bytes) ≡ 0
 known_depth [] = refl
 known_depth (b ∷ bytes) = refl
 
-name_depth : (name : Option Qualified) → depth (name_value name) ≡ 0
+pub name_depth : (name : Option Qualified) → depth (name_value name) ≡ 0
 name_depth None = refl
 name_depth (Some name) = known_depth (qualified_text (Some name))
 
-file_depth : (file : Option (List ℕ)) → depth (file_value file) ≡ 0
+pub file_depth : (file : Option (List ℕ)) → depth (file_value file) ≡ 0
 file_depth None = refl
 file_depth (Some name) = known_depth name
 

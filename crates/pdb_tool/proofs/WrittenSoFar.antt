@@ -7,8 +7,9 @@ use Rattle.pdb.specs.Modules.{ModuleEntry}
 use Rattle.pdb.specs.ModuleStream.{ModuleBytes}
 use Rattle.pdb_text.specs.Written.{WroteFront}
 use Rattle.pdb_text.proofs.Written.{appends_then, front_all, front_of, front_then}
-use Rattle.pdb_tool.specs.ErrorLine.{error_line, fault_line}
+use Rattle.pdb_tool.specs.ErrorObjects.{error_in, fault_in}
 use Rattle.pdb_tool.specs.ModuleTexts.{list_text, listed_text, listed_texts}
+use Rattle.pdb_tool.specs.declared.options.Form.{Form}
 use Rattle.pdb_tool.proofs.AnsweredLines.{appends_none}
 
 -- a beginning of the whole was written, and the rest is left
@@ -39,14 +40,14 @@ before_here a b left whole h = rw (← h.2) (front_of a b h.0 left (front_all a 
 
 -- ---- the texts of a list of modules
 
-pub next_listed : (several : Bool) (text : ModuleBytes → List ℕ) (file : List ℕ) (k : ℕ) (old new : Left ModuleEntry) (m : ModuleEntry) → Follows old (m ∷ []) new → list_text several text file k old ≡ listed_text several text file k m ++ list_text several text file (k + 1) new
-next_listed several text file k old new m h = rw (h.0, h.1) (append_assoc (listed_text several text file k m) (listed_texts several text file (k + 1) new.items) (fault_line new.fault))
+pub next_listed : (form : Form) (several : Bool) (text : ℕ → ModuleBytes → List ℕ) (file : List ℕ) (k : ℕ) (old new : Left ModuleEntry) (m : ModuleEntry) → Follows old (m ∷ []) new → list_text form several text file k old ≡ listed_text form several text file k m ++ list_text form several text file (k + 1) new
+next_listed form several text file k old new m h = rw (h.0, h.1) (append_assoc (listed_text form several text file k m) (listed_texts form several text file (k + 1) new.items) (fault_in form new.fault))
 
-pub none_listed : (several : Bool) (text : ModuleBytes → List ℕ) (file : List ℕ) (k : ℕ) (old new : Left ModuleEntry) → Ends old [] None new → list_text several text file k old ≡ []
-none_listed several text file k old new h = rw (h.0, h.1) refl
+pub none_listed : (form : Form) (several : Bool) (text : ℕ → ModuleBytes → List ℕ) (file : List ℕ) (k : ℕ) (old new : Left ModuleEntry) → Ends old [] None new → list_text form several text file k old ≡ []
+none_listed form several text file k old new h = rw (h.0, h.1) refl
 
-pub fault_listed : (several : Bool) (text : ModuleBytes → List ℕ) (file : List ℕ) (k : ℕ) (old new : Left ModuleEntry) (e : Error) → Ends old [] (Some e) new → list_text several text file k old ≡ error_line e
-fault_listed several text file k old new e h = rw (h.0, h.1) refl
+pub fault_listed : (form : Form) (several : Bool) (text : ℕ → ModuleBytes → List ℕ) (file : List ℕ) (k : ℕ) (old new : Left ModuleEntry) (e : Error) → Ends old [] (Some e) new → list_text form several text file k old ≡ error_in form e
+fault_listed form several text file k old new e h = rw (h.0, h.1) refl
 
 pub before_last_front : (a b c : Option (List ℕ)) (piece left whole : List ℕ) → Before a b left whole → left ≡ piece → WroteFront b c piece → WroteFront a c whole
 before_last_front a b c piece left whole h e w =

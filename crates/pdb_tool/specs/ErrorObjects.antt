@@ -39,3 +39,21 @@ fault_in form (Some e) = error_in form e
 abbrev pub told_in : {A : Type 0} → Form → Result A Error → (A → List ℕ) → List ℕ
 told_in form (Ok x) text = text x
 told_in form (Err e) text = error_in form e
+
+-- ---- of module k
+
+abbrev pub error_of : Form → ℕ → Error → List ℕ
+error_of Text k e = error_line e
+error_of Objects k e = json_line (error_value (number_value k) e)
+
+abbrev pub none_of : Form → ℕ → List ℕ
+none_of Text k = codes "none\n"
+none_of Objects k = json_line (none_value (number_value k))
+
+abbrev pub fault_of : Form → ℕ → Option Error → List ℕ
+fault_of form k None = []
+fault_of form k (Some e) = error_of form k e
+
+abbrev pub told_of : {A : Type 0} → Form → ℕ → Result A Error → (A → List ℕ) → List ℕ
+told_of form k (Ok x) text = text x
+told_of form k (Err e) text = error_of form k e

@@ -21,15 +21,18 @@ file_text file (Scopes ks) = scopes_command file ks.now
 file_text file (Symbols ks) = symbols_command file ks.now
 file_text file AllSymbols = all_symbols_command file
 file_text file (Types indices) = types_command file indices.now
-file_text file (Sources ks) = sources_command file ks.now
-file_text file (Find words) = find_command file (map word_of words.now)
-file_text file (Where asked) = where_command file (map source_view asked.now)
+file_text file (Sources form ks) = sources_command form file ks.now
+file_text file (Find form words) = find_command form file (map word_of words.now)
+file_text file (Where form asked) = where_command form file (map source_view asked.now)
 file_text file (Modules form) = modules_command form file
 file_text file (Sections form) = sections_command form file
 file_text file (Streams form) = streams_command form file
 
 -- the form in which errors are written
 abbrev pub form_of : FileText → Form
+form_of (Sources form ks) = form
+form_of (Find form words) = form
+form_of (Where form asked) = form
 form_of (Modules form) = form
 form_of (Sections form) = form
 form_of (Streams form) = form

@@ -29,7 +29,11 @@ use Rattle.pdb_resolve.specs.Frames.{qualified_text}
 use Rattle.pdb_resolve.specs.ModuleCode.{inlinees_in}
 use Rattle.pdb_resolve.specs.PlaceAddresses.{address_for}
 use Rattle.pdb.specs.Refusal.{◌>>=◌}
-use Rattle.pdb_tool.specs.ErrorLine.{fault_line, told}
+use Rattle.pdb_tool.specs.ErrorObjects.{fault_in, fault_of, told_in, told_of}
+use Rattle.pdb_tool.specs.FoundObjects.{found_value}
+use Rattle.pdb_tool.specs.Objects.{json_line}
+use Rattle.pdb_tool.specs.declared.options.Form.{Form}
+use Rattle.pdb_tool.specs.declared.options.Form.TheVariants.{Text, Json as Objects}
 use Rattle.pdb_tool.specs.Values.{address_text, optional_text, place_text}
 use Rattle.pdb_tool.specs.Wildcards.{matches}
 
@@ -42,8 +46,9 @@ is_asked words (b ∷ name) = list_any (λ word. matches word (b ∷ name)) word
 
 -- ---- lines
 
--- what names and addresses are read from: the patterns, ids, types, and the address map
+-- the form of the lines, and what names and addresses are read from: the patterns, ids, types, and the address map
 pub record Finding : Type 0 where
+  pub form : Form
   pub words : List (List ℕ)
   pub ids : List ItemEntry
   pub types : List ItemEntry
@@ -56,9 +61,14 @@ stretch_text addresses q length = place_text q ++ codes " " ++ address_text (add
 unfoldable pub found_line : List ℕ → Option Addresses → PdbInternalSectionOffset → Option ℕ → List ℕ → List ℕ
 found_line kind addresses q length name = kind ++ codes " " ++ stretch_text addresses q length ++ codes " " ++ one_line name ++ codes "\n"
 
+-- the same in a form
+abbrev pub found_in : Form → List ℕ → Option Addresses → PdbInternalSectionOffset → Option ℕ → List ℕ → List ℕ
+found_in Text kind addresses q length name = found_line kind addresses q length name
+found_in Objects kind addresses q length name = json_line (found_value kind addresses q length name)
+
 -- it stands where the name is asked for
 abbrev pub line_if_asked : List ℕ → Finding → PdbInternalSectionOffset → Option ℕ → List ℕ → List ℕ
-line_if_asked kind f q length name = if is_asked f.words name then found_line kind f.addresses q length name else []
+line_if_asked kind f q length name = if is_asked f.words name then found_in f.form kind f.addresses q length name else []
 
 -- ---- global symbols
 
@@ -68,7 +78,7 @@ public_name name spells = if bytes_eq spells name then name else spells ++ codes
 
 -- a public symbol is asked for by both names
 unfoldable pub public_line : Finding → PdbInternalSectionOffset → List ℕ → List ℕ → List ℕ
-public_line f q name spells = if is_asked f.words spells || is_asked f.words name then found_line (codes "public") f.addresses q None (public_name name spells) else []
+public_line f q name spells = if is_asked f.words spells || is_asked f.words name then found_in f.form (codes "public") f.addresses q None (public_name name spells) else []
 
 abbrev pub global_line : Bool → Finding → Result Data Error → List ℕ
 global_line x86 f (Ok (Public code function managed msil offset name)) = public_line f offset name (text_of name (spelled name x86))
@@ -83,7 +93,7 @@ global_kinds =
     ∷ 0x1009 ∷ 0x1007 ∷ 0x1008 ∷ 0x1020 ∷ 0x1021 ∷ 0x100e ∷ 0x100f ∷ []
 
 abbrev pub global_lines : Bool → Finding → Left Entry → List ℕ
-global_lines x86 f left = flat_map (λ s. global_line x86 f (record_at s.bytes)) left.items ++ fault_line left.fault
+global_lines x86 f left = flat_map (λ s. global_line x86 f (record_at s.bytes)) left.items ++ fault_in f.form left.fault
 
 -- ---- the symbols of a module
 
@@ -130,20 +140,21 @@ abbrev pub symbol_lines : Finding → (ℕ → Option Qualified) → (ℕ → Op
 symbol_lines f names known c [] = []
 symbol_lines f names known c (s ∷ ss) = symbol_line f names known c s.index (record_at s.bytes) ++ symbol_lines f names known (option_or (parent_said (record_at s.bytes)) c) ss
 
-abbrev pub symbols_left_text : Finding → (ℕ → Option Qualified) → (ℕ → Option InlineeEntry) → Option Parent → Left Entry → List ℕ
-symbols_left_text f names known c left = symbol_lines f names known c left.items ++ fault_line left.fault
+-- of module k
+abbrev pub symbols_left_text : Finding → ℕ → (ℕ → Option Qualified) → (ℕ → Option InlineeEntry) → Option Parent → Left Entry → List ℕ
+symbols_left_text f k names known c left = symbol_lines f names known c left.items ++ fault_of f.form k left.fault
 
-unfoldable pub find_text : Finding → (ℕ → Option Qualified) → ModuleBytes → List ℕ
-find_text f names m = told (symbols_of m) (symbols_left_text f names (inlinee_with (inlinees_in m)) None)
+unfoldable pub find_text : Finding → ℕ → (ℕ → Option Qualified) → ModuleBytes → List ℕ
+find_text f k names m = told_of f.form k (symbols_of m) (symbols_left_text f k names (inlinee_with (inlinees_in m)) None)
 
--- of a module of a file
-abbrev pub find_in : Finding → List ℕ → ModuleBytes → List ℕ
-find_in f file m = find_text f (call_name f.ids f.types file m) m
+-- of module k of a file
+abbrev pub find_in : Finding → List ℕ → ℕ → ModuleBytes → List ℕ
+find_in f file k m = find_text f k (call_name f.ids f.types file m) m
 
 -- ---- the command
 
-abbrev pub finding_in : List ℕ → List (List ℕ) → Finding
-finding_in file words = record { words = words; ids = items_listed file 4; types = items_listed file 2; addresses = if_read (address_map_in file) }
+abbrev pub finding_in : Form → List ℕ → List (List ℕ) → Finding
+finding_in form file words = record { form = form; words = words; ids = items_listed file 4; types = items_listed file 2; addresses = if_read (address_map_in file) }
 
 -- the image is for x86, by the header of the DBI stream
 abbrev pub is_x86 : Result DBIHeader Error → Bool
@@ -155,4 +166,4 @@ x86_in file = is_x86 (debug_information_in file >>= header_of)
 
 -- those of the global symbols
 abbrev pub globals_found : List ℕ → Finding → List ℕ
-globals_found file f = told (global_symbols_in file) (λ b. global_lines (x86_in file) f (symbols_from b 0))
+globals_found file f = told_in f.form (global_symbols_in file) (λ b. global_lines (x86_in file) f (symbols_from b 0))

@@ -25,6 +25,8 @@ pub mod RecordTexts
 pub mod ModuleMachines
 pub mod LineNames
 pub mod LineViews
+pub mod KeptEnds
+pub mod KeptViews
 pub mod QualifiedTexts
 pub mod SymbolTexts
 pub mod ScopeFrames
@@ -41,6 +43,7 @@ pub mod SourceTexts
 pub mod ModuleSizes
 pub mod ModuleLists
 pub mod Wildcards
+pub mod FoundObjects
 pub mod FindTexts
 pub mod Finders
 pub mod SourcesAsked
@@ -48,6 +51,7 @@ pub mod SourceViews
 pub mod WhereTexts
 pub mod ModuleTexts
 pub mod Checks
+pub mod Findings
 pub mod CheckTexts
 pub mod FileTexts
 pub mod Wanted

@@ -1,11 +1,10 @@
 -- What contracts see of the names at the ends of lines.
-use Rattle.std.specs.Prelude.{ℕ, List, option_and_then}
+use Rattle.std.specs.Prelude.{option_and_then}
 use Rattle.pdb_resolve.specs.CallViews.{names_of_calls}
 use Rattle.pdb_resolve.specs.ImportTables.{ids_by}
 use Rattle.pdb_types.specs.FullTypes.{first_definition}
 use Rattle.pdb_types.specs.TypeTexts.{shown_name}
-use Rattle.pdb_tool.specs.LineNames.{Names, type_of_function, typed_end}
-use Rattle.pdb_tool.specs.declared.line_names.LineEnd.{LineEnd}
+use Rattle.pdb_tool.specs.LineNames.{Names, type_of_function}
 use Rattle.pdb_tool.specs.declared.line_names.LineNames.{LineNames}
 
 abbrev pub names_of_lines : LineNames → Names
@@ -15,7 +14,3 @@ names_of_lines n = record {
   function_type = type_of_function n.ids.now;
   type_name = shown_name n.types.now (first_definition n.definitions.now);
 }
-
--- the end of a line behind what has a type
-abbrev pub end_of : LineEnd → List ℕ
-end_of e = typed_end (names_of_lines e.names) e.index

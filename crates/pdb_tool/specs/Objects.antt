@@ -1,5 +1,5 @@
 -- JSON values, one a line.
-use Rattle.std.specs.Prelude.{◌≡◌, ℕ, List, [], ◌∷◌, ◌++◌, codes, Result, OnOk}
+use Rattle.std.specs.Prelude.{◌≡◌, ℕ, List, [], ◌∷◌, ◌++◌, codes, Option, Some, None, Result, OnOk}
 use Rattle.std.specs.Fmt.{decimal}
 use Rattle.json.specs.Json.{Json, null, number, string}
 use Rattle.json.specs.Print.{print}
@@ -24,6 +24,11 @@ known_value (b ∷ bytes) = text_value (b ∷ bytes)
 -- a number in decimal digits
 abbrev pub number_value : ℕ → Json
 number_value n = number (decimal n)
+
+-- the same; `null` where there is none
+abbrev pub optional_value : Option ℕ → Json
+optional_value None = null
+optional_value (Some n) = number_value n
 
 -- these tokens were written behind those before
 abbrev pub Adds : {E : Type 0} → Result (Unit {0}) E → Written → Written → List Token → Type 0

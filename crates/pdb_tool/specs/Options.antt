@@ -6,7 +6,7 @@ use Rattle.std.specs.Option.{is_some, unwrap_or}
 use Rattle.std.specs.Str.{bytes_eq}
 use Rattle.pdb_tool.specs.Asked.{address_number}
 use Rattle.pdb_tool.specs.declared.words.Topic.{Topic}
-use Rattle.pdb_tool.specs.declared.words.Topic.TheVariants.{Resolve, Symbols, Modules, Sections, Streams, Key as KeyOf}
+use Rattle.pdb_tool.specs.declared.words.Topic.TheVariants.{Resolve, Symbols, Find, Where, Sources, Modules, Sections, Streams, Key as KeyOf, Check}
 use Rattle.pdb_tool.specs.declared.options.Options.{Options}
 use Rattle.pdb_tool.specs.declared.options.Form.{Form}
 use Rattle.pdb_tool.specs.declared.options.Form.TheVariants.{Text, Json}
@@ -70,10 +70,14 @@ with_symbols_option g word = if bytes_eq word (codes "--all") then Some (record 
 -- the commands that can write JSON
 abbrev pub takes_json : Topic → Bool
 takes_json Resolve = true
+takes_json Find = true
+takes_json Where = true
+takes_json Sources = true
 takes_json Modules = true
 takes_json Sections = true
 takes_json Streams = true
 takes_json KeyOf = true
+takes_json Check = true
 takes_json topic = false
 
 -- with output in JSON; none where that was given before

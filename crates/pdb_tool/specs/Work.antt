@@ -25,16 +25,16 @@ pub data Task : Type 0 where
   list_help : Task
   version : Task
   keys : Form → WordAt → List WordAt → Task
-  checks : WordAt → List WordAt → Task
+  checks : Form → WordAt → List WordAt → Task
   resolve : Options → WordAt → List WordAt → Task
   lines : WordAt → List ℕ → Task
   scopes : WordAt → List ℕ → Task
   symbols : WordAt → List ℕ → Task
   all_symbols : WordAt → Task
   types : WordAt → List ℕ → Task
-  sources : WordAt → List ℕ → Task
-  finds : WordAt → List WordAt → Task
-  wheres : WordAt → List SourceOf → Task
+  sources : Form → WordAt → List ℕ → Task
+  finds : Form → WordAt → List WordAt → Task
+  wheres : Form → WordAt → List SourceOf → Task
   modules : Form → WordAt → Task
   sections : Form → WordAt → Task
   streams : Form → WordAt → Task
@@ -44,16 +44,16 @@ task_of (work.Help t) = help t
 task_of work.ListHelp = list_help
 task_of work.Version = version
 task_of (work.Keys form f more) = keys form (operand_view f) (map operand_view more.items)
-task_of (work.Checks f more) = checks (operand_view f) (map operand_view more.items)
+task_of (work.Checks form f more) = checks form (operand_view f) (map operand_view more.items)
 task_of (work.Resolve options f rest) = resolve options (operand_view f) (map operand_view rest.items)
 task_of (work.Lines f ks) = lines (operand_view f) ks.items
 task_of (work.Scopes f ks) = scopes (operand_view f) ks.items
 task_of (work.Symbols f ks) = symbols (operand_view f) ks.items
 task_of (work.AllSymbols f) = all_symbols (operand_view f)
 task_of (work.Types f indices) = types (operand_view f) indices.items
-task_of (work.Sources f ks) = sources (operand_view f) ks.items
-task_of (work.Find f names) = finds (operand_view f) (map operand_view names.items)
-task_of (work.Where f asked) = wheres (operand_view f) (map source_view asked.items)
+task_of (work.Sources form f ks) = sources form (operand_view f) ks.items
+task_of (work.Find form f names) = finds form (operand_view f) (map operand_view names.items)
+task_of (work.Where form f asked) = wheres form (operand_view f) (map source_view asked.items)
 task_of (work.Modules form f) = modules form (operand_view f)
 task_of (work.Sections form f) = sections form (operand_view f)
 task_of (work.Streams form f) = streams form (operand_view f)
@@ -87,13 +87,13 @@ abbrev pub unless_empty : Task → Option ℕ → Result Task ℕ
 unless_empty t None = Ok t
 unless_empty t (Some p) = Err p
 
-abbrev pub named : WordAt → List WordAt → ℕ → Result Task ℕ
-named f [] n = Err n
-named f (w ∷ ws) n = unless_empty (finds f (w ∷ ws)) (first_empty (w ∷ ws))
+abbrev pub named : Form → WordAt → List WordAt → ℕ → Result Task ℕ
+named form f [] n = Err n
+named form f (w ∷ ws) n = unless_empty (finds form f (w ∷ ws)) (first_empty (w ∷ ws))
 
-abbrev pub sourced : WordAt → List WordAt → ℕ → Result Task ℕ
-sourced f [] n = Err n
-sourced f (w ∷ ws) n = given (wheres f) (all_in source_of (w ∷ ws))
+abbrev pub sourced : Form → WordAt → List WordAt → ℕ → Result Task ℕ
+sourced form f [] n = Err n
+sourced form f (w ∷ ws) n = given (wheres form f) (all_in source_of (w ∷ ws))
 
 -- a command of a file and further operands; n is the number of arguments
 abbrev pub over_file : Topic → Options → WordAt → List WordAt → ℕ → Result Task ℕ
@@ -102,11 +102,11 @@ over_file topic.Lines o f rest n = given (lines f) (all_in number_in rest)
 over_file topic.Scopes o f rest n = given (scopes f) (all_in number_in rest)
 over_file topic.Symbols o f rest n = if o.all then ending (all_symbols f) rest else given (symbols f) (all_in number_in rest)
 over_file topic.Types o f rest n = given (types f) (all_in type_index_in rest)
-over_file topic.Sources o f rest n = given (sources f) (all_in number_in rest)
+over_file topic.Sources o f rest n = given (sources o.form f) (all_in number_in rest)
 over_file topic.Key o f rest n = Ok (keys o.form f rest)
-over_file topic.Check o f rest n = Ok (checks f rest)
-over_file topic.Find o f rest n = named f rest n
-over_file topic.Where o f rest n = sourced f rest n
+over_file topic.Check o f rest n = Ok (checks o.form f rest)
+over_file topic.Find o f rest n = named o.form f rest n
+over_file topic.Where o f rest n = sourced o.form f rest n
 over_file topic.Modules o f rest n = ending (modules o.form f) rest
 over_file topic.Sections o f rest n = ending (sections o.form f) rest
 over_file topic.Streams o f rest n = ending (streams o.form f) rest

@@ -9,10 +9,12 @@ ghost use Rattle.pdb_resolve.specs.Frames.{file_text, name_text};
 ghost use Rattle.pdb_resolve.specs.ModuleCode.{name_at};
 ghost use Rattle.pdb_tool.specs.FindTexts.{has_bytes as has_bytes_in};
 ghost use Rattle.pdb_tool.specs.SourceViews.{source_view};
-ghost use Rattle.pdb_tool.specs.WhereTexts.{asks_for_file, file_of_record, is_wanted, position_text, where_line};
+ghost use Rattle.pdb_tool.specs.WhereTexts.{asks_for_file, file_of_record, is_wanted, position_text, where_line, where_line_in};
 
 use crate::find_texts::has_bytes;
 use crate::finder::put_stretch;
+use crate::found_objects::put_where_object;
+use crate::options::Form;
 use crate::sources_asked::{SourceAsked, asks_for};
 use pdb::{
     ItemFinder, LineInfo, LineProgram, ModuleInfo, PdbInternalSectionOffset, QualifiedName,
@@ -23,10 +25,11 @@ use pdb_text::{put_decimal, put_line_end};
 use std::alloc::{AllocError, Global};
 use std::marker::Model;
 
-/// The lines that are asked for, the tables that files and inlined functions have their names from, and the addresses
-/// of places.
+/// The form of the lines, which lines are asked for, the tables that files and inlined functions have their names from,
+/// and the addresses of places.
 #[derive(Drop)]
 pub struct Asking<'w, 'a> {
+    pub form: Form,
     asked: &'w [SourceAsked<'w>],
     strings: Option<&'a StringTable<'a>>,
     pub ids: ItemFinder<'a>,
@@ -41,21 +44,23 @@ impl<'w, 'a> Model for Asking<'w, 'a> {
 
     ghost Value = { AskingOf };
 
-    ghost view = { λ a. record { asked = map source_view a.asked.now; strings = option_copied a.strings; ids = a.ids; types = a.types; addresses = a.addresses } };
+    ghost view = { λ a. record { form = a.form; asked = map source_view a.asked.now; strings = option_copied a.strings; ids = a.ids; types = a.types; addresses = a.addresses } };
 }
 
 impl<'w, 'a> Asking<'w, 'a> {
     /// What is asked for by these words.
     pub fn new(
+        form: Form,
         asked: &'w [SourceAsked<'w>],
         strings: Option<&'a StringTable<'a>>,
         ids: ItemFinder<'a>,
         types: ItemFinder<'a>,
         addresses: PlaceAddresses<'a>,
     ) -> Self
-        ensures { result ≡ record { asked = map source_view asked.entry.now; strings = option_copied strings.entry; ids = ids.entry; types = types.entry; addresses = addresses.entry } }
+        ensures { result ≡ record { form = form; asked = map source_view asked.entry.now; strings = option_copied strings.entry; ids = ids.entry; types = types.entry; addresses = addresses.entry } }
     {
         Asking {
+            form,
             asked,
             strings,
             ids,
@@ -88,7 +93,7 @@ impl<'w, 'a> Asking<'w, 'a> {
 
     /// The line of a record of this file, in the function of this name.
     #[tactic(auto, unfolding(crate::specs::WhereTexts::where_line))]
-    pub fn put_where(
+    fn put_where_line(
         &self,
         out: &mut Vec<u8>,
         kind: &[u8],
@@ -106,6 +111,23 @@ impl<'w, 'a> Asking<'w, 'a> {
         out.push(b' ')?;
         put_name(out, name)?;
         put_line_end(out)
+    }
+
+    /// The same in the form of the lines.
+    pub fn put_where(
+        &self,
+        out: &mut Vec<u8>,
+        kind: &[u8],
+        line: &LineInfo,
+        file: Option<RawString<'_>>,
+        name: Option<QualifiedName<'_>>,
+    ) -> Result<(), AllocError>
+        ensures { OnOk result (out.new.items ≡ out.old.items ++ where_line_in self.now.form kind.now self.now.addresses line.now (option_map name_bytes file.entry) (option_map shown_qualified name.entry)) }
+    {
+        match self.form {
+            Form::Text => self.put_where_line(out, kind, line, file, name),
+            Form::Json => put_where_object(out, kind, &self.addresses, line, file, name),
+        }
     }
 }
 

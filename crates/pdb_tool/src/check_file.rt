@@ -11,6 +11,7 @@ ghost use Rattle.pdb_tool.specs.CheckTexts.{address_map_text, debug_text, fault_
 ghost use Rattle.pdb_tool.specs.declared.stop.Stop.{Stop};
 
 use crate::findings::{put_answer, put_end, put_list, put_refusal, put_refused_record};
+use crate::fronts::Front;
 use crate::stop::Stop;
 use pdb::{DebugInformation, Error, FallibleIterator, PDB, Source, Symbol, SymbolIter};
 use std::alloc::Global;
@@ -22,7 +23,7 @@ fn put_names<'s, S: Source<'s>>(
     alloc: Global,
     pdb: &mut PDB<'s, S>,
     out: &mut Vec<u8>,
-    front: &[u8],
+    front: &Front<'_>,
     place: &[u8],
 ) -> Result<(), Stop>
     ensures continues { Continues pdb.old pdb.new }
@@ -40,7 +41,7 @@ fn put_names<'s, S: Source<'s>>(
 fn put_information<'s, S: Source<'s>>(
     pdb: &mut PDB<'s, S>,
     out: &mut Vec<u8>,
-    front: &[u8],
+    front: &Front<'_>,
     place: &[u8],
 ) -> Result<(), Stop>
     ensures continues { Continues pdb.old pdb.new }
@@ -57,7 +58,7 @@ fn put_information<'s, S: Source<'s>>(
 fn put_debug_information<'s, S: Source<'s>>(
     pdb: &mut PDB<'s, S>,
     out: &mut Vec<u8>,
-    front: &[u8],
+    front: &Front<'_>,
     place: &[u8],
 ) -> Result<(), Stop>
     ensures continues { Continues pdb.old pdb.new }
@@ -75,7 +76,7 @@ fn put_debug_information<'s, S: Source<'s>>(
 fn put_module_list<'s, S: Source<'s>>(
     pdb: &mut PDB<'s, S>,
     out: &mut Vec<u8>,
-    front: &[u8],
+    front: &Front<'_>,
     place: &[u8],
 ) -> Result<(), Stop>
     ensures continues { Continues pdb.old pdb.new }
@@ -92,7 +93,7 @@ fn put_module_list<'s, S: Source<'s>>(
 #[tactic(auto, unfolding(crate::specs::Checks::contributions_ended_by))]
 fn put_listed_contributions(
     out: &mut Vec<u8>,
-    front: &[u8],
+    front: &Front<'_>,
     place: &[u8],
     stream: &DebugInformation<'_>,
 ) -> Result<(), Stop>
@@ -109,7 +110,7 @@ fn put_listed_contributions(
 fn put_contributions<'s, S: Source<'s>>(
     pdb: &mut PDB<'s, S>,
     out: &mut Vec<u8>,
-    front: &[u8],
+    front: &Front<'_>,
     place: &[u8],
 ) -> Result<(), Stop>
     ensures continues { Continues pdb.old pdb.new }
@@ -126,7 +127,7 @@ fn put_contributions<'s, S: Source<'s>>(
 fn put_sections<'s, S: Source<'s>>(
     pdb: &mut PDB<'s, S>,
     out: &mut Vec<u8>,
-    front: &[u8],
+    front: &Front<'_>,
     place: &[u8],
 ) -> Result<(), Stop>
     ensures continues { Continues pdb.old pdb.new }
@@ -143,7 +144,7 @@ fn put_sections<'s, S: Source<'s>>(
 fn put_address_map<'s, S: Source<'s>>(
     pdb: &mut PDB<'s, S>,
     out: &mut Vec<u8>,
-    front: &[u8],
+    front: &Front<'_>,
     place: &[u8],
 ) -> Result<(), Stop>
     ensures continues { Continues pdb.old pdb.new }
@@ -160,7 +161,7 @@ fn put_address_map<'s, S: Source<'s>>(
 fn put_frame_table<'s, S: Source<'s>>(
     pdb: &mut PDB<'s, S>,
     out: &mut Vec<u8>,
-    front: &[u8],
+    front: &Front<'_>,
     place: &[u8],
 ) -> Result<(), Stop>
     ensures continues { Continues pdb.old pdb.new }
@@ -177,7 +178,7 @@ fn put_frame_table<'s, S: Source<'s>>(
 fn put_record(
     alloc: Global,
     out: &mut Vec<u8>,
-    front: &[u8],
+    front: &Front<'_>,
     word: &[u8],
     symbol: &Symbol<'_>,
 ) -> Result<(), Stop>
@@ -195,7 +196,7 @@ fn put_record(
 fn put_records(
     alloc: Global,
     out: &mut Vec<u8>,
-    front: &[u8],
+    front: &Front<'_>,
     word: &[u8],
     mut symbols: SymbolIter<'_>,
 ) -> Result<(), Stop>
@@ -217,7 +218,7 @@ fn put_listed_globals<'s, S: Source<'s>>(
     alloc: Global,
     pdb: &mut PDB<'s, S>,
     out: &mut Vec<u8>,
-    front: &[u8],
+    front: &Front<'_>,
     place: &[u8],
     word: &[u8],
 ) -> Result<(), Stop>
@@ -235,7 +236,12 @@ fn put_listed_globals<'s, S: Source<'s>>(
 }
 
 /// The line of the refusal of a stream of items, unless it isn't there.
-fn put_items_refusal(out: &mut Vec<u8>, front: &[u8], place: &[u8], e: Error) -> Result<(), Stop>
+fn put_items_refusal(
+    out: &mut Vec<u8>,
+    front: &Front<'_>,
+    place: &[u8],
+    e: Error,
+) -> Result<(), Stop>
     ensures text { OnOk result ((e ≢ Error.OutOfMemory) × (e ≢ Error.IoError) × (out.new.items ≡ out.old.items ++ fault_text front.now place.now (items_ended_by (Err e)))) }
     ensures unwritten { IfErr result (λ e. (e ≡ Stop.Memory) ⊎ (e ≡ Stop.Read)) }
 {
@@ -249,7 +255,7 @@ fn put_items_refusal(out: &mut Vec<u8>, front: &[u8], place: &[u8], e: Error) ->
 fn put_types<'s, S: Source<'s>>(
     pdb: &mut PDB<'s, S>,
     out: &mut Vec<u8>,
-    front: &[u8],
+    front: &Front<'_>,
     place: &[u8],
 ) -> Result<(), Stop>
     ensures continues { Continues pdb.old pdb.new }
@@ -266,7 +272,7 @@ fn put_types<'s, S: Source<'s>>(
 fn put_id_stream<'s, S: Source<'s>>(
     pdb: &mut PDB<'s, S>,
     out: &mut Vec<u8>,
-    front: &[u8],
+    front: &Front<'_>,
     place: &[u8],
 ) -> Result<(), Stop>
     ensures continues { Continues pdb.old pdb.new }
@@ -299,7 +305,7 @@ fn has_ids<'s, S: Source<'s>>(pdb: &mut PDB<'s, S>) -> Result<bool, Stop>
 fn put_ids<'s, S: Source<'s>>(
     pdb: &mut PDB<'s, S>,
     out: &mut Vec<u8>,
-    front: &[u8],
+    front: &Front<'_>,
 ) -> Result<(), Stop>
     ensures continues { Continues pdb.old pdb.new }
     ensures text { OnOk result (out.new.items ≡ out.old.items ++ ids_text front.now pdb.old.file) }
@@ -315,7 +321,7 @@ fn put_ids<'s, S: Source<'s>>(
 fn put_string_table<'s, S: Source<'s>>(
     pdb: &mut PDB<'s, S>,
     out: &mut Vec<u8>,
-    front: &[u8],
+    front: &Front<'_>,
     place: &[u8],
 ) -> Result<(), Stop>
     ensures continues { Continues pdb.old pdb.new }
@@ -334,7 +340,7 @@ pub(crate) fn put_first<'s, S: Source<'s>>(
     alloc: Global,
     pdb: &mut PDB<'s, S>,
     out: &mut Vec<u8>,
-    front: &[u8],
+    front: &Front<'_>,
 ) -> Result<(), Stop>
     ensures continues { Continues pdb.old pdb.new }
     ensures text { OnOk result (out.new.items ≡ out.old.items ++ first_text front.now pdb.old.file) }
@@ -349,7 +355,7 @@ pub(crate) fn put_first<'s, S: Source<'s>>(
 pub(crate) fn put_debug<'s, S: Source<'s>>(
     pdb: &mut PDB<'s, S>,
     out: &mut Vec<u8>,
-    front: &[u8],
+    front: &Front<'_>,
 ) -> Result<(), Stop>
     ensures continues { Continues pdb.old pdb.new }
     ensures text { OnOk result (out.new.items ≡ out.old.items ++ debug_text front.now pdb.old.file) }
@@ -363,7 +369,7 @@ pub(crate) fn put_debug<'s, S: Source<'s>>(
 pub(crate) fn put_lists<'s, S: Source<'s>>(
     pdb: &mut PDB<'s, S>,
     out: &mut Vec<u8>,
-    front: &[u8],
+    front: &Front<'_>,
 ) -> Result<(), Stop>
     ensures continues { Continues pdb.old pdb.new }
     ensures text { OnOk result (out.new.items ≡ out.old.items ++ lists_text front.now pdb.old.file) }
@@ -378,7 +384,7 @@ pub(crate) fn put_lists<'s, S: Source<'s>>(
 fn put_headers<'s, S: Source<'s>>(
     pdb: &mut PDB<'s, S>,
     out: &mut Vec<u8>,
-    front: &[u8],
+    front: &Front<'_>,
 ) -> Result<(), Stop>
     ensures continues { Continues pdb.old pdb.new }
     ensures text { OnOk result (out.new.items ≡ out.old.items ++ sections_text front.now pdb.old.file) }
@@ -392,7 +398,7 @@ fn put_headers<'s, S: Source<'s>>(
 fn put_map<'s, S: Source<'s>>(
     pdb: &mut PDB<'s, S>,
     out: &mut Vec<u8>,
-    front: &[u8],
+    front: &Front<'_>,
 ) -> Result<(), Stop>
     ensures continues { Continues pdb.old pdb.new }
     ensures text { OnOk result (out.new.items ≡ out.old.items ++ address_map_text front.now pdb.old.file) }
@@ -406,7 +412,7 @@ fn put_map<'s, S: Source<'s>>(
 pub(crate) fn put_image<'s, S: Source<'s>>(
     pdb: &mut PDB<'s, S>,
     out: &mut Vec<u8>,
-    front: &[u8],
+    front: &Front<'_>,
 ) -> Result<(), Stop>
     ensures continues { Continues pdb.old pdb.new }
     ensures text { OnOk result (out.new.items ≡ out.old.items ++ image_text front.now pdb.old.file) }
@@ -421,7 +427,7 @@ pub(crate) fn put_image<'s, S: Source<'s>>(
 pub(crate) fn put_frames<'s, S: Source<'s>>(
     pdb: &mut PDB<'s, S>,
     out: &mut Vec<u8>,
-    front: &[u8],
+    front: &Front<'_>,
 ) -> Result<(), Stop>
     ensures continues { Continues pdb.old pdb.new }
     ensures text { OnOk result (out.new.items ≡ out.old.items ++ frame_table_text front.now pdb.old.file) }
@@ -435,7 +441,7 @@ pub(crate) fn put_frames<'s, S: Source<'s>>(
 pub(crate) fn put_strings<'s, S: Source<'s>>(
     pdb: &mut PDB<'s, S>,
     out: &mut Vec<u8>,
-    front: &[u8],
+    front: &Front<'_>,
 ) -> Result<(), Stop>
     ensures continues { Continues pdb.old pdb.new }
     ensures text { OnOk result (out.new.items ≡ out.old.items ++ string_table_text front.now pdb.old.file) }
@@ -450,7 +456,7 @@ pub(crate) fn put_globals<'s, S: Source<'s>>(
     alloc: Global,
     pdb: &mut PDB<'s, S>,
     out: &mut Vec<u8>,
-    front: &[u8],
+    front: &Front<'_>,
 ) -> Result<(), Stop>
     ensures continues { Continues pdb.old pdb.new }
     ensures text { OnOk result (out.new.items ≡ out.old.items ++ globals_text front.now pdb.old.file) }
@@ -464,7 +470,7 @@ pub(crate) fn put_globals<'s, S: Source<'s>>(
 fn put_typed<'s, S: Source<'s>>(
     pdb: &mut PDB<'s, S>,
     out: &mut Vec<u8>,
-    front: &[u8],
+    front: &Front<'_>,
 ) -> Result<(), Stop>
     ensures continues { Continues pdb.old pdb.new }
     ensures text { OnOk result (out.new.items ≡ out.old.items ++ types_text front.now pdb.old.file) }
@@ -478,7 +484,7 @@ fn put_typed<'s, S: Source<'s>>(
 pub(crate) fn put_items<'s, S: Source<'s>>(
     pdb: &mut PDB<'s, S>,
     out: &mut Vec<u8>,
-    front: &[u8],
+    front: &Front<'_>,
 ) -> Result<(), Stop>
     ensures continues { Continues pdb.old pdb.new }
     ensures text { OnOk result (out.new.items ≡ out.old.items ++ items_text front.now pdb.old.file) }

@@ -10,6 +10,7 @@ ghost use Rattle.pdb_tool.specs.declared.stop.Stop.{Stop};
 use crate::check_file::{
     put_debug, put_first, put_frames, put_globals, put_image, put_items, put_lists, put_strings,
 };
+use crate::fronts::Front;
 use crate::stop::Stop;
 use pdb::{Error, PDB, Source, StreamIndex};
 use std::alloc::Global;
@@ -38,7 +39,7 @@ fn has_empty_dbi<'s, S: Source<'s>>(pdb: &mut PDB<'s, S>) -> Result<bool, Stop>
 fn put_debug_parts<'s, S: Source<'s>>(
     pdb: &mut PDB<'s, S>,
     out: &mut Vec<u8>,
-    front: &[u8],
+    front: &Front<'_>,
 ) -> Result<(), Stop>
     ensures continues { Continues pdb.old pdb.new }
     ensures text { OnOk result (out.new.items ≡ out.old.items ++ debug_parts_text front.now pdb.old.file) }
@@ -56,7 +57,7 @@ fn put_streams<'s, S: Source<'s>>(
     alloc: Global,
     pdb: &mut PDB<'s, S>,
     out: &mut Vec<u8>,
-    front: &[u8],
+    front: &Front<'_>,
     is_empty: bool,
 ) -> Result<(), Stop>
     ensures continues { Continues pdb.old pdb.new }
@@ -76,7 +77,7 @@ fn put_tables<'s, S: Source<'s>>(
     alloc: Global,
     pdb: &mut PDB<'s, S>,
     out: &mut Vec<u8>,
-    front: &[u8],
+    front: &Front<'_>,
     is_empty: bool,
 ) -> Result<(), Stop>
     ensures continues { Continues pdb.old pdb.new }
@@ -95,7 +96,7 @@ pub fn put_front<'s, S: Source<'s>>(
     alloc: Global,
     pdb: &mut PDB<'s, S>,
     out: &mut Vec<u8>,
-    front: &[u8],
+    front: &Front<'_>,
 ) -> Result<(), Stop>
     ensures continues { Continues pdb.old pdb.new }
     ensures text { OnOk result (out.new.items ≡ out.old.items ++ front_text front.now pdb.old.file) }

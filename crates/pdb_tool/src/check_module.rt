@@ -11,6 +11,7 @@ ghost use Rattle.pdb_tool.specs.CheckTexts.{at_index, fault_text, lines_text, ot
 ghost use Rattle.pdb_tool.specs.declared.stop.Stop.{Stop};
 
 use crate::findings::{put_end, put_refusal, put_refused_record, put_symbol_damage};
+use crate::fronts::Front;
 use crate::stop::Stop;
 use pdb::{
     FallibleIterator, InlineSiteSymbol, ModuleInfo, Symbol, SymbolData, SymbolIndex, SymbolIter,
@@ -21,7 +22,7 @@ use std::alloc::{AllocError, Global};
 fn put_site(
     alloc: Global,
     out: &mut Vec<u8>,
-    front: &[u8],
+    front: &Front<'_>,
     index: SymbolIndex,
     site: &InlineSiteSymbol<'_>,
 ) -> Result<(), AllocError>
@@ -37,7 +38,7 @@ fn put_site(
 fn put_site_of(
     alloc: Global,
     out: &mut Vec<u8>,
-    front: &[u8],
+    front: &Front<'_>,
     index: SymbolIndex,
     parsed: &SymbolData<'_>,
 ) -> Result<(), AllocError>
@@ -54,7 +55,7 @@ fn put_site_of(
 fn put_symbol(
     alloc: Global,
     out: &mut Vec<u8>,
-    front: &[u8],
+    front: &Front<'_>,
     symbol: &Symbol<'_>,
 ) -> Result<(), Stop>
     ensures text { OnOk result (out.new.items ≡ out.old.items ++ symbol_text front.now (symbol_of symbol.now)) }
@@ -71,7 +72,7 @@ fn put_symbol(
 fn put_records(
     alloc: Global,
     out: &mut Vec<u8>,
-    front: &[u8],
+    front: &Front<'_>,
     mut symbols: SymbolIter<'_>,
 ) -> Result<(), Stop>
     ensures unwritten { IfErr result (λ e. (e ≡ Stop.Memory) ⊎ (e ≡ Stop.Read)) }
@@ -87,7 +88,7 @@ fn put_records(
 }
 
 /// The line of the list of symbols.
-fn put_symbol_list(out: &mut Vec<u8>, front: &[u8], info: &ModuleInfo<'_>) -> Result<(), Stop>
+fn put_symbol_list(out: &mut Vec<u8>, front: &Front<'_>, info: &ModuleInfo<'_>) -> Result<(), Stop>
     ensures text { OnOk result (out.new.items ≡ out.old.items ++ fault_text front.now (codes " symbols") (ended_by (symbols_of info.now))) }
     ensures unwritten { IfErr result (λ e. (e ≡ Stop.Memory) ⊎ (e ≡ Stop.Read)) }
 {
@@ -102,7 +103,7 @@ fn put_symbol_list(out: &mut Vec<u8>, front: &[u8], info: &ModuleInfo<'_>) -> Re
 fn put_symbols(
     alloc: Global,
     out: &mut Vec<u8>,
-    front: &[u8],
+    front: &Front<'_>,
     info: &ModuleInfo<'_>,
 ) -> Result<(), Stop>
     ensures text { OnOk result (out.new.items ≡ out.old.items ++ symbols_text front.now info.now) }
@@ -120,7 +121,7 @@ fn put_symbols(
 fn put_lines(
     alloc: Global,
     out: &mut Vec<u8>,
-    front: &[u8],
+    front: &Front<'_>,
     info: &ModuleInfo<'_>,
 ) -> Result<(), Stop>
     ensures text { OnOk result (out.new.items ≡ out.old.items ++ lines_text front.now info.now) }
@@ -141,7 +142,7 @@ fn put_lines(
 /// The line of the inlined functions.
 fn put_inlinees(
     out: &mut Vec<u8>,
-    front: &[u8],
+    front: &Front<'_>,
     place: &[u8],
     info: &ModuleInfo<'_>,
 ) -> Result<(), Stop>
@@ -158,7 +159,7 @@ fn put_inlinees(
 fn put_imports(
     alloc: Global,
     out: &mut Vec<u8>,
-    front: &[u8],
+    front: &Front<'_>,
     place: &[u8],
     info: &ModuleInfo<'_>,
 ) -> Result<(), Stop>
@@ -175,7 +176,7 @@ fn put_imports(
 fn put_exports(
     alloc: Global,
     out: &mut Vec<u8>,
-    front: &[u8],
+    front: &Front<'_>,
     place: &[u8],
     info: &ModuleInfo<'_>,
 ) -> Result<(), Stop>
@@ -193,7 +194,7 @@ fn put_exports(
 fn put_others(
     alloc: Global,
     out: &mut Vec<u8>,
-    front: &[u8],
+    front: &Front<'_>,
     info: &ModuleInfo<'_>,
 ) -> Result<(), Stop>
     ensures text { OnOk result (out.new.items ≡ out.old.items ++ others_text front.now info.now) }
@@ -208,7 +209,7 @@ fn put_others(
 pub fn put_parts(
     alloc: Global,
     out: &mut Vec<u8>,
-    front: &[u8],
+    front: &Front<'_>,
     info: &ModuleInfo<'_>,
 ) -> Result<(), Stop>
     ensures text { OnOk result (out.new.items ≡ out.old.items ++ parts_text front.now info.now) }

@@ -1,6 +1,7 @@
 //! What is wrong with a file, or that nothing is.
 
-ghost use Rattle.std.specs.Prelude.{◌≡◌, ◌≢◌, ◌++◌, ◌⊎◌, [], Ok, Err, OnOk, OnErr, IfOk, IfErr, IsErrOf};
+ghost use Rattle.std.specs.Prelude.{◌≡◌, ◌≢◌, ◌++◌, ◌⊎◌, [], codes, Ok, Err, OnOk, OnErr, IfOk, IfErr, IsErrOf};
+ghost use Rattle.std.specs.Fmt.{decimal};
 ghost use Rattle.std.specs.Io.KnownBytes.{Appends};
 ghost use Rattle.pdb.specs.Container.{opens};
 ghost use Rattle.pdb.specs.DbiViews.{modules_left, modules_steps};
@@ -8,45 +9,36 @@ ghost use Rattle.pdb.specs.Error.{Error};
 ghost use Rattle.pdb.specs.Source.{Continues};
 ghost use Rattle.pdb_text.specs.Written.{WroteFront};
 ghost use Rattle.pdb_tool.specs.Checks.{items_of, modules_of_file};
-ghost use Rattle.pdb_tool.specs.CheckTexts.{check_text, file_front, findings_text, is_nothing, module_front, module_text, modules_text, stream_text};
+ghost use Rattle.pdb_tool.specs.CheckTexts.{check_text, findings_text, is_nothing, module_text, modules_text, stream_text};
 ghost use Rattle.pdb_tool.specs.declared.stop.Stop.{Stop};
 
 use crate::check_front::put_front;
 use crate::check_module::put_parts;
 use crate::findings::put_refusal;
+use crate::fronts::{Front, put_sound_in};
 use crate::opening::opened;
+use crate::options::Form;
 use crate::stop::Stop;
 use pdb::{Error, FallibleIterator, MemorySource, Module, ModuleInfo, ModuleIter, PDB, Source};
 use pdb_text::{put_decimal, write_out};
 use std::alloc::{AllocError, Global};
 use std::io::Write;
 
-/// What the lines of a file begin with.
-fn file_front(alloc: Global, name: &[u8]) -> Result<Vec<u8>, AllocError>
-    ensures { IfOk result (λ v. v.items ≡ file_front name.now) }
+/// How the places of the module of a number begin.
+fn module_part(alloc: Global, k: u64) -> Result<Vec<u8>, AllocError>
+    ensures { IfOk result (λ v. v.items ≡ codes "module " ++ decimal k) }
 {
-    let mut front = Vec::new(alloc);
-    front.extend_from_slice(name)?;
-    front.extend_from_slice(b": ")?;
-    Ok(front)
-}
-
-/// What the lines of the module of a number begin with.
-fn module_front(alloc: Global, name: &[u8], k: u64) -> Result<Vec<u8>, AllocError>
-    ensures { IfOk result (λ v. v.items ≡ module_front name.now k) }
-{
-    let mut front = Vec::new(alloc);
-    front.extend_from_slice(name)?;
-    front.extend_from_slice(b": module ")?;
-    put_decimal(&mut front, k)?;
-    Ok(front)
+    let mut part = Vec::new(alloc);
+    part.extend_from_slice(b"module ")?;
+    put_decimal(&mut part, k)?;
+    Ok(part)
 }
 
 /// The lines of what was found of a module.
 fn put_stream(
     alloc: Global,
     out: &mut Vec<u8>,
-    front: &[u8],
+    front: &Front<'_>,
     found: pdb::Result<Option<ModuleInfo<'_>>>,
 ) -> Result<(), Stop>
     ensures ok { IfOk found.entry (λ m. OnOk result (out.new.items ≡ out.old.items ++ stream_text front.now (Ok m))) }
@@ -66,15 +58,17 @@ fn put_module<'s, S: Source<'s>>(
     alloc: Global,
     pdb: &mut PDB<'s, S>,
     out: &mut Vec<u8>,
+    form: Form,
     name: &[u8],
     k: u64,
     module: &Module<'_>,
 ) -> Result<(), Stop>
     ensures continues { Continues pdb.old pdb.new }
-    ensures text { OnOk result (out.new.items ≡ out.old.items ++ module_text name.now pdb.old.file k «module».now) }
+    ensures text { OnOk result (out.new.items ≡ out.old.items ++ module_text form name.now pdb.old.file k «module».now) }
     ensures unwritten { IfErr result (λ e. (e ≡ Stop.Memory) ⊎ (e ≡ Stop.Read)) }
 {
-    let front = module_front(alloc, name, k)?;
+    let part = module_part(alloc, k)?;
+    let front = Front::new(form, name, &part);
     let found = pdb.module_info(module);
     put_stream(alloc, out, &front, found)
 }
@@ -84,18 +78,19 @@ fn put_listed<'s, S: Source<'s>>(
     alloc: Global,
     pdb: &mut PDB<'s, S>,
     out: &mut Vec<u8>,
+    form: Form,
     name: &[u8],
     mut modules: ModuleIter<'_>,
 ) -> Result<(), Stop>
     requires { modules_steps modules ≡ 0 }
     ensures continues { Continues pdb.old pdb.new }
-    ensures text { OnOk result (out.new.items ≡ out.old.items ++ modules_text name.now pdb.old.file 0 (modules_left modules.entry).items) }
+    ensures text { OnOk result (out.new.items ≡ out.old.items ++ modules_text form name.now pdb.old.file 0 (modules_left modules.entry).items) }
     ensures unwritten { IfErr result (λ e. (e ≡ Stop.Memory) ⊎ (e ≡ Stop.Read)) }
 {
     let mut k = 0;
     loop {
         match modules.next() {
-            Ok(Some(listed)) => put_module(alloc, pdb, out, name, k, &listed)?,
+            Ok(Some(listed)) => put_module(alloc, pdb, out, form, name, k, &listed)?,
             Ok(None) => return Ok(()),
             Err(_) => return Ok(()),
         }
@@ -109,10 +104,11 @@ fn put_modules<'s, S: Source<'s>>(
     alloc: Global,
     pdb: &mut PDB<'s, S>,
     out: &mut Vec<u8>,
+    form: Form,
     name: &[u8],
 ) -> Result<(), Stop>
     ensures continues { Continues pdb.old pdb.new }
-    ensures text { OnOk result (out.new.items ≡ out.old.items ++ modules_text name.now pdb.old.file 0 (items_of (modules_of_file pdb.old.file))) }
+    ensures text { OnOk result (out.new.items ≡ out.old.items ++ modules_text form name.now pdb.old.file 0 (items_of (modules_of_file pdb.old.file))) }
     ensures unwritten { IfErr result (λ e. (e ≡ Stop.Memory) ⊎ (e ≡ Stop.Read)) }
 {
     let stream = match pdb.debug_information() {
@@ -122,7 +118,7 @@ fn put_modules<'s, S: Source<'s>>(
         Err(_) => return Ok(()),
     };
     match stream.modules() {
-        Ok(modules) => put_listed(alloc, pdb, out, name, modules),
+        Ok(modules) => put_listed(alloc, pdb, out, form, name, modules),
         Err(_) => Ok(()),
     }
 }
@@ -133,15 +129,16 @@ fn put_findings<'s, S: Source<'s>>(
     alloc: Global,
     pdb: &mut PDB<'s, S>,
     out: &mut Vec<u8>,
+    form: Form,
     name: &[u8],
 ) -> Result<(), Stop>
     ensures continues { Continues pdb.old pdb.new }
-    ensures text { OnOk result (out.new.items ≡ out.old.items ++ findings_text name.now pdb.old.file) }
+    ensures text { OnOk result (out.new.items ≡ out.old.items ++ findings_text form name.now pdb.old.file) }
     ensures unwritten { IfErr result (λ e. (e ≡ Stop.Memory) ⊎ (e ≡ Stop.Read)) }
 {
-    let front = file_front(alloc, name)?;
+    let front = Front::new(form, name, b"");
     put_front(alloc, pdb, out, &front)?;
-    put_modules(alloc, pdb, out, name)
+    put_modules(alloc, pdb, out, form, name)
 }
 
 /// The text of an opened file; answers whether nothing is wrong.
@@ -149,18 +146,18 @@ fn put_check<'s, S: Source<'s>>(
     alloc: Global,
     pdb: &mut PDB<'s, S>,
     out: &mut Vec<u8>,
+    form: Form,
     name: &[u8],
 ) -> Result<bool, Stop>
     requires { out.now.items ≡ [] }
-    ensures text { OnOk result (out.new.items ≡ check_text name.now pdb.old.file) }
-    ensures well { IfOk result (λ well. well ≡ is_nothing (findings_text name.now pdb.old.file)) }
+    ensures text { OnOk result (out.new.items ≡ check_text form name.now pdb.old.file) }
+    ensures well { IfOk result (λ well. well ≡ is_nothing (findings_text form name.now pdb.old.file)) }
     ensures unwritten { IfErr result (λ e. (e ≡ Stop.Memory) ⊎ (e ≡ Stop.Read)) }
 {
-    put_findings(alloc, pdb, out, name)?;
+    put_findings(alloc, pdb, out, form, name)?;
     let well = out.is_empty();
     if well {
-        out.extend_from_slice(name)?;
-        out.extend_from_slice(b": ok\n")?;
+        put_sound_in(out, form, name)?;
     }
     Ok(well)
 }
@@ -169,16 +166,17 @@ fn put_check<'s, S: Source<'s>>(
 fn write_opened<'s, S: Source<'s>, W: Write>(
     alloc: Global,
     pdb: &mut PDB<'s, S>,
+    form: Form,
     name: &[u8],
     out: &mut W,
 ) -> Result<bool, Stop>
     ensures opened { (e : Error) → IsErrOf result (Stop.Open e) → ⊥ }
-    ensures ok { OnOk result (Appends (W.contents out.old) (W.contents out.new) (check_text name.now pdb.old.file)) }
-    ensures well { IfOk result (λ well. well ≡ is_nothing (findings_text name.now pdb.old.file)) }
-    ensures front { OnErr result (WroteFront (W.contents out.old) (W.contents out.new) (check_text name.now pdb.old.file)) }
+    ensures ok { OnOk result (Appends (W.contents out.old) (W.contents out.new) (check_text form name.now pdb.old.file)) }
+    ensures well { IfOk result (λ well. well ≡ is_nothing (findings_text form name.now pdb.old.file)) }
+    ensures front { OnErr result (WroteFront (W.contents out.old) (W.contents out.new) (check_text form name.now pdb.old.file)) }
 {
     let mut text = Vec::new(alloc);
-    let well = put_check(alloc, pdb, &mut text, name)?;
+    let well = put_check(alloc, pdb, &mut text, form, name)?;
     write_out(out, &text)?;
     Ok(well)
 }
@@ -188,15 +186,16 @@ fn write_opened<'s, S: Source<'s>, W: Write>(
 pub fn write_check<W: Write>(
     alloc: Global,
     bytes: &[u8],
+    form: Form,
     name: &[u8],
     out: &mut W,
 ) -> Result<bool, Stop>
     ensures opened { OnOk result (opens bytes.now ≡ Ok tt) }
-    ensures ok { OnOk result (Appends (W.contents out.old) (W.contents out.new) (check_text name.now bytes.now)) }
-    ensures well { IfOk result (λ well. well ≡ is_nothing (findings_text name.now bytes.now)) }
+    ensures ok { OnOk result (Appends (W.contents out.old) (W.contents out.new) (check_text form name.now bytes.now)) }
+    ensures well { IfOk result (λ well. well ≡ is_nothing (findings_text form name.now bytes.now)) }
     ensures refused { (e : Error) → IsErrOf result (Stop.Open e) → opens bytes.now ≡ Err e }
-    ensures front { OnErr result (WroteFront (W.contents out.old) (W.contents out.new) (check_text name.now bytes.now)) }
+    ensures front { OnErr result (WroteFront (W.contents out.old) (W.contents out.new) (check_text form name.now bytes.now)) }
 {
     let mut pdb = opened(alloc, MemorySource::new(bytes))?;
-    write_opened(alloc, &mut pdb, name, out)
+    write_opened(alloc, &mut pdb, form, name, out)
 }

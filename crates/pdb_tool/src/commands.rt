@@ -24,6 +24,7 @@ use crate::line_texts::put_lines;
 use crate::module_machine::machine_of_file;
 use crate::module_texts::{ModuleText, write_all, write_places, write_refused};
 use crate::opening::opened;
+use crate::options::Form;
 use crate::scope_texts::put_scopes;
 use crate::stop::{Stop, stop_of};
 use crate::symbol_texts::{put_global_symbols, put_symbols_of};
@@ -48,7 +49,7 @@ impl<'a> ModuleText for Lines<'a> {
     ghost use Rattle.std.specs.Prelude.{option_copied};
     ghost use Rattle.pdb_tool.specs.LineTexts.{lines_text};
 
-    ghost text = { λ l ids. lines_text (option_copied l.strings) };
+    ghost text = { λ l ids k. lines_text (option_copied l.strings) };
 
     fn names_calls(&self) -> bool {
         false
@@ -58,6 +59,7 @@ impl<'a> ModuleText for Lines<'a> {
         &self,
         alloc: Global,
         out: &mut Vec<u8>,
+        _k: u64,
         info: &ModuleInfo<'_>,
         _global: &GlobalIds<'_>,
     ) -> Result<(), AllocError> {
@@ -94,7 +96,7 @@ impl<'a> ModuleText for Scopes<'a> {
     ghost use Rattle.pdb_tool.specs.LineNames.{names_from};
     ghost use Rattle.pdb_tool.specs.ScopeTexts.{scopes_text};
 
-    ghost text = { λ s ids. scopes_text (names_from s.tables.ids s.tables.types (first_definition s.tables.definitions) ids) s.tables.header };
+    ghost text = { λ s ids k. scopes_text (names_from s.tables.ids s.tables.types (first_definition s.tables.definitions) ids) s.tables.header };
 
     fn names_calls(&self) -> bool {
         true
@@ -104,6 +106,7 @@ impl<'a> ModuleText for Scopes<'a> {
         &self,
         alloc: Global,
         out: &mut Vec<u8>,
+        _k: u64,
         info: &ModuleInfo<'_>,
         global: &GlobalIds<'_>,
     ) -> Result<(), AllocError> {
@@ -128,7 +131,7 @@ impl<'a> ModuleText for Symbols<'a> {
     ghost use Rattle.pdb_tool.specs.LineNames.{names_from};
     ghost use Rattle.pdb_tool.specs.SymbolTexts.{symbols_text};
 
-    ghost text = { λ s ids. symbols_text (names_from s.tables.ids s.tables.types (first_definition s.tables.definitions) ids) s.tables.header };
+    ghost text = { λ s ids k. symbols_text (names_from s.tables.ids s.tables.types (first_definition s.tables.definitions) ids) s.tables.header };
 
     fn names_calls(&self) -> bool {
         true
@@ -138,6 +141,7 @@ impl<'a> ModuleText for Symbols<'a> {
         &self,
         alloc: Global,
         out: &mut Vec<u8>,
+        _k: u64,
         info: &ModuleInfo<'_>,
         global: &GlobalIds<'_>,
     ) -> Result<(), AllocError> {
@@ -155,18 +159,19 @@ impl<'a> ModuleText for Symbols<'a> {
 pub fn write_modules<'s, S: Source<'s>, T: ModuleText, W: Write>(
     alloc: Global,
     pdb: &mut PDB<'s, S>,
+    form: Form,
     texts: &T,
     places: &[u32],
     out: &mut W,
 ) -> Result<(), Stop>
     ensures opened { (e : Error) → IsErrOf result (Stop.Open e) → ⊥ }
-    ensures ok { OnOk result (Appends (W.contents out.old) (W.contents out.new) (modules_text (in_file (T.text texts.now) pdb.old.file) pdb.old.file places.now)) }
-    ensures front { OnErr result (WroteFront (W.contents out.old) (W.contents out.new) (modules_text (in_file (T.text texts.now) pdb.old.file) pdb.old.file places.now)) }
+    ensures ok { OnOk result (Appends (W.contents out.old) (W.contents out.new) (modules_text form (in_file (T.text texts.now) pdb.old.file) pdb.old.file places.now)) }
+    ensures front { OnErr result (WroteFront (W.contents out.old) (W.contents out.new) (modules_text form (in_file (T.text texts.now) pdb.old.file) pdb.old.file places.now)) }
 {
     if places.is_empty() {
-        write_all(alloc, pdb, texts, out)
+        write_all(alloc, pdb, form, texts, out)
     } else {
-        write_places(alloc, pdb, texts, places, out)
+        write_places(alloc, pdb, form, texts, places, out)
     }
 }
 
@@ -236,7 +241,7 @@ pub fn write_lines<'s, S: Source<'s>, W: Write>(
     let lines = Lines {
         strings: strings.as_ref(),
     };
-    write_modules(alloc, &mut pdb, &lines, places, out)
+    write_modules(alloc, &mut pdb, Form::Text, &lines, places, out)
 }
 
 /// The full definitions among the types of a stream; none where the stream isn't there or has an error.
@@ -295,7 +300,8 @@ pub fn write_scopes<'s, S: Source<'s>, W: Write>(
     let types = types_stream(&mut pdb)?;
     let header = machine_of_file(&mut pdb)?;
     let tables = tables_by(alloc, ids.as_ref(), types.as_ref(), header)?;
-    write_modules(alloc, &mut pdb, &Scopes { tables }, places, out)
+    let scopes = Scopes { tables };
+    write_modules(alloc, &mut pdb, Form::Text, &scopes, places, out)
 }
 
 /// The text of the global symbols, by what names are found by, and by these ids of other modules.
@@ -362,7 +368,7 @@ fn write_numbered<'s, S: Source<'s>, W: Write>(
     let header = machine_of_file(pdb)?;
     let tables = tables_by(alloc, ids.as_ref(), types.as_ref(), header)?;
     match places.split_first() {
-        Some(_) => write_places(alloc, pdb, &Symbols { tables }, places, out),
+        Some(_) => write_places(alloc, pdb, Form::Text, &Symbols { tables }, places, out),
         None => write_globals(alloc, pdb, &tables, out),
     }
 }
@@ -401,5 +407,5 @@ pub fn write_all_symbols<'s, S: Source<'s>, W: Write>(
     let types = types_stream(&mut pdb)?;
     let header = machine_of_file(&mut pdb)?;
     let tables = tables_by(alloc, ids.as_ref(), types.as_ref(), header)?;
-    write_all(alloc, &mut pdb, &Symbols { tables }, out)
+    write_all(alloc, &mut pdb, Form::Text, &Symbols { tables }, out)
 }

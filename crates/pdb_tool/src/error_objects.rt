@@ -26,7 +26,7 @@ fn begin_outside(writer: &mut Writer) -> Result<(), AllocError>
 }
 
 /// The number and the text of an error, as the last members of an object.
-fn put_error_members(alloc: Global, writer: &mut Writer, e: Error) -> Result<(), AllocError>
+pub fn put_error_members(alloc: Global, writer: &mut Writer, e: Error) -> Result<(), AllocError>
     ensures { Adds result writer.old writer.new (members_tokens (error_members e)) }
 {
     let mut message = Vec::new(alloc);
@@ -77,7 +77,7 @@ pub fn put_refused_in(out: &mut Vec<u8>, form: Form, e: Error) -> Result<(), Sto
 }
 
 /// The last members of the object of what isn't there.
-fn put_none_members(writer: &mut Writer) -> Result<(), AllocError>
+pub fn put_none_members(writer: &mut Writer) -> Result<(), AllocError>
     ensures { Adds result writer.old writer.new (members_tokens (member (codes "error") null (member (codes "text") (string (codes "none")) no_members))) }
 {
     put_null(writer, "error")?;

@@ -40,12 +40,12 @@ pub enum FileText<'a> {
     AllSymbols,
     /// The types of these indices; all where there is none.
     Types(&'a [u32]),
-    /// The source files of the modules of these numbers.
-    Sources(&'a [u32]),
-    /// The functions and data whose names match one of these words.
-    Find(&'a [Operand<'a>]),
-    /// Which addresses these lines of source files have.
-    Where(&'a [SourceAsked<'a>]),
+    /// The source files of the modules of these numbers, in a form.
+    Sources(Form, &'a [u32]),
+    /// The functions and data whose names match one of these words, in a form.
+    Find(Form, &'a [Operand<'a>]),
+    /// Which addresses these lines of source files have, in a form.
+    Where(Form, &'a [SourceAsked<'a>]),
     /// The list of modules, in a form.
     Modules(Form),
     /// The section headers, in a form.
@@ -60,6 +60,7 @@ impl FileText<'_> {
         ensures { result ≡ form_of self.entry }
     {
         match self {
+            FileText::Sources(form, _) | FileText::Find(form, _) | FileText::Where(form, _) => form,
             FileText::Modules(form) | FileText::Sections(form) | FileText::Streams(form) => form,
             _ => Form::Text,
         }
@@ -86,9 +87,9 @@ pub fn write_text<'s, S: Source<'s>, W: Write>(
         FileText::Symbols(places) => write_symbols(alloc, source, places, out),
         FileText::AllSymbols => write_all_symbols(alloc, source, out),
         FileText::Types(indices) => write_types(alloc, source, indices, out),
-        FileText::Sources(places) => write_sources(alloc, source, places, out),
-        FileText::Find(words) => write_find(alloc, source, words, out),
-        FileText::Where(asked) => write_where(alloc, source, asked, out),
+        FileText::Sources(form, places) => write_sources(alloc, source, form, places, out),
+        FileText::Find(form, words) => write_find(alloc, source, form, words, out),
+        FileText::Where(form, asked) => write_where(alloc, source, form, asked, out),
         FileText::Modules(form) => write_modules(alloc, source, form, out),
         FileText::Sections(form) => write_sections(alloc, source, form, out),
         FileText::Streams(form) => write_streams(alloc, source, form, out),

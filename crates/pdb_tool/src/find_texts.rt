@@ -13,11 +13,12 @@ ghost use Rattle.pdb.specs.Views.{symbol_of, symbols_left};
 ghost use Rattle.pdb_resolve.specs.CallViews.{names_of_calls};
 ghost use Rattle.pdb_symbols.specs.Kinds.{is_in};
 ghost use Rattle.pdb_names.specs.Spelling.{spelled, text_of};
-ghost use Rattle.pdb_tool.specs.FindTexts.{find_text, found_line, global_kinds, global_line, global_lines, has_bytes, inlined_at, more_than_none, parent_said, public_line, public_name, site_records, symbol_line, symbols_left_text};
+ghost use Rattle.pdb_tool.specs.FindTexts.{find_text, found_in, global_kinds, global_line, global_lines, has_bytes, inlined_at, more_than_none, parent_said, public_line, public_name, site_records, symbol_line, symbols_left_text};
 ghost use Rattle.pdb_tool.specs.Finders.{parent_view};
 
-use crate::error_line::{put_error_line, put_refusal_line};
+use crate::error_objects::put_error_in;
 use crate::finder::{Finder, put_qualified};
+use crate::module_errors::{put_error_of, put_refusal_of};
 use pdb::{
     Error, FallibleIterator, InlineSiteSymbol, InlineeFinder, InlineeLineIterator, LineInfo,
     ModuleInfo, PdbInternalSectionOffset, Symbol, SymbolData, SymbolIter, SymbolTable,
@@ -27,7 +28,6 @@ use pdb_resolve::{CallNames, read_known};
 use std::alloc::{AllocError, Global};
 
 /// The line of a public symbol that was found. `spells` has the name that its name spells.
-#[tactic(auto, unfolding(crate::specs::FindTexts::found_line))]
 fn put_public_found(
     out: &mut Vec<u8>,
     finder: &Finder<'_, '_>,
@@ -35,7 +35,7 @@ fn put_public_found(
     name: &[u8],
     spells: &mut Vec<u8>,
 ) -> Result<(), AllocError>
-    ensures { OnOk result (out.new.items ≡ out.old.items ++ found_line (codes "public") finder.now.addresses place None (public_name name.now spells.old.items)) }
+    ensures { OnOk result (out.new.items ≡ out.old.items ++ found_in finder.now.form (codes "public") finder.now.addresses place None (public_name name.now spells.old.items)) }
 {
     if spells.as_slice() == name {
         return finder.put_found(out, b"public", place, None, name);
@@ -152,7 +152,7 @@ fn put_globals_left(
         match symbols.next() {
             Ok(Some(symbol)) => put_global(alloc, out, finder, x86, &symbol, &mut spells)?,
             Ok(None) => return Ok(()),
-            Err(e) => return put_error_line(out, e),
+            Err(e) => return put_error_in(out, finder.form, e),
         }
     }
 }
@@ -351,16 +351,17 @@ fn put_symbol<'a>(
     }
 }
 
-/// The lines of the symbols that an iterator has left, and then that of its fault.
+/// The lines of the symbols of module `k` that an iterator has left, and then that of its fault.
 fn put_symbols<'a>(
     alloc: Global,
     out: &mut Vec<u8>,
     finder: &Finder<'_, '_>,
+    k: u64,
     names: &CallNames<'_, '_>,
     known: &InlineeFinder<'a>,
     mut symbols: SymbolIter<'a>,
 ) -> Result<(), AllocError>
-    ensures { OnOk result (out.new.items ≡ out.old.items ++ symbols_left_text finder.now (names_of_calls names.now) (inlinee_with known.now) None (symbols_left symbols.entry)) }
+    ensures { OnOk result (out.new.items ≡ out.old.items ++ symbols_left_text finder.now k (names_of_calls names.now) (inlinee_with known.now) None (symbols_left symbols.entry)) }
 {
     let mut parent = None;
     let mut name = Vec::new(alloc);
@@ -379,27 +380,28 @@ fn put_symbols<'a>(
                 )?;
             }
             Ok(None) => return Ok(()),
-            Err(e) => return put_error_line(out, e),
+            Err(e) => return put_error_of(out, finder.form, k, e),
         }
     }
 }
 
-/// The lines of the symbols of a module that are asked for, and then that of their fault; or the line of their error.
+/// The lines of the symbols of module `k` that are asked for, and then that of their fault; or the line of their error.
 #[tactic(auto, unfolding(crate::specs::FindTexts::find_text))]
 pub fn put_found_symbols(
     alloc: Global,
     out: &mut Vec<u8>,
     finder: &Finder<'_, '_>,
+    k: u64,
     names: &CallNames<'_, '_>,
     info: &ModuleInfo<'_>,
 ) -> Result<(), AllocError>
-    ensures { OnOk result (out.new.items ≡ out.old.items ++ find_text finder.now (names_of_calls names.now) info.now) }
+    ensures { OnOk result (out.new.items ≡ out.old.items ++ find_text finder.now k (names_of_calls names.now) info.now) }
 {
     match info.symbols() {
         Ok(symbols) => match read_known(alloc, info) {
-            Ok(known) => put_symbols(alloc, out, finder, names, &known, symbols),
+            Ok(known) => put_symbols(alloc, out, finder, k, names, &known, symbols),
             Err(_) => Err(AllocError),
         },
-        Err(e) => put_refusal_line(out, e),
+        Err(e) => put_refusal_of(out, finder.form, k, e),
     }
 }

@@ -6,11 +6,13 @@ ghost use Rattle.pdb.specs.Qualified.{shown_qualified};
 ghost use Rattle.pdb.specs.Text.{name_bytes};
 ghost use Rattle.pdb_resolve.specs.Frames.{qualified_text};
 ghost use Rattle.pdb_tool.specs.Operands.{word_of};
-ghost use Rattle.pdb_tool.specs.FindTexts.{found_line, is_asked, line_if_asked, stretch_text};
+ghost use Rattle.pdb_tool.specs.FindTexts.{found_in, found_line, is_asked, line_if_asked, stretch_text};
 ghost use Rattle.pdb_tool.specs.Wildcards.{matches as matches_of};
 ghost use Rattle.std.specs.Prelude.{Some};
 
+use crate::found_objects::put_found_object;
 use crate::operands::Operand;
+use crate::options::Form;
 use crate::values::{put_address, put_optional, put_place};
 use crate::wildcards::matches;
 use pdb::{ItemFinder, PdbInternalSectionOffset, QualifiedName};
@@ -19,10 +21,11 @@ use pdb_text::{put_line_end, put_one_line};
 use std::alloc::AllocError;
 use std::marker::Model;
 
-/// The patterns of the names that are asked for, the tables that inlined functions have their names from, and the
-/// addresses of places.
+/// The form of the lines, the patterns of the names that are asked for, the tables that inlined functions have their
+/// names from, and the addresses of places.
 #[derive(Drop)]
 pub struct Finder<'w, 'a> {
+    pub form: Form,
     words: &'w [Operand<'w>],
     pub ids: ItemFinder<'a>,
     pub types: ItemFinder<'a>,
@@ -36,7 +39,7 @@ impl<'w, 'a> Model for Finder<'w, 'a> {
 
     ghost Value = { Finding };
 
-    ghost view = { λ f. record { words = map word_of f.words.now; ids = f.ids; types = f.types; addresses = f.addresses } };
+    ghost view = { λ f. record { form = f.form; words = map word_of f.words.now; ids = f.ids; types = f.types; addresses = f.addresses } };
 }
 
 impl<'w, 'a> Finder<'w, 'a> {
@@ -44,14 +47,16 @@ impl<'w, 'a> Finder<'w, 'a> {
 
     /// What is asked for by these words.
     pub fn new(
+        form: Form,
         words: &'w [Operand<'w>],
         ids: ItemFinder<'a>,
         types: ItemFinder<'a>,
         addresses: PlaceAddresses<'a>,
     ) -> Self
-        ensures { result ≡ record { words = map word_of words.entry.now; ids = ids.entry; types = types.entry; addresses = addresses.entry } }
+        ensures { result ≡ record { form = form; words = map word_of words.entry.now; ids = ids.entry; types = types.entry; addresses = addresses.entry } }
     {
         Finder {
+            form,
             words,
             ids,
             types,
@@ -71,7 +76,7 @@ impl<'w, 'a> Finder<'w, 'a> {
 
     /// The line of what was found: its kind, where it stands, how many bytes it has, and its name.
     #[tactic(auto, unfolding(crate::specs::FindTexts::found_line))]
-    pub fn put_found(
+    fn put_found_line(
         &self,
         out: &mut Vec<u8>,
         kind: &[u8],
@@ -87,6 +92,23 @@ impl<'w, 'a> Finder<'w, 'a> {
         out.push(b' ')?;
         put_one_line(out, name)?;
         put_line_end(out)
+    }
+
+    /// The same in the form of the lines.
+    pub fn put_found(
+        &self,
+        out: &mut Vec<u8>,
+        kind: &[u8],
+        place: PdbInternalSectionOffset,
+        length: Option<u32>,
+        name: &[u8],
+    ) -> Result<(), AllocError>
+        ensures { OnOk result (out.new.items ≡ out.old.items ++ found_in self.now.form kind.now self.now.addresses place length name.now) }
+    {
+        match self.form {
+            Form::Text => self.put_found_line(out, kind, place, length, name),
+            Form::Json => put_found_object(out, kind, &self.addresses, place, length, name),
+        }
     }
 
     /// The line, where the name is asked for.

@@ -3,14 +3,13 @@
 ghost use Rattle.std.specs.Prelude.{◌≡◌, ◌≢◌, ◌++◌, ◌⊎◌, codes, OnOk, IfOk, IfErr};
 ghost use Rattle.pdb.specs.Error.{Error};
 ghost use Rattle.pdb_tool.specs.Checks.{is_damage};
-ghost use Rattle.pdb_tool.specs.CheckTexts.{at_index, damage_text, fault_text, line_of};
-ghost use Rattle.pdb_tool.specs.ErrorLine.{message_of};
+ghost use Rattle.pdb_tool.specs.CheckTexts.{at_index, damage_text, fault_text};
 ghost use Rattle.pdb_tool.specs.declared.stop.Stop.{Stop};
 
-use crate::error_line::put_message;
+use crate::fronts::Front;
 use crate::stop::Stop;
 use pdb::{Error, FallibleIterator, SymbolIndex};
-use pdb_text::{put_hex8, put_line_end};
+use pdb_text::put_hex8;
 use std::alloc::{AllocError, Global};
 
 /// Whether a refusal tells of damage, and not of what isn't there, or of a kind of symbol without a form.
@@ -25,24 +24,17 @@ fn is_damage(e: Error) -> bool
     }
 }
 
-/// The line of a refusal.
-#[tactic(auto, unfolding(crate::specs::CheckTexts::line_of))]
-fn put_line(out: &mut Vec<u8>, front: &[u8], place: &[u8], e: Error) -> Result<(), AllocError>
-    ensures { OnOk result (out.new.items ≡ out.old.items ++ line_of front.now place.now e) }
-{
-    out.extend_from_slice(front)?;
-    out.extend_from_slice(place)?;
-    out.extend_from_slice(b": ")?;
-    put_message(out, e)?;
-    put_line_end(out)
-}
-
 /// The line of a refusal or a fault, where it tells of damage.
-pub fn put_damage(out: &mut Vec<u8>, front: &[u8], place: &[u8], e: Error) -> Result<(), AllocError>
+pub fn put_damage(
+    out: &mut Vec<u8>,
+    front: &Front<'_>,
+    place: &[u8],
+    e: Error,
+) -> Result<(), AllocError>
     ensures { OnOk result (out.new.items ≡ out.old.items ++ damage_text front.now place.now e) }
 {
     if is_damage(e) {
-        put_line(out, front, place, e)
+        front.put_line(out, place, e)
     } else {
         Ok(())
     }
@@ -52,7 +44,7 @@ pub fn put_damage(out: &mut Vec<u8>, front: &[u8], place: &[u8], e: Error) -> Re
 pub fn put_symbol_damage(
     alloc: Global,
     out: &mut Vec<u8>,
-    front: &[u8],
+    front: &Front<'_>,
     word: &[u8],
     index: SymbolIndex,
     e: Error,
@@ -65,14 +57,14 @@ pub fn put_symbol_damage(
     let mut place = Vec::new(alloc);
     place.extend_from_slice(word)?;
     put_hex8(&mut place, index.0)?;
-    put_line(out, front, &place, e)
+    front.put_line(out, &place, e)
 }
 
 /// The same of the refusal of a record; want of memory, and a source that failed, are passed on.
 pub fn put_refused_record(
     alloc: Global,
     out: &mut Vec<u8>,
-    front: &[u8],
+    front: &Front<'_>,
     word: &[u8],
     index: SymbolIndex,
     e: Error,
@@ -88,7 +80,7 @@ pub fn put_refused_record(
 }
 
 /// The line of the refusal of a call that reads the file; want of memory, and a source that failed, are passed on.
-pub fn put_refusal(out: &mut Vec<u8>, front: &[u8], place: &[u8], e: Error) -> Result<(), Stop>
+pub fn put_refusal(out: &mut Vec<u8>, front: &Front<'_>, place: &[u8], e: Error) -> Result<(), Stop>
     ensures text { OnOk result ((e ≢ Error.OutOfMemory) × (e ≢ Error.IoError) × (out.new.items ≡ out.old.items ++ damage_text front.now place.now e)) }
     ensures unwritten { IfErr result (λ e. (e ≡ Stop.Memory) ⊎ (e ≡ Stop.Read)) }
 {
@@ -102,7 +94,7 @@ pub fn put_refusal(out: &mut Vec<u8>, front: &[u8], place: &[u8], e: Error) -> R
 /// The line of the refusal of an answer, where it is refused.
 pub fn put_answer<T: Drop>(
     out: &mut Vec<u8>,
-    front: &[u8],
+    front: &Front<'_>,
     place: &[u8],
     answer: pdb::Result<T>,
 ) -> Result<(), Stop>
@@ -120,7 +112,7 @@ pub fn put_answer<T: Drop>(
 /// The line of a list's fault, where it has one.
 pub fn put_end<I: FallibleIterator>(
     out: &mut Vec<u8>,
-    front: &[u8],
+    front: &Front<'_>,
     place: &[u8],
     list: I,
 ) -> Result<(), AllocError>
@@ -136,7 +128,7 @@ pub fn put_end<I: FallibleIterator>(
 /// The line of a list's refusal or fault, where it has one.
 pub fn put_list<I: FallibleIterator>(
     out: &mut Vec<u8>,
-    front: &[u8],
+    front: &Front<'_>,
     place: &[u8],
     list: pdb::Result<I>,
 ) -> Result<(), Stop>

@@ -19,7 +19,7 @@ use pdb_resolve::Frame;
 use std::alloc::{AllocError, Global};
 
 /// A function's name, as a member. It is composed in `room`.
-fn put_name(
+pub fn put_name(
     writer: &mut Writer,
     room: &mut Vec<u8>,
     name: Option<QualifiedName<'_>>,
@@ -36,7 +36,7 @@ fn put_name(
 }
 
 /// The name of a source file, as a member.
-fn put_file(
+pub fn put_file(
     alloc: Global,
     writer: &mut Writer,
     file: Option<RawString<'_>>,

@@ -34,7 +34,7 @@ pdb_tool prints what Microsoft symbol files (PDB) say about a program.
 
 K is the index of a module, counted from 0: modules lists them.
 
-With --json resolve, modules, sections, streams and key print a JSON object on each line.
+With --json each command but lines, scopes, symbols and types prints a JSON object on each line.
 
 Exit status: 0, success; 1, a file of several could not be read, a file is damaged, or nothing
 was found; 2, a wrong argument; 3, a file can't be read; 4, it is no symbol file; 5, out of memory;
@@ -83,7 +83,7 @@ read. A line that is no address is printed as it is.
 ";
 
 const FIND: &str = "\
-pdb_tool find FILE NAME..
+pdb_tool find [--json] FILE NAME..
 
 Prints where the functions, inlined functions, data and labels are whose name is one of the NAMEs.
 In a NAME a * stands for any bytes, also none; case counts. Each line has a kind, SECTION:OFFSET in
@@ -92,15 +92,19 @@ address that is not known. A public symbol has its readable name, and behind it 
 decorated one; a NAME may match either. An inlined function stands where it was inlined.
 
 Global symbols come first, and then those of each module. A damaged module is a line
-`error N TEXT`, and the next module follows. The status is 1 if nothing was found.
+`error N TEXT`, and the next module follows. The status is 1 if nothing was found. With --json a
+size or an address that is not known is null, and damage is an object with the members module, error
+and text; module is null outside modules.
 
   $ pdb_tool find app.pdb 'ma*'
   public 0001:00000100 0x1100 - main
   procedure 0001:00000100 0x1100 48 main
+  $ pdb_tool find --json app.pdb g
+  {\"kind\":\"data\",\"at\":\"0003:00000010\",\"rva\":null,\"length\":null,\"name\":\"g\"}
 ";
 
 const WHERE: &str = "\
-pdb_tool where FILE SOURCE[:LINE[-LINE]]..
+pdb_tool where [--json] FILE SOURCE[:LINE[-LINE]]..
 
 Prints the addresses of source lines. SOURCE is the name of a source file, or the end of its path:
 tour.h, src/main.cpp. / is the same as \\, and case doesn't count. Behind it :LINE is one line, and
@@ -109,11 +113,14 @@ give a range.
 
 Each output line is `line` or, for a line of an inlined call, `inlined`; then SECTION:OFFSET in hex,
 the address relative to the load address, the size in bytes, FILE:LINE:COLUMN, and the name of the
-function. Damage is printed as by find. The status is 1 if nothing was found.
+function. Damage is printed as by find. The status is 1 if nothing was found. With --json an unknown
+address or name is null.
 
   $ pdb_tool where app.pdb a.c:1-2
   line 0001:00000100 0x1100 8 a.c:1:0 main
   line 0001:00000108 0x1108 8 a.c:2:0 main
+  $ pdb_tool where --json app.pdb a.c:1
+  {\"kind\":\"line\",\"at\":\"0001:00000100\",\"rva\":\"0x1100\",\"length\":8,\"file\":\"a.c\",\"line\":1,\"column\":0,\"name\":\"main\"}
 ";
 
 const LINES: &str = "\
@@ -186,14 +193,18 @@ lines; a list of members is cut behind 1024 parts, and names are cut behind 6553
 ";
 
 const SOURCES: &str = "\
-pdb_tool sources FILE [K..]
+pdb_tool sources [--json] FILE [K..]
 
 Prints the source files of the modules with these indices, counted from 0, or else of all modules:
 the kind of the checksum of the file's contents (none, md5, sha1, sha256), the checksum in hex or
--, and the name. Several modules and damage are printed as by lines.
+-, and the name. Several modules and damage are printed as by lines. With --json each object has the
+index of its module, and no line `module K NAME` is printed; a checksum or a name that is not known
+is null.
 
   $ pdb_tool sources app.pdb
   md5 000102030405060708090a0b0c0d0e0f a.c
+  $ pdb_tool sources --json app.pdb
+  {\"module\":0,\"checksum\":\"md5\",\"digest\":\"000102030405060708090a0b0c0d0e0f\",\"file\":\"a.c\"}
 ";
 
 const MODULES: &str = "\
@@ -257,29 +268,31 @@ which are null if it names no PDB.
 ";
 
 const CHECK: &str = "\
-pdb_tool check FILE..
+pdb_tool check [--json] FILE..
 
 Reads each FILE to its end and prints what is damaged: FILE, the part, and the error, one line for
 each list, symbol or inlined call that can't be read. A file without damage is `ok`. What a file
 doesn't have is no damage, nor is a kind of symbol that isn't known. The names of files and the
 streams that only other programs know are not read. K counts modules from 0, and symbols have the
 indices that symbols prints. An error of a FILE is printed on standard error. The status is 1 if
-anything is damaged.
+anything is damaged. With --json the part and the error of a FILE without damage are null.
 
   $ pdb_tool check app.pdb damaged.pdb
   app.pdb: ok
   damaged.pdb: global symbols: the data ends before a record does
   damaged.pdb: module 0 symbol 00000004: the data ends before a record does
+  $ pdb_tool check --json app.pdb
+  {\"file\":\"app.pdb\",\"where\":null,\"text\":null}
 ";
 
 const RESOLVE_USAGE: &str =
     "usage: pdb_tool resolve [--base=HEX] [--key=KEY | --image=IMAGE] [--addresses] [--json] FILE [ADDRESS..]\n";
 
-const FIND_USAGE: &str = "usage: pdb_tool find FILE NAME..\n";
+const FIND_USAGE: &str = "usage: pdb_tool find [--json] FILE NAME..\n";
 
-const WHERE_USAGE: &str = "usage: pdb_tool where FILE SOURCE[:LINE[-LINE]]..\n";
+const WHERE_USAGE: &str = "usage: pdb_tool where [--json] FILE SOURCE[:LINE[-LINE]]..\n";
 
-const SOURCES_USAGE: &str = "usage: pdb_tool sources FILE [K..]\n";
+const SOURCES_USAGE: &str = "usage: pdb_tool sources [--json] FILE [K..]\n";
 
 const TYPES_USAGE: &str = "usage: pdb_tool types FILE [INDEX..]\n";
 
@@ -297,7 +310,7 @@ const SYMBOLS_USAGE: &str = "usage: pdb_tool symbols [--all] FILE [K..]\n";
 
 const KEY_USAGE: &str = "usage: pdb_tool key [--json] FILE..\n";
 
-const CHECK_USAGE: &str = "usage: pdb_tool check FILE..\n";
+const CHECK_USAGE: &str = "usage: pdb_tool check [--json] FILE..\n";
 
 const USAGE: &str =
     "usage: pdb_tool COMMAND [OPTION..] FILE [ARGUMENT..]; pdb_tool help prints more\n";

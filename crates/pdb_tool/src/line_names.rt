@@ -1,20 +1,20 @@
 //! The names at the ends of lines: those of types, and those of functions that are inlined.
 
-ghost use Rattle.std.specs.Prelude.{◌≡◌, ◌++◌, OnOk};
+ghost use Rattle.std.specs.Prelude.{◌≡◌, ◌++◌, Some, IfOk, OnOk};
 ghost use Rattle.std.specs.Option.{option_map};
 ghost use Rattle.pdb.specs.Data.{shown};
 ghost use Rattle.pdb.specs.Qualified.{shown_qualified};
 ghost use Rattle.pdb_resolve.specs.ImportTables.{ids_by};
 ghost use Rattle.pdb_types.specs.FullTypes.{first_definition};
 ghost use Rattle.pdb_tool.specs.LineNames.{declared_type, has_id, names_from, procedure_type, typed_end, typed_text};
-ghost use Rattle.pdb_tool.specs.LineViews.{end_of, names_of_lines};
+ghost use Rattle.pdb_tool.specs.LineViews.{names_of_lines};
 
 use crate::type_names::put_type_name;
 use pdb::{IdIndex, ItemFinder, QualifiedName, SymbolData, TypeIndex};
 use pdb_resolve::{CallNames, GlobalIds};
 use pdb_text::put_line_end;
 use pdb_types::{TypeDefinitions, function_type};
-use std::alloc::AllocError;
+use std::alloc::{AllocError, Global};
 
 /// Whether a procedure of this kind has an id in the place of its type: `S_LPROC32_ID`, `S_GPROC32_ID`,
 /// `S_LPROC32_DPC_ID`.
@@ -22,6 +22,15 @@ fn has_id(kind: u16) -> bool
     ensures { result ≡ has_id kind }
 {
     matches!(kind, 0x1146 | 0x1147 | 0x1156)
+}
+
+/// How lines end behind what has the type of an index: with the name of the type behind a colon.
+#[derive(Drop)]
+pub struct LineEnd {
+    /// The index; 0 is no type.
+    pub index: u32,
+    /// The end of the lines, line feed and all.
+    pub text: Vec<u8>,
 }
 
 /// What the names at the ends of lines are found by.
@@ -88,8 +97,8 @@ impl<'x, 'a> LineNames<'x, 'a> {
         }
     }
 
-    // The type of what a record of a kind declares.
-    fn declared_type(&self, kind: u16, parsed: &SymbolData<'_>) -> Option<TypeIndex>
+    /// The type of what a record of a kind declares.
+    pub fn declared_type(&self, kind: u16, parsed: &SymbolData<'_>) -> Option<TypeIndex>
         ensures { result ≡ declared_type (names_of_lines self.now) kind (shown parsed.now) }
     {
         match parsed {
@@ -107,16 +116,6 @@ impl<'x, 'a> LineNames<'x, 'a> {
         }
     }
 
-    /// The end of the line of a record of a kind.
-    pub fn end_of(self, kind: u16, parsed: &SymbolData<'_>) -> LineEnd<'x, 'a>
-        ensures { end_of result ≡ typed_end (names_of_lines self.entry) (declared_type (names_of_lines self.entry) kind (shown parsed.now)) }
-    {
-        LineEnd {
-            names: self,
-            index: self.declared_type(kind, parsed),
-        }
-    }
-
     /// The name of the type of what a record of a kind declares, behind a colon.
     pub fn put_declared(
         &self,
@@ -129,11 +128,15 @@ impl<'x, 'a> LineNames<'x, 'a> {
         self.put_type(out, self.declared_type(kind, parsed))
     }
 
-    /// The end of the line of something of a type.
-    pub fn end(self, index: Option<TypeIndex>) -> LineEnd<'x, 'a>
-        ensures { end_of result ≡ typed_end (names_of_lines self.entry) index }
+    /// The end of lines behind what has the type of an index; index 0 is no type.
+    pub fn end(&self, alloc: Global, index: u32) -> Result<LineEnd, AllocError>
+        ensures index { IfOk result (λ end. end.index ≡ index) }
+        ensures text { IfOk result (λ end. end.text.items ≡ typed_end (names_of_lines self.now) (Some (record { 0 = index }))) }
     {
-        LineEnd { names: self, index }
+        let mut text = Vec::new(alloc);
+        self.put_type(&mut text, Some(TypeIndex(index)))?;
+        put_line_end(&mut text)?;
+        Ok(LineEnd { index, text })
     }
 
     // The name of a type behind a colon, where the index is that of a type.
@@ -148,22 +151,5 @@ impl<'x, 'a> LineNames<'x, 'a> {
                 put_type_name(self.types, self.definitions, out, index)
             }
         }
-    }
-}
-
-/// How a line ends: with the name of a type behind a colon, where it has one.
-#[derive(Clone, Copy)]
-pub struct LineEnd<'x, 'a> {
-    names: LineNames<'x, 'a>,
-    index: Option<TypeIndex>,
-}
-
-impl<'x, 'a> LineEnd<'x, 'a> {
-    /// Writes the end of the line.
-    pub fn put(&self, out: &mut Vec<u8>) -> Result<(), AllocError>
-        ensures { OnOk result (out.new.items ≡ out.old.items ++ end_of self.now) }
-    {
-        self.names.put_type(out, self.index)?;
-        put_line_end(out)
     }
 }

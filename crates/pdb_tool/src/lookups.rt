@@ -19,11 +19,13 @@ ghost use Rattle.pdb_tool.specs.declared.stop.Stop.{Stop};
 
 use crate::asking::Asking;
 use crate::commands::{ids_stream, strings_of, types_stream, write_modules};
+use crate::error_objects::put_refused_in;
 use crate::find_texts::{put_found_globals, put_found_symbols};
 use crate::finder::Finder;
-use crate::module_texts::{ModuleText, put_refused, write_plain};
+use crate::module_texts::{ModuleText, write_plain};
 use crate::opening::opened;
 use crate::operands::Operand;
+use crate::options::Form;
 use crate::source_texts::put_sources;
 use crate::sources_asked::SourceAsked;
 use crate::stop::{Stop, stop_of};
@@ -36,9 +38,10 @@ use pdb_text::write_out;
 use std::alloc::{AllocError, Global};
 use std::io::Write;
 
-/// The source files of modules, with their names from a string table.
+/// The source files of modules in a form, with their names from a string table.
 #[derive(Drop)]
 struct Sources<'a> {
+    form: Form,
     strings: Option<&'a StringTable<'a>>,
 }
 
@@ -46,7 +49,7 @@ impl<'a> ModuleText for Sources<'a> {
     ghost use Rattle.std.specs.Prelude.{option_copied};
     ghost use Rattle.pdb_tool.specs.SourceTexts.{sources_text};
 
-    ghost text = { λ s ids. sources_text (option_copied s.strings) };
+    ghost text = { λ s ids k. sources_text s.form k (option_copied s.strings) };
 
     fn names_calls(&self) -> bool {
         false
@@ -56,10 +59,11 @@ impl<'a> ModuleText for Sources<'a> {
         &self,
         alloc: Global,
         out: &mut Vec<u8>,
+        k: u64,
         info: &ModuleInfo<'_>,
         _global: &GlobalIds<'_>,
     ) -> Result<(), AllocError> {
-        put_sources(alloc, out, self.strings, info)
+        put_sources(alloc, out, self.form, k, self.strings, info)
     }
 }
 
@@ -68,27 +72,29 @@ impl<'a> ModuleText for Sources<'a> {
 pub fn write_sources<'s, S: Source<'s>, W: Write>(
     alloc: Global,
     source: S,
+    form: Form,
     places: &[u32],
     out: &mut W,
 ) -> Result<(), Stop>
     ensures opened { OnOk result (opens (S.state source).file ≡ Ok tt) }
-    ensures ok { OnOk result (Appends (W.contents out.old) (W.contents out.new) (sources_command (S.state source).file places.now)) }
+    ensures ok { OnOk result (Appends (W.contents out.old) (W.contents out.new) (sources_command form (S.state source).file places.now)) }
     ensures refused { (S.state source).steady ≡ true → (e : Error) → IsErrOf result (Stop.Open e) → opens (S.state source).file ≡ Err e }
-    ensures front { OnErr result (WroteFront (W.contents out.old) (W.contents out.new) (sources_command (S.state source).file places.now)) }
+    ensures front { OnErr result (WroteFront (W.contents out.old) (W.contents out.new) (sources_command form (S.state source).file places.now)) }
 {
     let mut pdb = opened(alloc, source)?;
     let strings = strings_of(&mut pdb)?;
     let sources = Sources {
+        form,
         strings: strings.as_ref(),
     };
-    write_modules(alloc, &mut pdb, &sources, places, out)
+    write_modules(alloc, &mut pdb, form, &sources, places, out)
 }
 
 impl<'w, 'a> ModuleText for Finder<'w, 'a> {
     ghost use Rattle.pdb_resolve.specs.AcrossModules.{names_by};
     ghost use Rattle.pdb_tool.specs.FindTexts.{find_text};
 
-    ghost text = { λ f ids. find_text f (names_by f.ids f.types ids) };
+    ghost text = { λ f ids k. find_text f k (names_by f.ids f.types ids) };
 
     fn names_calls(&self) -> bool {
         true
@@ -98,11 +104,12 @@ impl<'w, 'a> ModuleText for Finder<'w, 'a> {
         &self,
         alloc: Global,
         out: &mut Vec<u8>,
+        k: u64,
         info: &ModuleInfo<'_>,
         global: &GlobalIds<'_>,
     ) -> Result<(), AllocError> {
         let names = CallNames::new(&self.ids, &self.types, global);
-        put_found_symbols(alloc, out, self, &names, info)
+        put_found_symbols(alloc, out, self, k, &names, info)
     }
 }
 
@@ -140,17 +147,18 @@ fn is_x86<'s, S: Source<'s>>(pdb: &mut PDB<'s, S>) -> Result<bool, Stop>
 /// What is asked for by words, by the tables of a file.
 fn finder_by<'w, 'a>(
     alloc: Global,
+    form: Form,
     words: &'w [Operand<'w>],
     ids: Option<&'a IdInformation<'a>>,
     types: Option<&'a TypeInformation<'a>>,
     addresses: Option<AddressMap<'a>>,
 ) -> Result<Finder<'w, 'a>, Stop>
-    ensures is { IfOk result (λ f. f ≡ record { words = map word_of words.entry.now; ids = items_where (option_copied ids.entry); types = items_where (option_copied types.entry); addresses = addresses.entry }) }
+    ensures is { IfOk result (λ f. f ≡ record { form = form; words = map word_of words.entry.now; ids = items_where (option_copied ids.entry); types = items_where (option_copied types.entry); addresses = addresses.entry }) }
     ensures unwritten { IfErr result (λ e. (e ≡ Stop.Memory) ⊎ (e ≡ Stop.Read)) }
 {
     let ids = ids_of(alloc, ids).map_err(stop_of)?;
     let types = types_of(alloc, types).map_err(stop_of)?;
-    Ok(Finder::new(words, ids, types, PlaceAddresses::new(addresses)))
+    Ok(Finder::new(form, words, ids, types, PlaceAddresses::new(addresses)))
 }
 
 /// The global symbols that are asked for, or the line of their error.
@@ -167,7 +175,7 @@ fn put_globals<'s, S: Source<'s>>(
     let x86 = is_x86(pdb)?;
     match pdb.global_symbols() {
         Ok(symbols) => Ok(put_found_globals(alloc, out, finder, x86, &symbols)?),
-        Err(e) => put_refused(out, e),
+        Err(e) => put_refused_in(out, finder.form, e),
     }
 }
 
@@ -185,7 +193,7 @@ fn write_found<'s, S: Source<'s>, W: Write>(
     let mut text = Vec::new(alloc);
     put_globals(alloc, pdb, finder, &mut text)?;
     write_out(out, &text)?;
-    write_plain(alloc, pdb, finder, out)
+    write_plain(alloc, pdb, finder.form, finder, out)
 }
 
 /// Writes where the functions and the data of a source's file stand whose names are asked for.
@@ -193,19 +201,20 @@ fn write_found<'s, S: Source<'s>, W: Write>(
 pub fn write_find<'w, 's, S: Source<'s>, W: Write>(
     alloc: Global,
     source: S,
+    form: Form,
     words: &'w [Operand<'w>],
     out: &mut W,
 ) -> Result<(), Stop>
     ensures opened { OnOk result (opens (S.state source).file ≡ Ok tt) }
-    ensures ok { OnOk result (Appends (W.contents out.old) (W.contents out.new) (find_command (S.state source).file (map word_of words.now))) }
+    ensures ok { OnOk result (Appends (W.contents out.old) (W.contents out.new) (find_command form (S.state source).file (map word_of words.now))) }
     ensures refused { (S.state source).steady ≡ true → (e : Error) → IsErrOf result (Stop.Open e) → opens (S.state source).file ≡ Err e }
-    ensures front { OnErr result (WroteFront (W.contents out.old) (W.contents out.new) (find_command (S.state source).file (map word_of words.now))) }
+    ensures front { OnErr result (WroteFront (W.contents out.old) (W.contents out.new) (find_command form (S.state source).file (map word_of words.now))) }
 {
     let mut pdb = opened(alloc, source)?;
     let ids = ids_stream(&mut pdb)?;
     let types = types_stream(&mut pdb)?;
     let map = address_map(&mut pdb)?;
-    let finder = finder_by(alloc, words, ids.as_ref(), types.as_ref(), map)?;
+    let finder = finder_by(alloc, form, words, ids.as_ref(), types.as_ref(), map)?;
     write_found(alloc, &mut pdb, &finder, out)
 }
 
@@ -213,7 +222,7 @@ impl<'w, 'a> ModuleText for Asking<'w, 'a> {
     ghost use Rattle.pdb_resolve.specs.AcrossModules.{names_by};
     ghost use Rattle.pdb_tool.specs.WhereTexts.{where_text};
 
-    ghost text = { λ a ids. where_text a (names_by a.ids a.types ids) };
+    ghost text = { λ a ids k. where_text a k (names_by a.ids a.types ids) };
 
     fn names_calls(&self) -> bool {
         true
@@ -223,29 +232,32 @@ impl<'w, 'a> ModuleText for Asking<'w, 'a> {
         &self,
         alloc: Global,
         out: &mut Vec<u8>,
+        k: u64,
         info: &ModuleInfo<'_>,
         global: &GlobalIds<'_>,
     ) -> Result<(), AllocError> {
         let names = CallNames::new(&self.ids, &self.types, global);
-        put_where(alloc, out, self, &names, info)
+        put_where(alloc, out, self, k, &names, info)
     }
 }
 
 /// What is asked for by words, by the tables of a file.
 fn asking_by<'w, 'a>(
     alloc: Global,
+    form: Form,
     asked: &'w [SourceAsked<'w>],
     strings: Option<&'a StringTable<'a>>,
     ids: Option<&'a IdInformation<'a>>,
     types: Option<&'a TypeInformation<'a>>,
     addresses: Option<AddressMap<'a>>,
 ) -> Result<Asking<'w, 'a>, Stop>
-    ensures is { IfOk result (λ a. a ≡ record { asked = map source_view asked.entry.now; strings = option_copied strings.entry; ids = items_where (option_copied ids.entry); types = items_where (option_copied types.entry); addresses = addresses.entry }) }
+    ensures is { IfOk result (λ a. a ≡ record { form = form; asked = map source_view asked.entry.now; strings = option_copied strings.entry; ids = items_where (option_copied ids.entry); types = items_where (option_copied types.entry); addresses = addresses.entry }) }
     ensures unwritten { IfErr result (λ e. (e ≡ Stop.Memory) ⊎ (e ≡ Stop.Read)) }
 {
     let ids = ids_of(alloc, ids).map_err(stop_of)?;
     let types = types_of(alloc, types).map_err(stop_of)?;
-    Ok(Asking::new(asked, strings, ids, types, PlaceAddresses::new(addresses)))
+    let addresses = PlaceAddresses::new(addresses);
+    Ok(Asking::new(form, asked, strings, ids, types, addresses))
 }
 
 /// Writes which addresses lines of a source's file have that are asked for.
@@ -253,13 +265,14 @@ fn asking_by<'w, 'a>(
 pub fn write_where<'w, 's, S: Source<'s>, W: Write>(
     alloc: Global,
     source: S,
+    form: Form,
     asked: &'w [SourceAsked<'w>],
     out: &mut W,
 ) -> Result<(), Stop>
     ensures opened { OnOk result (opens (S.state source).file ≡ Ok tt) }
-    ensures ok { OnOk result (Appends (W.contents out.old) (W.contents out.new) (where_command (S.state source).file (map source_view asked.now))) }
+    ensures ok { OnOk result (Appends (W.contents out.old) (W.contents out.new) (where_command form (S.state source).file (map source_view asked.now))) }
     ensures refused { (S.state source).steady ≡ true → (e : Error) → IsErrOf result (Stop.Open e) → opens (S.state source).file ≡ Err e }
-    ensures front { OnErr result (WroteFront (W.contents out.old) (W.contents out.new) (where_command (S.state source).file (map source_view asked.now))) }
+    ensures front { OnErr result (WroteFront (W.contents out.old) (W.contents out.new) (where_command form (S.state source).file (map source_view asked.now))) }
 {
     let mut pdb = opened(alloc, source)?;
     let strings = strings_of(&mut pdb)?;
@@ -268,11 +281,12 @@ pub fn write_where<'w, 's, S: Source<'s>, W: Write>(
     let map = address_map(&mut pdb)?;
     let asking = asking_by(
         alloc,
+        form,
         asked,
         strings.as_ref(),
         ids.as_ref(),
         types.as_ref(),
         map,
     )?;
-    write_plain(alloc, &mut pdb, &asking, out)
+    write_plain(alloc, &mut pdb, form, &asking, out)
 }

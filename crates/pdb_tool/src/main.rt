@@ -22,11 +22,15 @@ mod find_texts;
 mod finder;
 mod findings;
 mod flags;
+mod found_laws;
+mod found_objects;
 mod frame_objects;
+mod fronts;
 mod help;
 mod host;
 mod in_parts;
 mod json_laws;
+mod kept_ends;
 mod key;
 mod key_line;
 mod key_objects;
@@ -37,6 +41,7 @@ mod list_help;
 mod lookups;
 mod member_texts;
 mod mistakes;
+mod module_errors;
 mod module_lists;
 mod module_machine;
 mod module_sizes;
@@ -64,6 +69,7 @@ mod resolve;
 mod scope_frames;
 mod scope_texts;
 mod section_texts;
+mod source_objects;
 mod source_texts;
 mod sources_asked;
 mod stop;
@@ -332,21 +338,23 @@ fn print_keys<R: Files<File = File> + AllocGlobal, W: Write, E: Write>(
 /// Checks the file that an operand names.
 fn check_named<R: Files<File = File> + AllocGlobal, W: Write>(
     host: &Host<'_, R>,
+    form: Form,
     name: Operand<'_>,
     out: &mut W,
 ) -> Result<bool, Stop> {
     let mut file = host.opened(name)?;
     let bytes = read_all(host.alloc(), &mut file)?;
-    write_check(host.alloc(), &bytes, name.word.as_bytes(), out)
+    write_check(host.alloc(), &bytes, form, name.word.as_bytes(), out)
 }
 
 /// Prints what is damaged in a file. One that can't be read or opened has a message.
 fn print_check<R: Files<File = File> + AllocGlobal, W: Write, E: Write>(
     host: &Host<'_, R>,
+    form: Form,
     name: Operand<'_>,
     streams: &mut Streams<'_, W, E>,
 ) -> Printed {
-    match check_named(host, name, streams.out) {
+    match check_named(host, form, name, streams.out) {
         Ok(is_sound) => Ok(is_sound),
         Err(Stop::Memory) => Err(Fault::Stopped(Stop::Memory, name.place)),
         Err(Stop::Write) => Err(Fault::Stopped(Stop::Write, name.place)),
@@ -360,13 +368,14 @@ fn print_check<R: Files<File = File> + AllocGlobal, W: Write, E: Write>(
 /// Prints what is damaged in files, one after another.
 fn print_checks<R: Files<File = File> + AllocGlobal, W: Write, E: Write>(
     host: &Host<'_, R>,
+    form: Form,
     first: Operand<'_>,
     others: &[Operand<'_>],
     streams: &mut Streams<'_, W, E>,
 ) -> Printed {
-    let mut all = print_check(host, first, streams)?;
+    let mut all = print_check(host, form, first, streams)?;
     for name in others {
-        all = print_check(host, *name, streams)? && all;
+        all = print_check(host, form, *name, streams)? && all;
     }
     Ok(all)
 }
@@ -388,7 +397,7 @@ fn run<R: Files<File = File> + Input + AllocGlobal, W: Write, E: Write>(
         Work::ListHelp => print_own(LIST, streams.out),
         Work::Version => print_own(VERSION, streams.out),
         Work::Keys(form, first, others) => print_keys(host, form, first, &others, streams),
-        Work::Checks(first, others) => print_checks(host, first, &others, streams),
+        Work::Checks(form, first, others) => print_checks(host, form, first, &others, streams),
         Work::Resolve(options, file, rest) => {
             print_code(host, options, file, &rest, words, streams)
         }
@@ -397,12 +406,16 @@ fn run<R: Files<File = File> + Input + AllocGlobal, W: Write, E: Write>(
         Work::Types(file, indices) => { print_all(host, file, FileText::Types(&indices), streams) }
         Work::Symbols(file, ks) => print_all(host, file, FileText::Symbols(&ks), streams),
         Work::AllSymbols(file) => print_all(host, file, FileText::AllSymbols, streams),
-        Work::Sources(file, ks) => print_all(host, file, FileText::Sources(&ks), streams),
-        Work::Find(file, names) => {
-            host.all_text(&names)?;
-            print_listed(host, file, FileText::Find(&names), streams)
+        Work::Sources(form, file, ks) => {
+            print_all(host, file, FileText::Sources(form, &ks), streams)
         }
-        Work::Where(file, asked) => print_listed(host, file, FileText::Where(&asked), streams),
+        Work::Find(form, file, names) => {
+            host.all_text(&names)?;
+            print_listed(host, file, FileText::Find(form, &names), streams)
+        }
+        Work::Where(form, file, asked) => {
+            print_listed(host, file, FileText::Where(form, &asked), streams)
+        }
         Work::Modules(form, file) => print_all(host, file, FileText::Modules(form), streams),
         Work::Sections(form, file) => print_all(host, file, FileText::Sections(form), streams),
         Work::Streams(form, file) => print_all(host, file, FileText::Streams(form), streams),

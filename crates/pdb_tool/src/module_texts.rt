@@ -11,11 +11,14 @@ ghost use Rattle.pdb.specs.Listed.{listed};
 ghost use Rattle.pdb.specs.Source.{Continues};
 ghost use Rattle.pdb_resolve.specs.ImportTables.{ids_by};
 ghost use Rattle.pdb_text.specs.Written.{WroteFirst, WroteFront};
-ghost use Rattle.pdb_tool.specs.ErrorLine.{error_line, told};
+ghost use Rattle.pdb_tool.specs.ErrorLine.{error_line};
+ghost use Rattle.pdb_tool.specs.ErrorObjects.{error_in, error_of, none_of, told_in, told_of};
 ghost use Rattle.pdb_tool.specs.ModuleTexts.{all_text, are_several, entry_text, has_stream, in_file, line_if, list_text, listed_text, module_line, place_in, places_text, plain_text, several_in, there_text};
 ghost use Rattle.pdb_tool.specs.declared.stop.Stop.{Stop};
 
-use crate::error_line::put_error_line;
+use crate::error_objects::put_refused_in;
+use crate::module_errors::{put_error_of, put_none_of, put_refused_of};
+use crate::options::Form;
 use crate::stop::{Stop, stop_of};
 use crate::values::put_behind_blank;
 use pdb::{
@@ -33,34 +36,23 @@ pub trait ModuleText {
     ghost use Rattle.pdb.specs.ModuleStream.{ModuleBytes};
     ghost use Rattle.pdb_resolve.specs.ImportTables.{ids_by};
 
-    /// That of a module's bytes, by the ids that the whole file knows.
-    ghost text: { Self → (ℕ → Option ℕ) → ModuleBytes → List ℕ };
+    /// That of the bytes of the module of an index, by the ids that the whole file knows.
+    ghost text: { Self → (ℕ → Option ℕ) → ℕ → ModuleBytes → List ℕ };
 
     /// Whether it has names of inlined calls; without them it is the same by any ids.
     fn names_calls(&self) -> bool
-        ensures { result ≡ false → (f g : ℕ → Option ℕ) (m : ModuleBytes) → Self.text self.now f m ≡ Self.text self.now g m };
+        ensures { result ≡ false → (f g : ℕ → Option ℕ) (k : ℕ) (m : ModuleBytes) → Self.text self.now f k m ≡ Self.text self.now g k m };
 
     /// Puts it behind what is there. It is refused for want of memory alone.
     fn put(
         &self,
         alloc: Global,
         out: &mut Vec<u8>,
+        k: u64,
         info: &ModuleInfo<'_>,
         global: &GlobalIds<'_>,
     ) -> Result<(), AllocError>
-        ensures { OnOk result (out.new.items ≡ out.old.items ++ Self.text self.now (ids_by global.now) info.now) };
-}
-
-/// The line of a refusal; want of memory, and a source that failed, are passed on.
-pub fn put_refused(out: &mut Vec<u8>, e: Error) -> Result<(), Stop>
-    ensures text { OnOk result ((e ≢ Error.OutOfMemory) × (e ≢ Error.IoError) × (out.new.items ≡ out.old.items ++ error_line e)) }
-    ensures unwritten { IfErr result (λ e. (e ≡ Stop.Memory) ⊎ (e ≡ Stop.Read)) }
-{
-    match e {
-        Error::OutOfMemory => Err(Stop::Memory),
-        Error::IoError => Err(Stop::Read),
-        e => Ok(put_error_line(out, e)?),
-    }
+        ensures { OnOk result (out.new.items ≡ out.old.items ++ Self.text self.now (ids_by global.now) k info.now) };
 }
 
 /// The line that names a module, by its index in the list.
@@ -74,19 +66,19 @@ fn put_module_line(out: &mut Vec<u8>, k: u64, module: &Module<'_>) -> Result<(),
     put_line_end(out)
 }
 
-/// The line that names a module, where several are told.
+/// The line that names a module in a text, where several are told.
 fn put_line_if(
     out: &mut Vec<u8>,
+    form: Form,
     several: bool,
     k: u64,
     module: &Module<'_>,
 ) -> Result<(), AllocError>
-    ensures { OnOk result (out.new.items ≡ out.old.items ++ line_if several k «module».now) }
+    ensures { OnOk result (out.new.items ≡ out.old.items ++ line_if form several k «module».now) }
 {
-    if several {
-        put_module_line(out, k, module)
-    } else {
-        Ok(())
+    match form {
+        Form::Text if several => put_module_line(out, k, module),
+        Form::Text | Form::Json => Ok(()),
     }
 }
 
@@ -95,10 +87,11 @@ fn ids_for<'a, 's, S: Source<'s>, T: ModuleText>(
     alloc: Global,
     pdb: &mut PDB<'s, S>,
     texts: &T,
+    k: u64,
     info: &'a ModuleInfo<'_>,
 ) -> Result<GlobalIds<'a>, Stop>
     ensures continues { Continues pdb.old pdb.new }
-    ensures ids { IfOk result (λ g. T.text texts.now (ids_by g) info.entry.now ≡ in_file (T.text texts.now) pdb.old.file info.entry.now) }
+    ensures ids { IfOk result (λ g. T.text texts.now (ids_by g) k info.entry.now ≡ in_file (T.text texts.now) pdb.old.file k info.entry.now) }
     ensures unwritten { IfErr result (λ e. (e ≡ Stop.Memory) ⊎ (e ≡ Stop.Read)) }
 {
     if !texts.names_calls() {
@@ -110,39 +103,42 @@ fn ids_for<'a, 's, S: Source<'s>, T: ModuleText>(
     }
 }
 
-/// The text of a module's stream.
+/// The text of the stream of module `k`.
 fn put_info<'s, S: Source<'s>, T: ModuleText>(
     alloc: Global,
     pdb: &mut PDB<'s, S>,
     out: &mut Vec<u8>,
     texts: &T,
+    k: u64,
     info: &ModuleInfo<'_>,
 ) -> Result<(), Stop>
     ensures continues { Continues pdb.old pdb.new }
-    ensures text { OnOk result (out.new.items ≡ out.old.items ++ in_file (T.text texts.now) pdb.old.file info.now) }
+    ensures text { OnOk result (out.new.items ≡ out.old.items ++ in_file (T.text texts.now) pdb.old.file k info.now) }
     ensures unwritten { IfErr result (λ e. (e ≡ Stop.Memory) ⊎ (e ≡ Stop.Read)) }
 {
-    let global = ids_for(alloc, pdb, texts, info)?;
-    Ok(texts.put(alloc, out, info, &global)?)
+    let global = ids_for(alloc, pdb, texts, k, info)?;
+    Ok(texts.put(alloc, out, k, info, &global)?)
 }
 
-/// The text of what was found of a module whose number was given.
+/// The text of what was found of module `k`, whose number was given.
 fn put_found<'s, S: Source<'s>, T: ModuleText>(
     alloc: Global,
     pdb: &mut PDB<'s, S>,
     out: &mut Vec<u8>,
+    form: Form,
     texts: &T,
+    k: u64,
     found: pdb::Result<Option<ModuleInfo<'_>>>,
 ) -> Result<(), Stop>
     ensures continues { Continues pdb.old pdb.new }
-    ensures found { IfOk found.entry (λ m. OnOk result (out.new.items ≡ out.old.items ++ there_text (in_file (T.text texts.now) pdb.old.file) (codes "none\n") m)) }
-    ensures refused { IfErr found.entry (λ e. OnOk result ((e ≢ Error.OutOfMemory) × (e ≢ Error.IoError) × (out.new.items ≡ out.old.items ++ error_line e))) }
+    ensures found { IfOk found.entry (λ m. OnOk result (out.new.items ≡ out.old.items ++ there_text (in_file (T.text texts.now) pdb.old.file k) (none_of form k) m)) }
+    ensures refused { IfErr found.entry (λ e. OnOk result ((e ≢ Error.OutOfMemory) × (e ≢ Error.IoError) × (out.new.items ≡ out.old.items ++ error_of form k e))) }
     ensures unwritten { IfErr result (λ e. (e ≡ Stop.Memory) ⊎ (e ≡ Stop.Read)) }
 {
     match found {
-        Ok(Some(info)) => put_info(alloc, pdb, out, texts, &info),
-        Ok(None) => Ok(out.extend_from_slice(b"none\n")?),
-        Err(e) => put_refused(out, e),
+        Ok(Some(info)) => put_info(alloc, pdb, out, texts, k, &info),
+        Ok(None) => Ok(put_none_of(out, form, k)?),
+        Err(e) => put_refused_of(out, form, k, e),
     }
 }
 
@@ -150,6 +146,7 @@ fn put_found<'s, S: Source<'s>, T: ModuleText>(
 fn put_entry<'s, S: Source<'s>, T: ModuleText>(
     alloc: Global,
     pdb: &mut PDB<'s, S>,
+    form: Form,
     texts: &T,
     several: bool,
     k: u32,
@@ -157,12 +154,12 @@ fn put_entry<'s, S: Source<'s>, T: ModuleText>(
     out: &mut Vec<u8>,
 ) -> Result<(), Stop>
     ensures continues { Continues pdb.old pdb.new }
-    ensures text { OnOk result (out.new.items ≡ out.old.items ++ entry_text several (in_file (T.text texts.now) pdb.old.file) pdb.old.file k (Some «module».now)) }
+    ensures text { OnOk result (out.new.items ≡ out.old.items ++ entry_text form several (in_file (T.text texts.now) pdb.old.file) pdb.old.file k (Some «module».now)) }
     ensures unwritten { IfErr result (λ e. (e ≡ Stop.Memory) ⊎ (e ≡ Stop.Read)) }
 {
-    put_line_if(out, several, u64::from(k), module)?;
+    put_line_if(out, form, several, u64::from(k), module)?;
     let found = pdb.module_info(module);
-    put_found(alloc, pdb, out, texts, found)
+    put_found(alloc, pdb, out, form, texts, u64::from(k), found)
 }
 
 // piece: put_place
@@ -171,6 +168,7 @@ fn put_place<'s, S: Source<'s>, T: ModuleText>(
     alloc: Global,
     pdb: &mut PDB<'s, S>,
     list: &mut ModuleList<'_>,
+    form: Form,
     texts: &T,
     several: bool,
     k: u32,
@@ -178,14 +176,14 @@ fn put_place<'s, S: Source<'s>, T: ModuleText>(
 ) -> Result<(), Stop>
     ensures continues { Continues pdb.old pdb.new }
     ensures kept { OnOk result (listed list.new ≡ listed list.old) }
-    ensures text { OnOk result (out.new.items ≡ out.old.items ++ place_in several (in_file (T.text texts.now) pdb.old.file) pdb.old.file (listed list.old) k) }
+    ensures text { OnOk result (out.new.items ≡ out.old.items ++ place_in form several (in_file (T.text texts.now) pdb.old.file) pdb.old.file (listed list.old) k) }
     ensures unwritten { IfErr result (λ e. (e ≡ Stop.Memory) ⊎ (e ≡ Stop.Read)) }
 {
     list.read_to(k)?;
     match list.get(k) {
-        Ok(Some(module)) => put_entry(alloc, pdb, texts, several, k, module, out),
-        Ok(None) => Ok(out.extend_from_slice(b"none\n")?),
-        Err(e) => put_refused(out, e),
+        Ok(Some(module)) => put_entry(alloc, pdb, form, texts, several, k, module, out),
+        Ok(None) => Ok(put_none_of(out, form, u64::from(k))?),
+        Err(e) => put_refused_of(out, form, u64::from(k), e),
     }
 }
 // end
@@ -195,6 +193,7 @@ fn put_place<'s, S: Source<'s>, T: ModuleText>(
 fn put_listed<'s, S: Source<'s>, T: ModuleText>(
     alloc: Global,
     pdb: &mut PDB<'s, S>,
+    form: Form,
     texts: &T,
     several: bool,
     k: u64,
@@ -202,18 +201,18 @@ fn put_listed<'s, S: Source<'s>, T: ModuleText>(
     out: &mut Vec<u8>,
 ) -> Result<(), Stop>
     ensures continues { Continues pdb.old pdb.new }
-    ensures text { OnOk result (out.new.items ≡ out.old.items ++ listed_text several (in_file (T.text texts.now) pdb.old.file) pdb.old.file k «module».now) }
+    ensures text { OnOk result (out.new.items ≡ out.old.items ++ listed_text form several (in_file (T.text texts.now) pdb.old.file) pdb.old.file k «module».now) }
     ensures unwritten { IfErr result (λ e. (e ≡ Stop.Memory) ⊎ (e ≡ Stop.Read)) }
 {
     match pdb.module_info(module) {
         Ok(Some(info)) => {
-            put_line_if(out, several, k, module)?;
-            put_info(alloc, pdb, out, texts, &info)
+            put_line_if(out, form, several, k, module)?;
+            put_info(alloc, pdb, out, texts, k, &info)
         }
         Ok(None) => Ok(()),
         Err(e) => {
-            put_line_if(out, several, k, module)?;
-            put_refused(out, e)
+            put_line_if(out, form, several, k, module)?;
+            put_refused_of(out, form, k, e)
         }
     }
 }
@@ -230,6 +229,7 @@ fn write_each<'s, S: Source<'s>, T: ModuleText, W: Write>(
     alloc: Global,
     pdb: &mut PDB<'s, S>,
     list: &mut ModuleList<'_>,
+    form: Form,
     texts: &T,
     several: bool,
     places: &[u32],
@@ -237,14 +237,14 @@ fn write_each<'s, S: Source<'s>, T: ModuleText, W: Write>(
 ) -> Result<(), Stop>
     ensures opened { (e : Error) → IsErrOf result (Stop.Open e) → ⊥ }
     // All texts were written.
-    ensures ok { OnOk result (Appends (W.contents out.old) (W.contents out.new) (flat_map (place_in several (in_file (T.text texts.now) pdb.old.file) pdb.old.file (listed list.old)) places.now)) }
+    ensures ok { OnOk result (Appends (W.contents out.old) (W.contents out.new) (flat_map (place_in form several (in_file (T.text texts.now) pdb.old.file) pdb.old.file (listed list.old)) places.now)) }
     // A beginning of the texts was written.
-    ensures front { OnErr result (WroteFront (W.contents out.old) (W.contents out.new) (flat_map (place_in several (in_file (T.text texts.now) pdb.old.file) pdb.old.file (listed list.old)) places.now)) }
+    ensures front { OnErr result (WroteFront (W.contents out.old) (W.contents out.new) (flat_map (place_in form several (in_file (T.text texts.now) pdb.old.file) pdb.old.file (listed list.old)) places.now)) }
 {
     let mut text = Vec::new(alloc);
     for k in places {
         text.clear();
-        put_place(alloc, pdb, list, texts, several, *k, &mut text)?;
+        put_place(alloc, pdb, list, form, texts, several, *k, &mut text)?;
         write_out(out, &text)?;
     }
     Ok(())
@@ -266,18 +266,18 @@ fn list_error(e: Error) -> Result<Error, Stop>
 #[tactic(auto, using(pdb_text::proofs::Written::any_err, crate::proofs::AnsweredLines::front_none))]
 fn write_each_refused<W: Write>(
     alloc: Global,
+    form: Form,
     e: Error,
     places: &[u32],
     out: &mut W,
 ) -> Result<(), Stop>
     ensures opened { (x : Error) → IsErrOf result (Stop.Open x) → ⊥ }
-    ensures ok { OnOk result (Appends (W.contents out.old) (W.contents out.new) (flat_map (λ k. error_line e) places.now)) }
-    ensures front { OnErr result (WroteFront (W.contents out.old) (W.contents out.new) (flat_map (λ k. error_line e) places.now)) }
+    ensures ok { OnOk result (Appends (W.contents out.old) (W.contents out.new) (flat_map (λ k. error_of form k e) places.now)) }
+    ensures front { OnErr result (WroteFront (W.contents out.old) (W.contents out.new) (flat_map (λ k. error_of form k e) places.now)) }
 {
     let mut lines = Vec::new(alloc);
     for k in places {
-        let _ = k;
-        put_error_line(&mut lines, e)?;
+        put_error_of(&mut lines, form, u64::from(*k), e)?;
     }
     write_out(out, &lines)?;
     Ok(())
@@ -289,19 +289,20 @@ fn write_each_refused<W: Write>(
 pub fn write_places<'s, S: Source<'s>, T: ModuleText, W: Write>(
     alloc: Global,
     pdb: &mut PDB<'s, S>,
+    form: Form,
     texts: &T,
     places: &[u32],
     out: &mut W,
 ) -> Result<(), Stop>
     ensures opened { (e : Error) → IsErrOf result (Stop.Open e) → ⊥ }
     // All texts were written.
-    ensures ok { OnOk result (Appends (W.contents out.old) (W.contents out.new) (places_text (in_file (T.text texts.now) pdb.old.file) pdb.old.file places.now)) }
+    ensures ok { OnOk result (Appends (W.contents out.old) (W.contents out.new) (places_text form (in_file (T.text texts.now) pdb.old.file) pdb.old.file places.now)) }
     // A beginning of the texts was written.
-    ensures front { OnErr result (WroteFront (W.contents out.old) (W.contents out.new) (places_text (in_file (T.text texts.now) pdb.old.file) pdb.old.file places.now)) }
+    ensures front { OnErr result (WroteFront (W.contents out.old) (W.contents out.new) (places_text form (in_file (T.text texts.now) pdb.old.file) pdb.old.file places.now)) }
 {
     let information = match pdb.debug_information() {
         Ok(information) => information,
-        Err(e) => return write_each_refused(alloc, list_error(e)?, places, out),
+        Err(e) => return write_each_refused(alloc, form, list_error(e)?, places, out),
     };
     match information.modules() {
         Ok(modules) => {
@@ -310,33 +311,50 @@ pub fn write_places<'s, S: Source<'s>, T: ModuleText, W: Write>(
                 alloc,
                 pdb,
                 &mut list,
+                form,
                 texts,
                 are_several(places),
                 places,
                 out,
             )
         }
-        Err(e) => write_each_refused(alloc, list_error(e)?, places, out),
+        Err(e) => write_each_refused(alloc, form, list_error(e)?, places, out),
     }
 }
 
-/// Writes the line of a refusal.
+/// Writes the line of an error outside modules, in a form.
+pub fn write_refused_in<W: Write>(
+    alloc: Global,
+    form: Form,
+    e: Error,
+    out: &mut W,
+) -> Result<(), Stop>
+    ensures opened { (x : Error) → IsErrOf result (Stop.Open x) → ⊥ }
+    ensures ok { OnOk result ((e ≢ Error.OutOfMemory) × (e ≢ Error.IoError) × Appends (W.contents out.old) (W.contents out.new) (error_in form e)) }
+    ensures front { OnErr result (WroteFront (W.contents out.old) (W.contents out.new) (error_in form e)) }
+    ensures passed { e ≡ Error.OutOfMemory ⊎ e ≡ Error.IoError → W.contents out.new ≡ W.contents out.old }
+{
+    let mut line = Vec::new(alloc);
+    put_refused_in(&mut line, form, e)?;
+    write_out(out, &line)?;
+    Ok(())
+}
+
+/// The same, in a text.
 pub fn write_refused<W: Write>(alloc: Global, e: Error, out: &mut W) -> Result<(), Stop>
     ensures opened { (x : Error) → IsErrOf result (Stop.Open x) → ⊥ }
     ensures ok { OnOk result ((e ≢ Error.OutOfMemory) × (e ≢ Error.IoError) × Appends (W.contents out.old) (W.contents out.new) (error_line e)) }
     ensures front { OnErr result (WroteFront (W.contents out.old) (W.contents out.new) (error_line e)) }
     ensures passed { e ≡ Error.OutOfMemory ⊎ e ≡ Error.IoError → W.contents out.new ≡ W.contents out.old }
 {
-    let mut line = Vec::new(alloc);
-    put_refused(&mut line, e)?;
-    write_out(out, &line)?;
-    Ok(())
+    write_refused_in(alloc, Form::Text, e, out)
 }
 
 /// Writes the texts of the modules that an iterator has left, and then the line of its fault.
 fn write_left<'s, S: Source<'s>, T: ModuleText, W: Write>(
     alloc: Global,
     pdb: &mut PDB<'s, S>,
+    form: Form,
     texts: &T,
     several: bool,
     mut modules: ModuleIter<'_>,
@@ -344,17 +362,19 @@ fn write_left<'s, S: Source<'s>, T: ModuleText, W: Write>(
 ) -> Result<(), Stop>
     requires { modules_steps modules ≡ 0 }
     ensures opened { (e : Error) → IsErrOf result (Stop.Open e) → ⊥ }
-    ensures ok { OnOk result (Appends (W.contents out.old) (W.contents out.new) (list_text several (in_file (T.text texts.now) pdb.old.file) pdb.old.file 0 (modules_left modules.entry))) }
-    ensures front { OnErr result (WroteFront (W.contents out.old) (W.contents out.new) (list_text several (in_file (T.text texts.now) pdb.old.file) pdb.old.file 0 (modules_left modules.entry))) }
+    ensures ok { OnOk result (Appends (W.contents out.old) (W.contents out.new) (list_text form several (in_file (T.text texts.now) pdb.old.file) pdb.old.file 0 (modules_left modules.entry))) }
+    ensures front { OnErr result (WroteFront (W.contents out.old) (W.contents out.new) (list_text form several (in_file (T.text texts.now) pdb.old.file) pdb.old.file 0 (modules_left modules.entry))) }
 {
     let mut text = Vec::new(alloc);
     let mut k = 0;
     loop {
         text.clear();
         match modules.next() {
-            Ok(Some(module)) => put_listed(alloc, pdb, texts, several, k, &module, &mut text)?,
+            Ok(Some(module)) => {
+                put_listed(alloc, pdb, form, texts, several, k, &module, &mut text)?
+            }
             Ok(None) => return Ok(()),
-            Err(e) => return write_refused(alloc, e, out),
+            Err(e) => return write_refused_in(alloc, form, e, out),
         }
         write_out(out, &text)?;
         k += 1;
@@ -402,21 +422,22 @@ fn tells_several(information: &DebugInformation<'_>) -> bool
 pub fn write_all<'s, S: Source<'s>, T: ModuleText, W: Write>(
     alloc: Global,
     pdb: &mut PDB<'s, S>,
+    form: Form,
     texts: &T,
     out: &mut W,
 ) -> Result<(), Stop>
     ensures opened { (e : Error) → IsErrOf result (Stop.Open e) → ⊥ }
-    ensures ok { OnOk result (Appends (W.contents out.old) (W.contents out.new) (all_text (in_file (T.text texts.now) pdb.old.file) pdb.old.file)) }
-    ensures front { OnErr result (WroteFront (W.contents out.old) (W.contents out.new) (all_text (in_file (T.text texts.now) pdb.old.file) pdb.old.file)) }
+    ensures ok { OnOk result (Appends (W.contents out.old) (W.contents out.new) (all_text form (in_file (T.text texts.now) pdb.old.file) pdb.old.file)) }
+    ensures front { OnErr result (WroteFront (W.contents out.old) (W.contents out.new) (all_text form (in_file (T.text texts.now) pdb.old.file) pdb.old.file)) }
 {
     let information = match pdb.debug_information() {
         Ok(information) => information,
-        Err(e) => return write_refused(alloc, e, out),
+        Err(e) => return write_refused_in(alloc, form, e, out),
     };
     let several = tells_several(&information);
     match information.modules() {
-        Ok(modules) => write_left(alloc, pdb, texts, several, modules, out),
-        Err(e) => write_refused(alloc, e, out),
+        Ok(modules) => write_left(alloc, pdb, form, texts, several, modules, out),
+        Err(e) => write_refused_in(alloc, form, e, out),
     }
 }
 
@@ -425,19 +446,20 @@ pub fn write_all<'s, S: Source<'s>, T: ModuleText, W: Write>(
 pub fn write_plain<'s, S: Source<'s>, T: ModuleText, W: Write>(
     alloc: Global,
     pdb: &mut PDB<'s, S>,
+    form: Form,
     texts: &T,
     out: &mut W,
 ) -> Result<(), Stop>
     ensures opened { (e : Error) → IsErrOf result (Stop.Open e) → ⊥ }
-    ensures ok { OnOk result (Appends (W.contents out.old) (W.contents out.new) (plain_text (in_file (T.text texts.now) pdb.old.file) pdb.old.file)) }
-    ensures front { OnErr result (WroteFront (W.contents out.old) (W.contents out.new) (plain_text (in_file (T.text texts.now) pdb.old.file) pdb.old.file)) }
+    ensures ok { OnOk result (Appends (W.contents out.old) (W.contents out.new) (plain_text form (in_file (T.text texts.now) pdb.old.file) pdb.old.file)) }
+    ensures front { OnErr result (WroteFront (W.contents out.old) (W.contents out.new) (plain_text form (in_file (T.text texts.now) pdb.old.file) pdb.old.file)) }
 {
     let information = match pdb.debug_information() {
         Ok(information) => information,
-        Err(e) => return write_refused(alloc, e, out),
+        Err(e) => return write_refused_in(alloc, form, e, out),
     };
     match information.modules() {
-        Ok(modules) => write_left(alloc, pdb, texts, false, modules, out),
-        Err(e) => write_refused(alloc, e, out),
+        Ok(modules) => write_left(alloc, pdb, form, texts, false, modules, out),
+        Err(e) => write_refused_in(alloc, form, e, out),
     }
 }

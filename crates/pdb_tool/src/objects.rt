@@ -100,3 +100,16 @@ pub fn begin_numbered(writer: &mut Writer, name: &str, n: u64) -> Result<(), All
     writer.begin_object()?;
     put_number(writer, name, n)
 }
+
+/// An object that has a string so far.
+pub fn begin_text(
+    alloc: Global,
+    writer: &mut Writer,
+    name: &str,
+    bytes: &[u8],
+) -> Result<(), AllocError>
+    ensures { Adds result writer.old writer.new (begin_object ∷ key name.now ∷ json_tokens (text_value bytes.now)) }
+{
+    writer.begin_object()?;
+    put_member(alloc, writer, name, bytes)
+}

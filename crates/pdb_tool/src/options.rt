@@ -203,7 +203,8 @@ fn takes_json(topic: Topic) -> bool
     ensures { result ≡ takes_json topic }
 {
     match topic {
-        Topic::Resolve | Topic::Modules | Topic::Sections | Topic::Streams | Topic::Key => true,
+        Topic::Resolve | Topic::Find | Topic::Where | Topic::Sources => true,
+        Topic::Modules | Topic::Sections | Topic::Streams | Topic::Key | Topic::Check => true,
         _ => false,
     }
 }

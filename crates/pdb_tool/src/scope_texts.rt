@@ -12,7 +12,8 @@ ghost use Rattle.pdb_records.specs.RecordReading.{further_at};
 ghost use Rattle.pdb_records.specs.RecordViews.{shown_record};
 ghost use Rattle.pdb_tool.specs.Depth.{blanks};
 ghost use Rattle.pdb_tool.specs.LineNames.{further_type};
-ghost use Rattle.pdb_tool.specs.LineViews.{end_of, names_of_lines};
+ghost use Rattle.pdb_tool.specs.KeptViews.{kept_names};
+ghost use Rattle.pdb_tool.specs.LineViews.{names_of_lines};
 ghost use Rattle.pdb_tool.specs.QualifiedTexts.{behind_qualified};
 ghost use Rattle.pdb_tool.specs.ScopeFrames.{entered, open_at};
 ghost use Rattle.pdb_tool.specs.ScopeTexts.{code_text, data_line, further_line, further_says, held_text, named_text, parameter_by, placed_text, says_line, scope_line, scopes_left, scopes_text, symbol_lines, unread_line, unread_parameter, variable_behind};
@@ -22,7 +23,8 @@ ghost use Rattle.pdb_tool.specs.VariablePlaces.{base_pointer, further_parameter_
 
 use crate::depth::put_blanks;
 use crate::error_line::{put_error_line, put_refusal_line};
-use crate::line_names::{LineEnd, LineNames};
+use crate::kept_ends::KeptEnds;
+use crate::line_names::LineNames;
 use crate::qualified_texts::put_behind_qualified;
 use crate::register_names::put_register_name;
 use crate::scope_frames::{Bases, bases_within, innermost};
@@ -60,14 +62,14 @@ fn put_code(
     offset: PdbInternalSectionOffset,
     len: u32,
     name: &[u8],
-    end: &LineEnd<'_, '_>,
+    end: &[u8],
 ) -> Result<(), AllocError>
-    ensures { OnOk result (out.new.items ≡ out.old.items ++ (blanks depth ++ code_text word.now offset len name.now (end_of end.now))) }
+    ensures { OnOk result (out.new.items ≡ out.old.items ++ (blanks depth ++ code_text word.now offset len name.now end.now)) }
 {
     put_blanks(out, depth)?;
     put_stretch(out, word, offset, len)?;
     put_behind_blank(out, name)?;
-    end.put(out)
+    out.extend_from_slice(end)
 }
 
 /// The line of what has a place: a word, the place and a name.
@@ -77,16 +79,16 @@ fn put_placed(
     word: &[u8],
     offset: PdbInternalSectionOffset,
     name: RawString<'_>,
-    end: &LineEnd<'_, '_>,
+    end: &[u8],
 ) -> Result<(), AllocError>
-    ensures { OnOk result (out.new.items ≡ out.old.items ++ (blanks depth ++ placed_text word.now offset (name_bytes name.entry) (end_of end.now))) }
+    ensures { OnOk result (out.new.items ≡ out.old.items ++ (blanks depth ++ placed_text word.now offset (name_bytes name.entry) end.now)) }
 {
     put_blanks(out, depth)?;
     out.extend_from_slice(word)?;
     out.push(b' ')?;
     put_place(out, offset)?;
     put_behind_blank(out, name.as_bytes())?;
-    end.put(out)
+    out.extend_from_slice(end)
 }
 
 /// The line of what has a name alone: a word and the name.
@@ -95,14 +97,14 @@ fn put_named(
     depth: usize,
     word: &[u8],
     name: RawString<'_>,
-    end: &LineEnd<'_, '_>,
+    end: &[u8],
 ) -> Result<(), AllocError>
-    ensures { OnOk result (out.new.items ≡ out.old.items ++ (blanks depth ++ named_text word.now (name_bytes name.entry) (end_of end.now))) }
+    ensures { OnOk result (out.new.items ≡ out.old.items ++ (blanks depth ++ named_text word.now (name_bytes name.entry) end.now)) }
 {
     put_blanks(out, depth)?;
     out.extend_from_slice(word)?;
     put_behind_blank(out, name.as_bytes())?;
-    end.put(out)
+    out.extend_from_slice(end)
 }
 
 /// The line of an inlined call: the name of the function of its id.
@@ -111,14 +113,14 @@ fn put_inlined(
     names: LineNames<'_, '_>,
     depth: usize,
     id: IdIndex,
-    end: &LineEnd<'_, '_>,
+    end: &[u8],
 ) -> Result<(), AllocError>
-    ensures { OnOk result (out.new.items ≡ out.old.items ++ (blanks depth ++ (codes "inlined" ++ behind_qualified ((names_of_lines names.entry).called id.0) ++ end_of end.now))) }
+    ensures { OnOk result (out.new.items ≡ out.old.items ++ (blanks depth ++ (codes "inlined" ++ behind_qualified ((names_of_lines names.entry).called id.0) ++ end.now))) }
 {
     put_blanks(out, depth)?;
     out.extend_from_slice(b"inlined")?;
     put_behind_qualified(out, names.called(id))?;
-    end.put(out)
+    out.extend_from_slice(end)
 }
 
 /// The line of a variable at an offset from the value of a register.
@@ -129,15 +131,15 @@ fn put_relative(
     register: Register,
     offset: i32,
     name: RawString<'_>,
-    end: &LineEnd<'_, '_>,
+    end: &[u8],
 ) -> Result<(), AllocError>
-    ensures { OnOk result (out.new.items ≡ out.old.items ++ (blanks depth ++ held_text (codes "relative") (memory_text (register_on machine register) offset) (name_bytes name.entry) (end_of end.now))) }
+    ensures { OnOk result (out.new.items ≡ out.old.items ++ (blanks depth ++ held_text (codes "relative") (memory_text (register_on machine register) offset) (name_bytes name.entry) end.now)) }
 {
     put_blanks(out, depth)?;
     out.extend_from_slice(b"relative ")?;
     put_at_register(out, machine, register, offset)?;
     put_behind_blank(out, name.as_bytes())?;
-    end.put(out)
+    out.extend_from_slice(end)
 }
 
 /// The line of a variable at an offset from the base pointer.
@@ -147,15 +149,15 @@ fn put_relative_to_base(
     depth: usize,
     offset: i32,
     name: RawString<'_>,
-    end: &LineEnd<'_, '_>,
+    end: &[u8],
 ) -> Result<(), AllocError>
-    ensures { OnOk result (out.new.items ≡ out.old.items ++ (blanks depth ++ held_text (codes "relative") (memory_text (base_pointer machine) offset) (name_bytes name.entry) (end_of end.now))) }
+    ensures { OnOk result (out.new.items ≡ out.old.items ++ (blanks depth ++ held_text (codes "relative") (memory_text (base_pointer machine) offset) (name_bytes name.entry) end.now)) }
 {
     put_blanks(out, depth)?;
     out.extend_from_slice(b"relative ")?;
     put_at_base_pointer(out, machine, offset)?;
     put_behind_blank(out, name.as_bytes())?;
-    end.put(out)
+    out.extend_from_slice(end)
 }
 
 /// The line of a variable in a register.
@@ -165,15 +167,15 @@ fn put_in_register(
     depth: usize,
     register: Register,
     name: RawString<'_>,
-    end: &LineEnd<'_, '_>,
+    end: &[u8],
 ) -> Result<(), AllocError>
-    ensures { OnOk result (out.new.items ≡ out.old.items ++ (blanks depth ++ held_text (codes "register") (register_on machine register) (name_bytes name.entry) (end_of end.now))) }
+    ensures { OnOk result (out.new.items ≡ out.old.items ++ (blanks depth ++ held_text (codes "register") (register_on machine register) (name_bytes name.entry) end.now)) }
 {
     put_blanks(out, depth)?;
     out.extend_from_slice(b"register ")?;
     put_register_name(out, machine, register)?;
     put_behind_blank(out, name.as_bytes())?;
-    end.put(out)
+    out.extend_from_slice(end)
 }
 
 /// The line of what has a place, or of a variable, with this end.
@@ -182,9 +184,9 @@ fn put_data_says(
     machine: Option<Machine>,
     depth: usize,
     parsed: &SymbolData<'_>,
-    end: &LineEnd<'_, '_>,
+    end: &[u8],
 ) -> Result<(), AllocError>
-    ensures { OnOk result (out.new.items ≡ out.old.items ++ data_line machine depth (end_of end.now) (shown parsed.now)) }
+    ensures { OnOk result (out.new.items ≡ out.old.items ++ data_line machine depth end.now (shown parsed.now)) }
 {
     match parsed {
         SymbolData::Data(s) => put_placed(out, depth, b"data", s.offset, s.name, end),
@@ -208,9 +210,9 @@ fn put_says(
     machine: Option<Machine>,
     depth: usize,
     parsed: &SymbolData<'_>,
-    end: &LineEnd<'_, '_>,
+    end: &[u8],
 ) -> Result<(), AllocError>
-    ensures { OnOk result (out.new.items ≡ out.old.items ++ says_line (names_of_lines names.entry) machine depth (end_of end.now) (shown parsed.now)) }
+    ensures { OnOk result (out.new.items ≡ out.old.items ++ says_line (names_of_lines names.entry) machine depth end.now (shown parsed.now)) }
 {
     match parsed {
         SymbolData::Procedure(s) => {
@@ -239,9 +241,9 @@ fn put_further_says(
     machine: Option<Machine>,
     depth: usize,
     parsed: &Record<'_>,
-    end: &LineEnd<'_, '_>,
+    end: &[u8],
 ) -> Result<(), AllocError>
-    ensures { OnOk result (out.new.items ≡ out.old.items ++ further_says machine depth (end_of end.now) (Ok (shown_record parsed.now))) }
+    ensures { OnOk result (out.new.items ≡ out.old.items ++ further_says machine depth end.now (Ok (shown_record parsed.now))) }
 {
     match parsed {
         Record::BasePointerRelative(s) => {
@@ -301,18 +303,19 @@ fn further_parameter_in(parsed: &Record<'_>) -> Option<bool>
 /// The line of a further record, and whether the variable that it tells is a parameter.
 fn put_further(
     out: &mut Vec<u8>,
-    names: LineNames<'_, '_>,
+    kept: &mut KeptEnds<'_, '_>,
     machine: Option<Machine>,
     depth: usize,
     symbol: &Symbol<'_>,
 ) -> Result<Option<bool>, AllocError>
-    ensures line { OnOk result (out.new.items ≡ out.old.items ++ further_line (names_of_lines names.entry) machine depth (further_at (symbol_of symbol.now).bytes)) }
+    ensures names { kept_names kept.new ≡ kept_names kept.old }
+    ensures line { OnOk result (out.new.items ≡ out.old.items ++ further_line (kept_names kept.old) machine depth (further_at (symbol_of symbol.now).bytes)) }
     ensures variable { IfOk result (λ v. v ≡ further_parameter_in (further_at (symbol_of symbol.now).bytes)) }
 {
     match Record::parse(symbol) {
         Ok(parsed) => {
-            let end = names.end(further_type(&parsed));
-            put_further_says(out, machine, depth, &parsed, &end)?;
+            let place = kept.keep(further_type(&parsed))?;
+            put_further_says(out, machine, depth, &parsed, kept.at(place))?;
             Ok(further_parameter_in(&parsed))
         }
         Err(_) => Ok(None),
@@ -323,17 +326,18 @@ fn put_further(
 /// passed on.
 fn put_unread(
     out: &mut Vec<u8>,
-    names: LineNames<'_, '_>,
+    kept: &mut KeptEnds<'_, '_>,
     machine: Option<Machine>,
     depth: usize,
     symbol: &Symbol<'_>,
     e: Error,
 ) -> Result<Option<bool>, AllocError>
-    ensures line { OnOk result ((e ≢ OutOfMemory) × (out.new.items ≡ out.old.items ++ unread_line (names_of_lines names.entry) machine depth (symbol_of symbol.now).bytes e)) }
+    ensures names { kept_names kept.new ≡ kept_names kept.old }
+    ensures line { OnOk result ((e ≢ OutOfMemory) × (out.new.items ≡ out.old.items ++ unread_line (kept_names kept.old) machine depth (symbol_of symbol.now).bytes e)) }
     ensures variable { IfOk result (λ v. (e ≢ OutOfMemory) × (v ≡ unread_parameter (symbol_of symbol.now).bytes e)) }
 {
     if lacks_layout(e) {
-        return put_further(out, names, machine, depth, symbol);
+        return put_further(out, kept, machine, depth, symbol);
     }
     match e {
         Error::OutOfMemory => Err(AllocError),
@@ -345,21 +349,23 @@ fn put_unread(
 fn put_line(
     alloc: Global,
     out: &mut Vec<u8>,
-    names: LineNames<'_, '_>,
+    kept: &mut KeptEnds<'_, '_>,
     machine: Option<Machine>,
     depth: usize,
     symbol: &Symbol<'_>,
 ) -> Result<Option<bool>, AllocError>
-    ensures line { OnOk result (out.new.items ≡ out.old.items ++ scope_line (names_of_lines names.entry) machine depth (symbol_of symbol.now).bytes (record_at (symbol_of symbol.now).bytes)) }
+    ensures names { kept_names kept.new ≡ kept_names kept.old }
+    ensures line { OnOk result (out.new.items ≡ out.old.items ++ scope_line (kept_names kept.old) machine depth (symbol_of symbol.now).bytes (record_at (symbol_of symbol.now).bytes)) }
     ensures variable { IfOk result (λ v. v ≡ parameter_by (symbol_of symbol.now).bytes (record_at (symbol_of symbol.now).bytes)) }
 {
     match symbol.parse(alloc) {
         Ok(parsed) => {
-            let end = names.end_of(symbol.raw_kind(), &parsed);
-            put_says(out, names, machine, depth, &parsed, &end)?;
+            let names = kept.names();
+            let place = kept.keep(names.declared_type(symbol.raw_kind(), &parsed))?;
+            put_says(out, names, machine, depth, &parsed, kept.at(place))?;
             Ok(parameter_in(&parsed))
         }
-        Err(e) => put_unread(out, names, machine, depth, symbol, e),
+        Err(e) => put_unread(out, kept, machine, depth, symbol, e),
     }
 }
 
@@ -367,7 +373,7 @@ fn put_line(
 fn put_symbol(
     alloc: Global,
     out: &mut Vec<u8>,
-    names: LineNames<'_, '_>,
+    kept: &mut KeptEnds<'_, '_>,
     machine: Option<Machine>,
     ranges: &mut RangeLines,
     around: &[Bases],
@@ -375,11 +381,12 @@ fn put_symbol(
     symbol: &Symbol<'_>,
 ) -> Result<Option<bool>, AllocError>
     requires { length around.now + 1 < 2 ^ 64 }
-    ensures lines { OnOk result (out.new.items ≡ out.old.items ++ symbol_lines (names_of_lines names.entry) machine (reverse around.now) variable (symbol_of symbol.now).bytes) }
+    ensures names { kept_names kept.new ≡ kept_names kept.old }
+    ensures lines { OnOk result (out.new.items ≡ out.old.items ++ symbol_lines (kept_names kept.old) machine (reverse around.now) variable (symbol_of symbol.now).bytes) }
     ensures variable { IfOk result (λ v. v ≡ variable_behind variable (symbol_of symbol.now).bytes) }
 {
     if !is_of_ranges(symbol.raw_kind()) {
-        return put_line(alloc, out, names, machine, around.len(), symbol);
+        return put_line(alloc, out, kept, machine, around.len(), symbol);
     }
     let depth = around.len() + 1;
     ranges.put_behind(out, machine, innermost(around), depth, variable, symbol)?;
@@ -429,6 +436,7 @@ fn put_symbols(
 ) -> Result<(), AllocError>
     ensures { OnOk result (out.new.items ≡ out.old.items ++ scopes_left (names_of_lines names.entry) machine [] None (symbols_left symbols.entry)) }
 {
+    let mut kept = KeptEnds::new(alloc, names)?;
     let mut around = Vec::new(alloc);
     let mut ranges = RangeLines::new(alloc);
     let mut variable = None;
@@ -439,7 +447,7 @@ fn put_symbols(
                 variable = put_symbol(
                     alloc,
                     out,
-                    names,
+                    &mut kept,
                     machine,
                     &mut ranges,
                     around.as_slice(),

@@ -47,7 +47,7 @@ fn put_section(
 }
 
 /// The address of a section, as a member that is composed in `room`.
-fn put_rva(writer: &mut Writer, room: &mut Vec<u8>, address: u32) -> Result<(), AllocError>
+pub fn put_rva(writer: &mut Writer, room: &mut Vec<u8>, address: u32) -> Result<(), AllocError>
     ensures { Adds result writer.old writer.new (key (codes "rva") ∷ json_tokens (text_value (address_text (Some address)))) }
 {
     room.clear();

@@ -6,9 +6,12 @@ ghost use Rattle.pdb.specs.FileViews.{shown_checksum, shown_file};
 ghost use Rattle.pdb.specs.ModuleViews.{files_left};
 ghost use Rattle.pdb.specs.Text.{name_bytes};
 ghost use Rattle.pdb_resolve.specs.Frames.{file_text, string_in};
-ghost use Rattle.pdb_tool.specs.SourceTexts.{checksum_text, digest_text, source_line, source_lines, sources_text};
+ghost use Rattle.pdb_tool.specs.SourceTexts.{checksum_text, digest_text, source_in, source_line, source_lines, source_value, sources_text};
+ghost use Rattle.pdb_tool.specs.Objects.{json_line};
 
-use crate::error_line::{put_error_line, put_refusal_line};
+use crate::module_errors::{put_error_of, put_refusal_of};
+use crate::options::Form;
+use crate::source_objects::put_source_object;
 use pdb::{
     FallibleIterator, FileChecksum, FileInfo, FileIterator, ModuleInfo, RawString, StringRef,
     StringTable,
@@ -61,35 +64,55 @@ fn put_source(
     put_line_end(out)
 }
 
-/// The lines of the files that an iterator has left, and then that of its fault.
+/// The line of a file of module `k`, in a form.
+fn put_source_in(
+    out: &mut Vec<u8>,
+    form: Form,
+    k: u64,
+    strings: Option<&StringTable<'_>>,
+    file: &FileInfo<'_>,
+) -> Result<(), AllocError>
+    ensures { OnOk result (out.new.items ≡ out.old.items ++ source_in form k (option_copied strings.entry) (shown_file file.now)) }
+{
+    match form {
+        Form::Text => put_source(out, strings, file),
+        Form::Json => put_source_object(out, k, &file.checksum, string_in(strings, file.name)),
+    }
+}
+
+/// The lines of the files of module `k` that an iterator has left, and then that of its fault.
 fn put_list(
     out: &mut Vec<u8>,
+    form: Form,
+    k: u64,
     strings: Option<&StringTable<'_>>,
     mut files: FileIterator<'_>,
 ) -> Result<(), AllocError>
-    ensures { OnOk result (out.new.items ≡ out.old.items ++ source_lines (option_copied strings.entry) (files_left files.entry)) }
+    ensures { OnOk result (out.new.items ≡ out.old.items ++ source_lines form k (option_copied strings.entry) (files_left files.entry)) }
 {
     loop {
         match files.next() {
-            Ok(Some(file)) => put_source(out, strings, &file)?,
+            Ok(Some(file)) => put_source_in(out, form, k, strings, &file)?,
             Ok(None) => return Ok(()),
-            Err(e) => return put_error_line(out, e),
+            Err(e) => return put_error_of(out, form, k, e),
         }
     }
 }
 
-/// The text of `sources` of a module: the files of its lines, or the line of their error.
+/// The text of `sources` of module `k`: the files of its lines, or the line of their error.
 #[tactic(auto, unfolding(crate::specs::SourceTexts::sources_text))]
 pub fn put_sources(
     alloc: Global,
     out: &mut Vec<u8>,
+    form: Form,
+    k: u64,
     strings: Option<&StringTable<'_>>,
     info: &ModuleInfo<'_>,
 ) -> Result<(), AllocError>
-    ensures { OnOk result (out.new.items ≡ out.old.items ++ sources_text (option_copied strings.entry) info.now) }
+    ensures { OnOk result (out.new.items ≡ out.old.items ++ sources_text form k (option_copied strings.entry) info.now) }
 {
     match info.line_program(alloc) {
-        Ok(program) => put_list(out, strings, program.files()),
-        Err(e) => put_refusal_line(out, e),
+        Ok(program) => put_list(out, form, k, strings, program.files()),
+        Err(e) => put_refusal_of(out, form, k, e),
     }
 }

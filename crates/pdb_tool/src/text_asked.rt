@@ -152,7 +152,7 @@ impl TextAsked<'_> {
         let text = self.text;
         match text {
             FileText::Code(_) => {}
-            FileText::Lines(_) | FileText::Sources(_) => {
+            FileText::Lines(_) | FileText::Sources(_, _) => {
                 self.shared = is_missed(&pdb.string_table());
             }
             FileText::Scopes(_) | FileText::AllSymbols => {
@@ -166,12 +166,12 @@ impl TextAsked<'_> {
                 self.shared = names || header || globals;
             }
             FileText::Types(_) => self.shared = is_missed(&pdb.type_information()),
-            FileText::Find(_) => {
+            FileText::Find(_, _) => {
                 let names = is_missed(&pdb.id_information()) | is_missed(&pdb.type_information());
                 let places = is_missed(&pdb.global_symbols()) | is_missed(&pdb.address_map());
                 self.shared = names | places;
             }
-            FileText::Where(_) => {
+            FileText::Where(_, _) => {
                 let names = is_missed(&pdb.id_information()) | is_missed(&pdb.type_information());
                 let places = is_missed(&pdb.string_table()) | is_missed(&pdb.address_map());
                 self.shared = names | places;
@@ -205,7 +205,7 @@ impl TextAsked<'_> {
         let text = self.text;
         self.modules = match text {
             FileText::Code(_) => false,
-            FileText::Lines(places) | FileText::Sources(places) => {
+            FileText::Lines(places) | FileText::Sources(_, places) => {
                 !ask_modules(alloc, pdb, false, places)
             }
             FileText::Scopes(places) => !ask_modules(alloc, pdb, true, places),
@@ -213,7 +213,7 @@ impl TextAsked<'_> {
                 !places.is_empty() && !ask_modules(alloc, pdb, true, places)
             }
             FileText::AllSymbols => !ask_all(alloc, pdb, true),
-            FileText::Find(_) | FileText::Where(_) => !ask_all(alloc, pdb, true),
+            FileText::Find(_, _) | FileText::Where(_, _) => !ask_all(alloc, pdb, true),
             FileText::Modules(_)
             | FileText::Sections(_)
             | FileText::Streams(_)

@@ -16,11 +16,11 @@ ghost use Rattle.pdb_resolve.specs.Frames.{file_in, file_name, name_text, plain}
 ghost use Rattle.pdb_resolve.specs.ModuleCode.{name_at, program_in};
 ghost use Rattle.pdb_tool.specs.FindTexts.{parent_said};
 ghost use Rattle.pdb_tool.specs.Finders.{parent_view};
-ghost use Rattle.pdb_tool.specs.WhereTexts.{asks_for_file, call_text, calls_text, file_of_record, is_wanted, lines_text, position_text, record_text, records_text, site_text, sites_left_text, where_line, where_text};
+ghost use Rattle.pdb_tool.specs.WhereTexts.{asks_for_file, call_text, calls_text, file_of_record, is_wanted, lines_text, position_text, record_text, records_text, site_text, sites_left_text, where_line_in, where_text};
 
 use crate::asking::{Asking, FunctionsOf};
-use crate::error_line::{put_error_line, put_refusal_line};
 use crate::find_texts::{Parent, has_bytes, parent_behind, site_records};
+use crate::module_errors::{put_error_of, put_refusal_of};
 use pdb::{
     Error, FallibleIterator, InlineeFinder, InlineeLineIterator, LineInfo, LineIterator,
     LineProgram, ModuleInfo, QualifiedName, RawString, Symbol, SymbolData, SymbolIter,
@@ -48,23 +48,24 @@ fn put_record<'a>(
     asking.put_where(out, b"line", line, file, plain_name(name))
 }
 
-/// The lines of the records that an iterator has left, and then that of its fault.
+/// The lines of the records of module `k` that an iterator has left, and then that of its fault.
 fn put_records<'a>(
     alloc: Global,
     out: &mut Vec<u8>,
     asking: &Asking<'_, '_>,
+    k: u64,
     functions: &mut FunctionsOf<'a>,
     program: &LineProgram<'_>,
     mut lines: LineIterator<'_>,
 ) -> Result<(), AllocError>
-    ensures text { OnOk result (out.new.items ≡ out.old.items ++ records_text asking.now functions.old program.now (lines_left lines.entry)) }
+    ensures text { OnOk result (out.new.items ≡ out.old.items ++ records_text asking.now k functions.old program.now (lines_left lines.entry)) }
     ensures stays { functions.new ≡ functions.old }
 {
     loop {
         match lines.next() {
             Ok(Some(line)) => put_record(alloc, out, asking, functions, program, &line)?,
             Ok(None) => return Ok(()),
-            Err(e) => return put_error_line(out, e),
+            Err(e) => return put_error_of(out, asking.form, k, e),
         }
     }
 }
@@ -162,17 +163,18 @@ fn put_symbol<'a>(
     }
 }
 
-/// The lines of the symbols that an iterator has left, and then that of its fault.
+/// The lines of the symbols of module `k` that an iterator has left, and then that of its fault.
 fn put_symbols<'a>(
     alloc: Global,
     out: &mut Vec<u8>,
     asking: &Asking<'_, '_>,
+    k: u64,
     program: Option<&LineProgram<'_>>,
     names: &CallNames<'_, '_>,
     known: &InlineeFinder<'a>,
     mut symbols: SymbolIter<'a>,
 ) -> Result<(), AllocError>
-    ensures { OnOk result (out.new.items ≡ out.old.items ++ sites_left_text asking.now (option_copied program.entry) (names_of_calls names.now) (inlinee_with known.now) None (symbols_left symbols.entry)) }
+    ensures { OnOk result (out.new.items ≡ out.old.items ++ sites_left_text asking.now k (option_copied program.entry) (names_of_calls names.now) (inlinee_with known.now) None (symbols_left symbols.entry)) }
 {
     let mut parent = None;
     loop {
@@ -190,42 +192,44 @@ fn put_symbols<'a>(
                 )?;
             }
             Ok(None) => return Ok(()),
-            Err(e) => return put_error_line(out, e),
+            Err(e) => return put_error_of(out, asking.form, k, e),
         }
     }
 }
 
-/// The lines of the inlined calls of a module, or the line of the error of its symbols.
+/// The lines of the inlined calls of module `k`, or the line of the error of its symbols.
 #[tactic(auto, unfolding(crate::specs::WhereTexts::calls_text))]
 fn put_sites(
     alloc: Global,
     out: &mut Vec<u8>,
     asking: &Asking<'_, '_>,
+    k: u64,
     program: Option<&LineProgram<'_>>,
     names: &CallNames<'_, '_>,
     info: &ModuleInfo<'_>,
 ) -> Result<(), AllocError>
-    ensures { option_copied program.entry ≡ program_in info.now → OnOk result (out.new.items ≡ out.old.items ++ calls_text asking.now (names_of_calls names.now) info.now) }
+    ensures { option_copied program.entry ≡ program_in info.now → OnOk result (out.new.items ≡ out.old.items ++ calls_text asking.now k (names_of_calls names.now) info.now) }
 {
     match info.symbols() {
         Ok(symbols) => match read_known(alloc, info) {
-            Ok(known) => put_symbols(alloc, out, asking, program, names, &known, symbols),
+            Ok(known) => put_symbols(alloc, out, asking, k, program, names, &known, symbols),
             Err(_) => Err(AllocError),
         },
-        Err(e) => put_refusal_line(out, e),
+        Err(e) => put_refusal_of(out, asking.form, k, e),
     }
 }
 
-/// The text of `where` of a module: its line records that are asked for, and then those of its inlined calls.
+/// The text of `where` of module `k`: its line records that are asked for, and then those of its inlined calls.
 #[tactic(auto, unfolding(crate::specs::WhereTexts::where_text, crate::specs::WhereTexts::lines_text, pdb_resolve::specs::ModuleCode::program_in))]
 pub fn put_where<'a>(
     alloc: Global,
     out: &mut Vec<u8>,
     asking: &Asking<'_, '_>,
+    k: u64,
     names: &CallNames<'_, '_>,
     info: &'a ModuleInfo<'a>,
 ) -> Result<(), AllocError>
-    ensures { OnOk result (out.new.items ≡ out.old.items ++ where_text asking.now (names_of_calls names.now) info.entry.now) }
+    ensures { OnOk result (out.new.items ≡ out.old.items ++ where_text asking.now k (names_of_calls names.now) info.entry.now) }
 {
     match info.line_program(alloc) {
         Ok(program) => {
@@ -234,15 +238,16 @@ pub fn put_where<'a>(
                 alloc,
                 out,
                 asking,
+                k,
                 &mut functions,
                 &program,
                 program.lines(),
             )?;
-            put_sites(alloc, out, asking, Some(&program), names, info)
+            put_sites(alloc, out, asking, k, Some(&program), names, info)
         }
         Err(e) => {
-            put_refusal_line(out, e)?;
-            put_sites(alloc, out, asking, None, names, info)
+            put_refusal_of(out, asking.form, k, e)?;
+            put_sites(alloc, out, asking, k, None, names, info)
         }
     }
 }

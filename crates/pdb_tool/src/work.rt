@@ -27,7 +27,7 @@ pub enum Work<'w> {
     /// Print the keys of a file and of others.
     Keys(Form, Operand<'w>, Vec<Operand<'w>>),
     /// Print what is damaged in a file and in others.
-    Checks(Operand<'w>, Vec<Operand<'w>>),
+    Checks(Form, Operand<'w>, Vec<Operand<'w>>),
     /// Print the code at the addresses that operands are, or else the lines of standard input.
     Resolve(Options, Operand<'w>, Vec<Operand<'w>>),
     /// Print the line records of the modules of these numbers.
@@ -41,11 +41,11 @@ pub enum Work<'w> {
     /// Print the types of these indices.
     Types(Operand<'w>, Vec<u32>),
     /// Print the source files of the modules of these numbers.
-    Sources(Operand<'w>, Vec<u32>),
+    Sources(Form, Operand<'w>, Vec<u32>),
     /// Print where the functions and data stand whose names match one of the operands.
-    Find(Operand<'w>, Vec<Operand<'w>>),
+    Find(Form, Operand<'w>, Vec<Operand<'w>>),
     /// Print which addresses lines of source files have.
-    Where(Operand<'w>, Vec<SourceAsked<'w>>),
+    Where(Form, Operand<'w>, Vec<SourceAsked<'w>>),
     /// Print the list of modules.
     Modules(Form, Operand<'w>),
     /// Print the section headers.
@@ -79,34 +79,36 @@ fn resolve_work<'w>(
 
 /// `find`, where no name is empty; `count` is the number of arguments.
 fn find_work<'w>(
+    form: Form,
     file: Operand<'w>,
     rest: Vec<Operand<'w>>,
     count: usize,
 ) -> Result<Work<'w>, WordsError>
-    ensures { Tells task_of result (named (operand_view file.entry) (map operand_view rest.entry.items) count) }
+    ensures { Tells task_of result (named form (operand_view file.entry) (map operand_view rest.entry.items) count) }
 {
     if rest.is_empty() {
         return Err(WordsError::BadWord(count));
     }
     match first_empty(&rest) {
         Some(place) => Err(WordsError::BadWord(place)),
-        None => Ok(Work::Find(file, rest)),
+        None => Ok(Work::Find(form, file, rest)),
     }
 }
 
 /// `where`; `count` is the number of arguments.
 fn where_work<'w>(
     alloc: Global,
+    form: Form,
     file: Operand<'w>,
     rest: &[Operand<'w>],
     count: usize,
 ) -> Result<Work<'w>, WordsError>
-    ensures { Tells task_of result (sourced (operand_view file.entry) (map operand_view rest.now) count) }
+    ensures { Tells task_of result (sourced form (operand_view file.entry) (map operand_view rest.now) count) }
 {
     if rest.is_empty() {
         return Err(WordsError::BadWord(count));
     }
-    Ok(Work::Where(file, all_sources(alloc, rest)?))
+    Ok(Work::Where(form, file, all_sources(alloc, rest)?))
 }
 
 /// A command, behind whose file no operand stands.
@@ -163,11 +165,11 @@ fn over_file<'w>(
         Topic::Scopes => Ok(Work::Scopes(file, all_numbers(alloc, &rest)?)),
         Topic::Symbols => symbols_work(alloc, options, file, &rest),
         Topic::Types => Ok(Work::Types(file, all_indices(alloc, &rest)?)),
-        Topic::Sources => Ok(Work::Sources(file, all_numbers(alloc, &rest)?)),
+        Topic::Sources => Ok(Work::Sources(options.form, file, all_numbers(alloc, &rest)?)),
         Topic::Key => Ok(Work::Keys(options.form, file, rest)),
-        Topic::Check => Ok(Work::Checks(file, rest)),
-        Topic::Find => find_work(file, rest, count),
-        Topic::Where => where_work(alloc, file, &rest, count),
+        Topic::Check => Ok(Work::Checks(options.form, file, rest)),
+        Topic::Find => find_work(options.form, file, rest, count),
+        Topic::Where => where_work(alloc, options.form, file, &rest, count),
         Topic::Modules => ending(Work::Modules(options.form, file), &rest),
         Topic::Sections => ending(Work::Sections(options.form, file), &rest),
         Topic::Streams => ending(Work::Streams(options.form, file), &rest),

@@ -2,6 +2,7 @@
 
 use super::files::{debug_stream, file_of, module_record};
 use crate::checks::write_check;
+use crate::options::Form;
 use crate::stop::Stop;
 use crate::tests::fakes::{Narrow, is};
 use pdb::Error;
@@ -54,7 +55,7 @@ static FINDINGS: &[u8] = b"a.pdb: information: the data ends before a record doe
     a.pdb: module 2: there is no stream 20\n";
 
 /// A file with something wrong in all places but the DBI stream's header. Module 1 has no stream.
-fn damaged(alloc: Global) -> Result<Vec<u8>, AllocError> {
+pub fn damaged(alloc: Global) -> Result<Vec<u8>, AllocError> {
     let mut module = Vec::new(alloc);
     module.extend_from_slice(SYMBOLS)?;
     module.extend_from_slice(LINES)?;
@@ -87,7 +88,7 @@ fn text_is(
     wanted: &[u8],
 ) -> Result<(), Fail> {
     let mut out = Vec::new(alloc);
-    let given = write_check(alloc, bytes, b"a.pdb", &mut out);
+    let given = write_check(alloc, bytes, Form::Text, b"a.pdb", &mut out);
     is(rt, "out.as_slice()", &out.as_slice(), &wanted);
     is(rt, "given", &given, &Ok(well));
     Ok(())
@@ -181,7 +182,7 @@ fn an_older_header_refuses_what_stands_on_it(rt: HostRuntime) -> Result<(), Fail
 #[test]
 fn a_file_that_is_none_has_no_text(rt: HostRuntime) -> Result<(), Fail> {
     let mut out = Vec::new(rt.alloc());
-    let given = write_check(rt.alloc(), b"Microsoft", b"a.pdb", &mut out);
+    let given = write_check(rt.alloc(), b"Microsoft", Form::Text, b"a.pdb", &mut out);
     let wanted = Err(Stop::Open(Error::UnrecognizedFileFormat));
     is(&rt, "given", &given, &wanted);
     is(&rt, "out.is_empty()", &out.is_empty(), &true);
@@ -193,7 +194,7 @@ fn a_writer_that_fails_has_a_beginning(rt: HostRuntime) -> Result<(), Fail> {
     let file = damaged(rt.alloc())?;
     for room in 0..FINDINGS.len() {
         let mut out = Narrow::new(rt.alloc(), room);
-        let given = write_check(rt.alloc(), &file, b"a.pdb", &mut out);
+        let given = write_check(rt.alloc(), &file, Form::Text, b"a.pdb", &mut out);
         is(&rt, "given", &given, &Err(Stop::Write));
         is(&rt, "out.taken()", &out.taken(), &&FINDINGS[..room]);
     }

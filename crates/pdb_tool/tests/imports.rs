@@ -5,6 +5,7 @@ use super::parts::both;
 use crate::asked::Asked;
 use crate::file_texts::FileText;
 use crate::operands::Operand;
+use crate::options::Form;
 use crate::question::{Answer, Question};
 use crate::sources_asked::source_of;
 use pdb::PdbInternalSectionOffset;
@@ -142,9 +143,9 @@ fn texts_are(
         place: 2,
         word: "*ab",
     }];
-    both(rt, &bytes, FileText::Find(&words), wanted.2);
+    both(rt, &bytes, FileText::Find(Form::Text, &words), wanted.2);
     let lines = [source_of(b"a.c:10").expect(rt, "a source file")];
-    both(rt, &bytes, FileText::Where(&lines), wanted.3);
+    both(rt, &bytes, FileText::Where(Form::Text, &lines), wanted.3);
     Ok(())
 }
 

@@ -26,26 +26,26 @@ use std::process::Abort;
 use std::test::Fail;
 
 /// The names `a.c` at place 1 and `Src\bc.h` at place 5.
-static STRINGS: &[u8] =
+pub static STRINGS: &[u8] =
     b"\xfe\xef\xfe\xef\x01\x00\x00\x00\x0e\x00\x00\x00\x00a\x2ec\x00Src\x5cbc\x2eh\x00";
 
 /// Files without a checksum, with four bytes of MD5, with three of SHA-1, and with none of SHA-256.
-static FILES: &[u8] =
+pub static FILES: &[u8] =
     b"\xf4\x00\x00\x00\x28\x00\x00\x00\x01\x00\x00\x00\x00\x00\x00\x00\x05\x00\x00\x00\x04\x01\x01\x02\x03\x04\x00\x00\x01\x00\x00\x00\x03\x02\x0a\x0b\x0c\x00\x00\x00\x63\x00\x00\x00\x00\x03\x00\x00";
 
 /// The two files, and in section 2 three records from 0x40 on: line 7 of the first file with eight bytes, and lines 9
 /// and 11 of the second with four and none.
-static LINES: &[u8] =
+pub static LINES: &[u8] =
     b"\xf4\x00\x00\x00\x10\x00\x00\x00\x01\x00\x00\x00\x00\x00\x00\x00\x05\x00\x00\x00\x00\x00\x00\x00\xf2\x00\x00\x00\x3c\x00\x00\x00\x40\x00\x00\x00\x02\x00\x00\x00\x0c\x00\x00\x00\x00\x00\x00\x00\x01\x00\x00\x00\x14\x00\x00\x00\x00\x00\x00\x00\x07\x00\x00\x80\x08\x00\x00\x00\x02\x00\x00\x00\x1c\x00\x00\x00\x08\x00\x00\x00\x09\x00\x00\x80\x0c\x00\x00\x00\x0b\x00\x00\x80";
 
 /// A procedure `fab` of 33 bytes in section 2.
-static PROCEDURE: &[u8] =
+pub static PROCEDURE: &[u8] =
     b"\x10\x11\x00\x00\x00\x00\x90\x00\x00\x00\x00\x00\x00\x00\x21\x00\x00\x00\x04\x00\x00\x00\x1e\x00\x00\x00\x09\x10\x00\x00\x40\x00\x00\x00\x02\x00\x00fab\x00";
 
 /// Local data `gab`, a label `lab` and data of a thread `tab`.
-static DATA: &[u8] = b"\x0c\x11\x74\x00\x00\x00\x10\x00\x00\x00\x03\x00gab\x00";
+pub static DATA: &[u8] = b"\x0c\x11\x74\x00\x00\x00\x10\x00\x00\x00\x03\x00gab\x00";
 
-static LABEL: &[u8] = b"\x05\x11\x48\x00\x00\x00\x02\x00\x00lab\x00";
+pub static LABEL: &[u8] = b"\x05\x11\x48\x00\x00\x00\x02\x00\x00lab\x00";
 
 static THREAD: &[u8] = b"\x12\x11\x74\x00\x00\x00\x20\x00\x00\x00\x04\x00tab\x00";
 
@@ -159,11 +159,11 @@ fn source_files_with_checksums(rt: HostRuntime) -> Result<(), Fail> {
     let info = module_of(&rt, FILES, &sizes)?;
     let strings = StringTable::parse(Stream::new(STRINGS).expect(&rt, "a short stream"))?;
     let mut out = Vec::new(rt.alloc());
-    put_sources(rt.alloc(), &mut out, Some(&strings), &info)?;
+    put_sources(rt.alloc(), &mut out, Form::Text, 0, Some(&strings), &info)?;
     let wanted: &[u8] = b"none - a.c\nmd5 01020304 Src\\bc.h\nsha1 0a0b0c a.c\nsha256 - ??\n";
     is(&rt, "out", &out.as_slice(), &wanted);
     let mut out = Vec::new(rt.alloc());
-    put_sources(rt.alloc(), &mut out, None, &info)?;
+    put_sources(rt.alloc(), &mut out, Form::Text, 0, None, &info)?;
     let wanted: &[u8] = b"none - ??\nmd5 01020304 ??\nsha1 0a0b0c ??\nsha256 - ??\n";
     is(&rt, "without names", &out.as_slice(), &wanted);
     Ok(())
@@ -193,11 +193,11 @@ fn symbols_of_a_module_by_name(rt: HostRuntime) -> Result<(), Fail> {
     ];
     let ids = ItemFinder::empty(rt.alloc());
     let types = ItemFinder::empty(rt.alloc());
-    let finder = Finder::new(&words, ids, types, PlaceAddresses::new(None));
+    let finder = Finder::new(Form::Text, &words, ids, types, PlaceAddresses::new(None));
     let mut out = Vec::new(rt.alloc());
     let global = GlobalIds::empty(rt.alloc());
     let names = CallNames::new(&finder.ids, &finder.types, &global);
-    put_found_symbols(rt.alloc(), &mut out, &finder, &names, &info)?;
+    put_found_symbols(rt.alloc(), &mut out, &finder, 0, &names, &info)?;
     let wanted: &[u8] = b"procedure 0002:00000040 - 33 fab\n\
         data 0003:00000010 - - gab\n\
         label 0002:00000048 - - lab\n\
@@ -223,6 +223,7 @@ fn records_of_requested_lines(rt: HostRuntime) -> Result<(), Fail> {
     let ids = ItemFinder::empty(rt.alloc());
     let types = ItemFinder::empty(rt.alloc());
     let asking = Asking::new(
+        Form::Text,
         &asked,
         Some(&strings),
         ids,
@@ -232,7 +233,7 @@ fn records_of_requested_lines(rt: HostRuntime) -> Result<(), Fail> {
     let mut out = Vec::new(rt.alloc());
     let global = GlobalIds::empty(rt.alloc());
     let names = CallNames::new(&asking.ids, &asking.types, &global);
-    put_where(rt.alloc(), &mut out, &asking, &names, &info)?;
+    put_where(rt.alloc(), &mut out, &asking, 0, &names, &info)?;
     let wanted: &[u8] = b"line 0002:00000040 - 8 a.c:7:0 fab\n\
         line 0002:00000048 - 4 Src\\bc.h:9:0 fab\n";
     is(&rt, "out", &out.as_slice(), &wanted);
@@ -240,7 +241,7 @@ fn records_of_requested_lines(rt: HostRuntime) -> Result<(), Fail> {
 }
 
 /// A file of two modules, with three contributions of theirs; module 1 has no stream. Module 0 has a procedure.
-fn file(alloc: Global) -> Result<Vec<u8>, AllocError> {
+pub fn file(alloc: Global) -> Result<Vec<u8>, AllocError> {
     let mut modules = Vec::new(alloc);
     modules.extend_from_slice(&module_record(6, 48, 0))?;
     modules.extend_from_slice(&module_record(0xffff, 0, 0))?;
@@ -329,7 +330,13 @@ fn commands_over_a_file(rt: HostRuntime) -> Result<(), Fail> {
     is(&rt, "streams", &out.as_slice(), &STREAMS);
     objects_of_lists(&rt, bytes)?;
     let mut out = Vec::new(rt.alloc());
-    write_sources(rt.alloc(), MemorySource::new(bytes), &[1, 0, 2], &mut out)?;
+    write_sources(
+        rt.alloc(),
+        MemorySource::new(bytes),
+        Form::Text,
+        &[1, 0, 2],
+        &mut out,
+    )?;
     let wanted: &[u8] = b"module 1 a\nnone\nmodule 0 a\nnone\n";
     is(&rt, "sources", &out.as_slice(), &wanted);
     let words = [Operand {
@@ -337,14 +344,26 @@ fn commands_over_a_file(rt: HostRuntime) -> Result<(), Fail> {
         word: "*ab*",
     }];
     let mut out = Vec::new(rt.alloc());
-    write_find(rt.alloc(), MemorySource::new(bytes), &words, &mut out)?;
+    write_find(
+        rt.alloc(),
+        MemorySource::new(bytes),
+        Form::Text,
+        &words,
+        &mut out,
+    )?;
     let wanted: &[u8] = b"public 0002:00000040 - - fab (_Z3fabv)\n\
         data 0003:00000010 - - gab\n\
         procedure 0002:00000040 - 33 fab\n";
     is(&rt, "find", &out.as_slice(), &wanted);
     let asked = [source_of(b"a.c").expect(&rt, "a source file")];
     let mut out = Vec::new(rt.alloc());
-    write_where(rt.alloc(), MemorySource::new(bytes), &asked, &mut out)?;
+    write_where(
+        rt.alloc(),
+        MemorySource::new(bytes),
+        Form::Text,
+        &asked,
+        &mut out,
+    )?;
     let wanted: &[u8] = b"";
     is(&rt, "where", &out.as_slice(), &wanted);
     let refused = write_modules(

@@ -63,6 +63,11 @@ fn json_is_given_once(rt: HostRuntime) {
         ("sections a --json", run_json(Topic::Sections, None)),
         ("streams --json a", run_json(Topic::Streams, None)),
         ("key a --json b", run_json(Topic::Key, None)),
+        ("find a --json b", run_json(Topic::Find, None)),
+        ("where --json a b", run_json(Topic::Where, None)),
+        ("sources a 0 --json", run_json(Topic::Sources, None)),
+        ("check --json a", run_json(Topic::Check, None)),
+        ("check --json a --json", Err(WordsError::BadWord(3))),
         ("key --json a --json", Err(WordsError::BadWord(3))),
         ("resolve --json --json a", Err(WordsError::BadWord(2))),
         ("resolve --json a --json", Err(WordsError::BadWord(3))),
@@ -70,9 +75,11 @@ fn json_is_given_once(rt: HostRuntime) {
         ("resolve --jso a", Err(WordsError::BadWord(1))),
         ("resolve --json", Err(WordsError::BadWord(2))),
         ("resolve --base --json a", Err(WordsError::BadWord(2))),
+        ("find -- a --json", run(Topic::Find, None, false, false)),
         ("lines --json a", Err(WordsError::BadWord(1))),
         ("scopes a --json", Err(WordsError::BadWord(2))),
         ("symbols --json a", Err(WordsError::BadWord(1))),
+        ("types --json a", Err(WordsError::BadWord(1))),
     ];
     for (line, wanted) in rows {
         is(&rt, line, &asked(rt.alloc(), line), &wanted);

@@ -46,30 +46,40 @@ function show(text) {
 }
 
 // ---- A list of many rows, of which those in sight stand in the document. ----
+// Browsers have no element of more than some 17 million pixels: a list that would be higher scrolls in larger steps.
+const HEIGHT = 26, HIGHEST = 16e6;
 function listOf(room, kind, rows) {
-    const HEIGHT = 26, all = make("div", { className: "all" });
+    const all = make("div", { className: "all", role: "presentation" }), table = room.closest("[role=table]");
     room.replaceChildren(all);
     let total = 0, turn = 0, shown = "";
+    /** How many pixels of the whole list are above what is in sight. */
+    const above = () => {
+        const whole = total * HEIGHT, { clientHeight, scrollTop } = room;
+        return whole <= HIGHEST ? scrollTop : (scrollTop / (HIGHEST - clientHeight)) * (whole - clientHeight);
+    };
+    function rowOf(cells, index, top) {
+        const it = make("div", { className: `item ${kind}`, role: "row", title: cells.join("  ") }, ...cells.map((c) => make("span", { role: "cell", textContent: c })));
+        it.setAttribute("aria-rowindex", index + 2);
+        it.style.top = `${top}px`;
+        return it;
+    }
     async function draw() {
-        const from = Math.max(0, Math.floor(room.scrollTop / HEIGHT) - 10), to = Math.min(total, from + Math.ceil(room.clientHeight / HEIGHT) + 20);
-        if (`${from} ${to}` === shown) return;
+        const top = above(), shift = room.scrollTop - top;
+        const from = Math.max(0, Math.floor(top / HEIGHT) - 10), to = Math.min(total, from + Math.ceil(room.clientHeight / HEIGHT) + 20);
+        const wanted = `${from} ${to} ${shift}`;
+        if (wanted === shown) return;
         const mine = ++turn, list = to > from ? await rows(from, to) : [];
         if (mine !== turn) return;
-        shown = `${from} ${to}`;
-        all.replaceChildren(...list.map((cells, i) => {
-            const it = make("div", { className: `item ${kind}`, role: "row", title: cells.join("  ") }, ...cells.map((c) => make("span", { role: "gridcell", textContent: c })));
-            it.setAttribute("aria-rowindex", from + i + 1);
-            it.style.top = `${(from + i) * HEIGHT}px`;
-            return it;
-        }));
+        shown = wanted;
+        all.replaceChildren(...list.map((cells, i) => rowOf(cells, from + i, (from + i) * HEIGHT + shift)));
     }
     room.onscroll = () => requestAnimationFrame(draw);
     new ResizeObserver(draw).observe(room);
     return (n) => {
         total = n;
         shown = "";
-        room.setAttribute("aria-rowcount", n);
-        all.style.height = `${n * HEIGHT}px`;
+        table.setAttribute("aria-rowcount", n + 1);
+        all.style.height = `${Math.min(n * HEIGHT, HIGHEST)}px`;
         room.scrollTop = 0;
         return draw();
     };
@@ -114,6 +124,7 @@ async function open(given, name) {
         file = await ask("open", { file: given, name });
         showSummary();
         showModules();
+        showDamage();
         back();
         at("parts").hidden = false;
         choose(tabs[0]);
@@ -122,6 +133,8 @@ async function open(given, name) {
         const it = await indexed;
         file.index = it;
         showSummary();
+        if (it.errors.length) showModules();
+        showDamage();
         show(`${name}: ${count(it.all)} symbols of ${count(file.modules.length)} modules, read in ${((file.took + it.took) / 1000).toFixed(1)} s`);
         document.body.dataset.state = "ready";
         if (!at("symbols").hidden) search();
@@ -132,7 +145,12 @@ async function open(given, name) {
         document.body.dataset.state = "failed";
     }
 }
-at("file").onchange = (e) => e.target.files[0] && open(e.target.files[0], e.target.files[0].name);
+at("file").onchange = ({ target }) => {
+    const [it] = target.files;
+    // So that the same file may be chosen again, after it was written anew.
+    target.value = "";
+    if (it) open(it, it.name);
+};
 at("sample").onclick = () => {
     at("trace").value = "0x1108\n0001:00000108\ntour.exe+0x1108\ntour!nested+0x12\n";
     return open(bytesOf(at("bytes").textContent), "sample.pdb");
@@ -165,8 +183,30 @@ function showSummary() {
     fact("Symbols", index ? `${count(index.all)}, ${count(index.named)} of them with a name` : "being read …");
     if (file.sections.length) fact("Sections", file.sections.map((it) => `${it.name} ${size(it.virtualSize)}`).join(", "));
     at("facts").replaceChildren(...facts);
-    const errors = [...new Set([...file.errors, ...(index?.errors ?? [])])], shown = errors.slice(0, 40);
-    at("errors").replaceChildren(...(errors.length ? [make("h3", { textContent: `What could not be read (${count(errors.length)})` }), make("ul", {}, ...shown.map((it) => make("li", { className: "bad", textContent: it })))] : []));
+    const errors = damage(), shown = errors.slice(0, 40), more = errors.length > shown.length ? `; the first ${shown.length} are shown` : "";
+    at("errors").replaceChildren(...(errors.length ? [make("h3", { textContent: `What could not be read (${count(errors.length)}${more})` }), make("ul", {}, ...shown.map((it) => make("li", { className: "bad", textContent: it })))] : []));
+}
+
+// ---- What is damaged: in the summary, and where something depends on it. ----
+const DEPENDS = {
+    addresses: ["Frames may be missing", "debug", "modules", "contributions", "sections", "symbols"],
+    symbols: ["Symbols are missing", "debug", "modules", "symbols"],
+    modules: ["Modules, or bytes of them, are missing", "debug", "modules", "contributions"],
+    map: ["Bytes are missing", "debug", "modules", "contributions"],
+};
+const allErrors = () => [...file.errors, ...(file.index?.errors ?? [])];
+/** The messages of errors, each once: of all, or of those that a test takes. */
+const damage = (wanted = () => true) => [...new Set(allErrors().filter(wanted).map((it) => it.text))];
+function showDamaged(id, what, texts) {
+    const more = texts.length > 3 ? `; ${count(texts.length - 3)} more are in the summary` : "";
+    at(id).hidden = !texts.length;
+    at(id).textContent = texts.length ? `${what}, since the file is damaged: ${texts.slice(0, 3).join("; ")}${more}.` : "";
+}
+function showDamage() {
+    for (const [tab, [what, ...parts]] of Object.entries(DEPENDS)) showDamaged(`${tab}Damage`, what, damage((it) => parts.includes(it.part)));
+    if (file.sections.length || damage((it) => it.part === "sections").length) return;
+    at("addressesDamage").hidden = false;
+    at("addressesDamage").textContent += " The file has no section headers: only a section:offset has frames.";
 }
 
 // ---- Addresses. ----
@@ -220,8 +260,9 @@ const measure = { name: (it) => it.name.toLowerCase(), object: (it) => it.object
 function showModules() {
     const list = [...file.modules].sort((a, b) => { const x = measure[by](a), y = measure[by](b); return (x < y ? -1 : x > y ? 1 : a.index - b.index) * (up ? 1 : -1); });
     at("modulesCount").textContent = `${count(list.length)} modules. Bytes are those of the image that came from each, by the file's section contributions${list.length > 2000 ? "; the first 2,000 are shown" : ""}.`;
+    const damaged = new Set((file.index?.errors ?? []).map((it) => it.module));
     at("table").tBodies[0].replaceChildren(...list.slice(0, 2000).map((it) => make("tr", {},
-        make("td", {}, make("button", { type: "button", textContent: it.name || "(no name)", onclick: () => showModule(it.index) })),
+        make("td", {}, make("button", { type: "button", textContent: it.name || "(no name)", onclick: () => showModule(it.index) }), ...(damaged.has(it.index) ? [make("span", { className: "bad", textContent: " damaged" })] : [])),
         make("td", { className: "n", textContent: count(it.bytes) }), make("td", { className: "n", textContent: count(it.code) }),
         make("td", { className: "n", textContent: it.stream === null ? "none" : count(measure.debug(it)) }), make("td", { className: "faint", textContent: it.object === it.name ? "" : it.object }))));
 }
@@ -236,7 +277,8 @@ async function showModule(k) {
     at("allModules").hidden = true;
     at("oneModule").hidden = false;
     at("oneName").textContent = it.module.name;
-    at("oneCount").textContent = `${size(it.module.bytes)} in the image, ${size(it.module.code)} of code; ${count(it.lines)} line records${it.module.stream === null ? "; no debug information" : ""}${it.errors.length ? `. Not all could be read: ${it.errors.join("; ")}` : ""}`;
+    at("oneCount").textContent = `${size(it.module.bytes)} in the image, ${size(it.module.code)} of code; ${count(it.lines)} line records${it.module.stream === null ? "; no debug information" : ""}`;
+    showDamaged("oneDamage", "Not all is shown", [...damage((error) => error.module === k), ...it.errors]);
     at("sources").tBodies[0].replaceChildren(...it.files.sort((a, b) => b.bytes - a.bytes).map((f) => make("tr", {}, make("td", { textContent: f.name }), make("td", { className: "n", textContent: count(f.lines) }), make("td", { className: "n", textContent: count(f.bytes) }), make("td", { className: "faint", textContent: f.checksum }))));
     choose(at("tab-modules"));
     await showLines(it.lines);
@@ -285,7 +327,7 @@ function drawMap() {
     const tiles = [];
     squares(list, 0, 0, room.clientWidth, room.clientHeight, (it, x, y, w, h) => {
         const name = it.name.replace(/^.*[\\/]/, ""), text = `${name} ${size(it.bytes)}`;
-        const tile = make("button", { type: "button", title: `${it.name}: ${count(it.bytes)} bytes, ${((100 * it.bytes) / total).toFixed(1)}%${it.index < 0 ? "" : (it.code || 0) * 2 > it.bytes ? ", mostly code" : ", mostly data"}`, textContent: w > 46 && h > 18 ? text : "" });
+        const tile = make("button", { type: "button", tabIndex: tiles.length ? -1 : 0, title: `${it.name}: ${count(it.bytes)} bytes, ${((100 * it.bytes) / total).toFixed(1)}%${it.index < 0 ? "" : (it.code || 0) * 2 > it.bytes ? ", mostly code" : ", mostly data"}`, textContent: w > 46 && h > 18 ? text : "" });
         tile.setAttribute("aria-label", tile.title);
         Object.assign(tile.style, { left: `${x}px`, top: `${y}px`, width: `${w}px`, height: `${h}px` });
         tile.style.setProperty("--hue", it.index < 0 ? 60 : (it.code || 0) * 2 > it.bytes ? 213 : 150);
@@ -294,4 +336,13 @@ function drawMap() {
     });
     room.replaceChildren(...tiles);
 }
+at("tiles").onkeydown = (e) => {
+    const tiles = [...at("tiles").children], k = tiles.indexOf(document.activeElement);
+    const to = { ArrowRight: k + 1, ArrowDown: k + 1, ArrowLeft: k - 1, ArrowUp: k - 1, Home: 0, End: tiles.length - 1 }[e.key];
+    if (to === undefined || k < 0) return;
+    tiles[k].tabIndex = -1;
+    tiles.at(to % tiles.length).tabIndex = 0;
+    tiles.at(to % tiles.length).focus();
+    e.preventDefault();
+};
 addEventListener("resize", () => file && !at("map").hidden && drawMap());

@@ -30,6 +30,16 @@ function addSizes() {
     }
 }
 
+/** The section headers; none where the file has no stream of them, which is no damage. */
+function sectionsOf(pdb) {
+    try {
+        return pdb.sections();
+    } catch (e) {
+        if (e.code !== CODES.SectionsNotFound) throw e;
+        return [];
+    }
+}
+
 async function open({ file, name: given }) {
     name = given;
     pdb?.close();
@@ -37,19 +47,19 @@ async function open({ file, name: given }) {
     const started = performance.now();
     pdb = await openPdb(file, { wasm, onProgress: (done, of) => report("Reading the file", done, of) });
     const out = { name, size: pdb.size, errors: [] };
-    const part = (work) => {
-        const message = messageOf(work);
-        if (message) out.errors.push(message);
+    const part = (name, work) => {
+        const text = messageOf(work);
+        if (text) out.errors.push({ part: name, text });
     };
     modules = [];
     sections = [];
     contributions = [];
-    part(() => (out.key = pdb.key()));
-    part(() => (out.information = pdb.information()));
-    part(() => (out.debug = pdb.debugInformation()));
-    part(() => { for (const it of pdb.modules()) modules.push({ ...it, bytes: 0, code: 0 }); });
-    part(() => { for (const it of pdb.contributions()) contributions.push(it); });
-    part(() => (sections = pdb.sections()));
+    part("key", () => (out.key = pdb.key()));
+    part("information", () => (out.information = pdb.information()));
+    part("debug", () => (out.debug = pdb.debugInformation()));
+    part("modules", () => { for (const it of pdb.modules()) modules.push({ ...it, bytes: 0, code: 0 }); });
+    part("contributions", () => { for (const it of pdb.contributions()) contributions.push(it); });
+    part("sections", () => (sections = sectionsOf(pdb)));
     addSizes();
     return { ...out, modules, sections, contributions: contributions.length, took: performance.now() - started };
 }
@@ -72,7 +82,7 @@ function makeIndex() {
     const add = (list, k) => {
         for (const it of list) {
             all++;
-            if (it.name === null) continue;
+            if (!it.name) continue;
             columns.names.push(it.name);
             columns.module.push(k);
             columns.section.push(it.section ?? 0);
@@ -82,15 +92,15 @@ function makeIndex() {
             columns.group.push(GROUPS[it.form] ?? OTHER);
         }
     };
-    const part = (work) => {
-        const message = messageOf(work);
-        if (message) errors.push(message);
+    const part = (work, module) => {
+        const text = messageOf(work);
+        if (text) errors.push({ part: "symbols", module, text });
     };
     for (const it of modules) {
-        part(() => add(pdb.symbols(it.index), it.index));
+        part(() => add(pdb.symbols(it.index), it.index), it.index);
         report("Reading symbols", it.index + 1, modules.length + 1);
     }
-    if (pdb.size && messageOf(() => pdb.debugInformation()) === null && pdb.debugInformation().symbolsStream !== null) part(() => add(pdb.globals(), NO_MODULE));
+    if (pdb.size && messageOf(() => pdb.debugInformation()) === null && pdb.debugInformation().symbolsStream !== null) part(() => add(pdb.globals(), NO_MODULE), NO_MODULE);
     index = {
         names: columns.names, module: Uint16Array.from(columns.module), section: Uint16Array.from(columns.section),
         offset: Uint32Array.from(columns.offset), size: Uint32Array.from(columns.size), form: Uint8Array.from(columns.form),

@@ -1,16 +1,17 @@
-use Rattle.std.specs.Prelude.{OnErr, OnOk, option_copied}
+use Rattle.std.specs.Prelude.{ℕ, OnErr, OnOk, option_copied}
 use Rattle.std.specs.Io.KnownBytes.{Appends}
 use Rattle.pdb_text.specs.Written.{WroteFront}
 use Rattle.pdb_tool.specs.LineTexts.{lines_text}
 use Rattle.pdb_tool.specs.ModuleTexts.{modules_text}
+use Rattle.pdb_tool.specs.declared.options.Form.TheVariants.{Text}
 use Rattle.pdb_tool.proofs.commands.write_lines.Goals as goal
 
 pub returns-clause-front : goal.returns-clause-front
 returns-clause-front g c =
-    let front : OnErr c.write_modules.result (WroteFront (g.W.Write.contents c.args.out.now) (g.W.Write.contents c.write_modules.new.out) (modules_text (lines_text (option_copied c.as_ref.result)) c.strings_of.new.pdb.file c.args.places.now)) = c.write_modules.ensures.front in
+    let front : OnErr c.write_modules.result (WroteFront (g.W.Write.contents c.args.out.now) (g.W.Write.contents c.write_modules.new.out) (modules_text Text (λ (k : ℕ). lines_text (option_copied c.as_ref.result)) c.strings_of.new.pdb.file c.args.places.now)) = c.write_modules.ensures.front in
     rw (c.as_ref.ensures.value, c.in_ok-strings.ensures.is, c.strings_of.ensures.continues.file, c.in_ok-pdb.ensures.file) at front
 
 pub returns-clause-ok : goal.returns-clause-ok
 returns-clause-ok g c =
-    let ok : OnOk c.write_modules.result (Appends (g.W.Write.contents c.args.out.now) (g.W.Write.contents c.write_modules.new.out) (modules_text (lines_text (option_copied c.as_ref.result)) c.strings_of.new.pdb.file c.args.places.now)) = c.write_modules.ensures.ok in
+    let ok : OnOk c.write_modules.result (Appends (g.W.Write.contents c.args.out.now) (g.W.Write.contents c.write_modules.new.out) (modules_text Text (λ (k : ℕ). lines_text (option_copied c.as_ref.result)) c.strings_of.new.pdb.file c.args.places.now)) = c.write_modules.ensures.ok in
     rw (c.as_ref.ensures.value, c.in_ok-strings.ensures.is, c.strings_of.ensures.continues.file, c.in_ok-pdb.ensures.file) at ok

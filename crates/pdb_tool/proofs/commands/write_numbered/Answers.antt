@@ -7,13 +7,14 @@ use Rattle.pdb_tool.specs.LineNames.{names_from}
 use Rattle.pdb_tool.specs.ModuleTexts.{in_file, places_text}
 use Rattle.pdb_tool.specs.SymbolTexts.{symbols_text}
 use Rattle.pdb_tool.proofs.PlacesTexts.{no_symbols, some_symbols}
+use Rattle.pdb_tool.specs.declared.options.Form.TheVariants.{Text}
 use Rattle.pdb_tool.proofs.commands.write_numbered.Goals as goal
 
 pub returns-in-Some-clause-ok : goal.returns-in-Some-clause-ok
 returns-in-Some-clause-ok g c =
     let t = c.in_ok-tables.tables in
     let p = c.machine_of_file.new.pdb.file in
-    let named = subst (λ (f : List ℕ → Option ℕ). OnOk c.write_places.result (Appends (g.W.Write.contents c.args.out.now) (g.W.Write.contents c.write_places.new.out) (places_text (in_file (λ (ids : ℕ → Option ℕ) (m : ModuleBytes). symbols_text (names_from t.ids t.types f ids) t.header m) p) p c.args.places.now))) c.in_ok-tables.ensures.definitions c.write_places.ensures.ok in
+    let named = subst (λ (f : List ℕ → Option ℕ). OnOk c.write_places.result (Appends (g.W.Write.contents c.args.out.now) (g.W.Write.contents c.write_places.new.out) (places_text Text (in_file (λ (ids : ℕ → Option ℕ) (k : ℕ) (m : ModuleBytes). symbols_text (names_from t.ids t.types f ids) t.header m) p) p c.args.places.now))) c.in_ok-tables.ensures.definitions c.write_places.ensures.ok in
     let written = rw (c.in_ok-tables.ensures.ids, c.in_ok-tables.ensures.types, c.in_ok-tables.ensures.header, c.as_ref.ensures.value, c.as_ref-2.ensures.value, c.in_ok-ids.ensures.is, c.in_ok-types.ensures.is, c.in_ok-header.ensures.is, c.machine_of_file.ensures.continues.file, c.types_stream.ensures.continues.file, c.ids_stream.ensures.continues.file) at named in
     rw (some_symbols c.args.pdb.now.file c.args.places.now _ _ c.in-Some.ensures.cases.0) written
 
@@ -21,7 +22,7 @@ pub returns-in-Some-clause-front : goal.returns-in-Some-clause-front
 returns-in-Some-clause-front g c =
     let t = c.in_ok-tables.tables in
     let p = c.machine_of_file.new.pdb.file in
-    let named = subst (λ (f : List ℕ → Option ℕ). OnErr c.write_places.result (WroteFront (g.W.Write.contents c.args.out.now) (g.W.Write.contents c.write_places.new.out) (places_text (in_file (λ (ids : ℕ → Option ℕ) (m : ModuleBytes). symbols_text (names_from t.ids t.types f ids) t.header m) p) p c.args.places.now))) c.in_ok-tables.ensures.definitions c.write_places.ensures.front in
+    let named = subst (λ (f : List ℕ → Option ℕ). OnErr c.write_places.result (WroteFront (g.W.Write.contents c.args.out.now) (g.W.Write.contents c.write_places.new.out) (places_text Text (in_file (λ (ids : ℕ → Option ℕ) (k : ℕ) (m : ModuleBytes). symbols_text (names_from t.ids t.types f ids) t.header m) p) p c.args.places.now))) c.in_ok-tables.ensures.definitions c.write_places.ensures.front in
     let written = rw (c.in_ok-tables.ensures.ids, c.in_ok-tables.ensures.types, c.in_ok-tables.ensures.header, c.as_ref.ensures.value, c.as_ref-2.ensures.value, c.in_ok-ids.ensures.is, c.in_ok-types.ensures.is, c.in_ok-header.ensures.is, c.machine_of_file.ensures.continues.file, c.types_stream.ensures.continues.file, c.ids_stream.ensures.continues.file) at named in
     rw (some_symbols c.args.pdb.now.file c.args.places.now _ _ c.in-Some.ensures.cases.0) written
 

@@ -6,18 +6,19 @@ use Rattle.pdb_text.specs.Written.{WroteFront}
 use Rattle.pdb_tool.specs.LineNames.{names_from}
 use Rattle.pdb_tool.specs.ModuleTexts.{in_file, modules_text}
 use Rattle.pdb_tool.specs.ScopeTexts.{scopes_text}
+use Rattle.pdb_tool.specs.declared.options.Form.TheVariants.{Text}
 use Rattle.pdb_tool.proofs.commands.write_scopes.Goals as goal
 
 pub returns-clause-front : goal.returns-clause-front
 returns-clause-front g c =
     let t = c.in_ok-tables.tables in
     let p = c.machine_of_file.new.pdb.file in
-    let named = subst (λ (f : List ℕ → Option ℕ). OnErr c.write_modules.result (WroteFront (g.W.Write.contents c.args.out.now) (g.W.Write.contents c.write_modules.new.out) (modules_text (in_file (λ (ids : ℕ → Option ℕ) (m : ModuleBytes). scopes_text (names_from t.ids t.types f ids) t.header m) p) p c.args.places.now))) c.in_ok-tables.ensures.definitions c.write_modules.ensures.front in
+    let named = subst (λ (f : List ℕ → Option ℕ). OnErr c.write_modules.result (WroteFront (g.W.Write.contents c.args.out.now) (g.W.Write.contents c.write_modules.new.out) (modules_text Text (in_file (λ (ids : ℕ → Option ℕ) (k : ℕ) (m : ModuleBytes). scopes_text (names_from t.ids t.types f ids) t.header m) p) p c.args.places.now))) c.in_ok-tables.ensures.definitions c.write_modules.ensures.front in
     rw (c.in_ok-tables.ensures.ids, c.in_ok-tables.ensures.types, c.in_ok-tables.ensures.header, c.as_ref.ensures.value, c.as_ref-2.ensures.value, c.in_ok-ids.ensures.is, c.in_ok-types.ensures.is, c.in_ok-header.ensures.is, c.machine_of_file.ensures.continues.file, c.types_stream.ensures.continues.file, c.ids_stream.ensures.continues.file, c.in_ok-pdb.ensures.file) at named
 
 pub returns-clause-ok : goal.returns-clause-ok
 returns-clause-ok g c =
     let t = c.in_ok-tables.tables in
     let p = c.machine_of_file.new.pdb.file in
-    let named = subst (λ (f : List ℕ → Option ℕ). OnOk c.write_modules.result (Appends (g.W.Write.contents c.args.out.now) (g.W.Write.contents c.write_modules.new.out) (modules_text (in_file (λ (ids : ℕ → Option ℕ) (m : ModuleBytes). scopes_text (names_from t.ids t.types f ids) t.header m) p) p c.args.places.now))) c.in_ok-tables.ensures.definitions c.write_modules.ensures.ok in
+    let named = subst (λ (f : List ℕ → Option ℕ). OnOk c.write_modules.result (Appends (g.W.Write.contents c.args.out.now) (g.W.Write.contents c.write_modules.new.out) (modules_text Text (in_file (λ (ids : ℕ → Option ℕ) (k : ℕ) (m : ModuleBytes). scopes_text (names_from t.ids t.types f ids) t.header m) p) p c.args.places.now))) c.in_ok-tables.ensures.definitions c.write_modules.ensures.ok in
     rw (c.in_ok-tables.ensures.ids, c.in_ok-tables.ensures.types, c.in_ok-tables.ensures.header, c.as_ref.ensures.value, c.as_ref-2.ensures.value, c.in_ok-ids.ensures.is, c.in_ok-types.ensures.is, c.in_ok-header.ensures.is, c.machine_of_file.ensures.continues.file, c.types_stream.ensures.continues.file, c.ids_stream.ensures.continues.file, c.in_ok-pdb.ensures.file) at named

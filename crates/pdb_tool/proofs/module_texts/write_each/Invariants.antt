@@ -10,5 +10,5 @@ abbrev pub invariant-loop-k : goal.invariant-loop-k
 invariant-loop-k g l = record {
   continues : Continues l.fn.pdb l.pdb;
   kept : listed l.list ≡ listed l.fn.list;
-  told : Appends (g.W.Write.contents l.fn.out) (g.W.Write.contents l.out) (flat_map (place_in l.several (in_file (g.T.ModuleText.text l.texts) l.fn.pdb.file) l.fn.pdb.file (listed l.fn.list)) (take l.k-index l.places));
+  told : Appends (g.W.Write.contents l.fn.out) (g.W.Write.contents l.out) (flat_map (place_in l.form l.several (in_file (g.T.ModuleText.text l.texts) l.fn.pdb.file) l.fn.pdb.file (listed l.fn.list)) (take l.k-index l.places));
 }

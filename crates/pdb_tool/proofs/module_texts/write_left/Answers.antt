@@ -2,7 +2,7 @@ use Rattle.std.proofs.Common.{◌≡◌, ◌+◌, ◌∙◌, ℕ, ap}
 use Rattle.pdb_text.proofs.Written.{any_err, on_err}
 use Rattle.pdb.specs.DbiViews.{modules_left, modules_steps}
 use Rattle.pdb.proofs.Passing.{continues_then}
-use Rattle.pdb_tool.specs.ErrorLine.{error_line}
+use Rattle.pdb_tool.specs.ErrorObjects.{error_in}
 use Rattle.pdb_tool.proofs.WrittenSoFar.{before_front, before_here, before_last_front, before_more, fault_listed, next_listed}
 use Rattle.pdb_tool.specs.ModuleTexts.{in_file}
 use Rattle.pdb_tool.proofs.module_texts.write_left.Goals as goal
@@ -12,15 +12,15 @@ returns-in_err-put_listed-in-Ok-Some-clause-front g c = any_err c.from_residual.
 
 pub returns-in-Err-clause-front : goal.returns-in-Err-clause-front
 returns-in-Err-clause-front g c =
-    let last = fault_listed c.args.several (in_file (g.T.ModuleText.text c.args.texts.now) c.args.pdb.now.file) c.args.pdb.now.file c.loop-module.k _ _ c.in-Err.e c.in-Err.ensures.yields in
-    on_err c.write_refused.result (λ w. before_last_front _ _ _ (error_line c.in-Err.e) _ _ c.loop-module.invariant.told last w) c.write_refused.ensures.front
+    let last = fault_listed c.args.form c.args.several (in_file (g.T.ModuleText.text c.args.texts.now) c.args.pdb.now.file) c.args.pdb.now.file c.loop-module.k _ _ c.in-Err.e c.in-Err.ensures.yields in
+    on_err c.write_refused_in.result (λ w. before_last_front _ _ _ (error_in c.args.form c.in-Err.e) _ _ c.loop-module.invariant.told last w) c.write_refused_in.ensures.front
 
 pub returns-in_err-write_out-clause-front : goal.returns-in_err-write_out-clause-front
 returns-in_err-write_out-clause-front g c =
     let so_far = c.loop-module.invariant in
     let text = rw c.clear.ensures.items at c.in_ok-put_listed-in-Ok-Some.ensures.text in
     let wrote = rw (c.deref.ensures.value, text, so_far.continues.file) at c.in_err-write_out.ensures.err in
-    let next = next_listed c.args.several (in_file (g.T.ModuleText.text c.args.texts.now) c.args.pdb.now.file) c.args.pdb.now.file c.loop-module.k (modules_left c.loop-module.modules) (modules_left c.next.new.self) c.in-Ok-Some.module (rw c.in-Ok-Some.field-0-is at c.in-Ok-Some.ensures.yields) in
+    let next = next_listed c.args.form c.args.several (in_file (g.T.ModuleText.text c.args.texts.now) c.args.pdb.now.file) c.args.pdb.now.file c.loop-module.k (modules_left c.loop-module.modules) (modules_left c.next.new.self) c.in-Ok-Some.module (rw c.in-Ok-Some.field-0-is at c.in-Ok-Some.ensures.yields) in
     any_err c.from_residual-in_err-write_out.result (before_front _ _ _ _ _ _ _ so_far.told next wrote)
 
 pub loop-module-preserved : goal.loop-module-preserved
@@ -28,7 +28,7 @@ loop-module-preserved g c =
     let so_far = c.loop-module.invariant in
     let text = rw c.clear.ensures.items at c.in_ok-put_listed-in-Ok-Some.ensures.text in
     let wrote = rw (c.deref.ensures.value, text, so_far.continues.file) at c.in_ok-write_out.ensures.ok in
-    let next = next_listed c.args.several (in_file (g.T.ModuleText.text c.args.texts.now) c.args.pdb.now.file) c.args.pdb.now.file c.loop-module.k (modules_left c.loop-module.modules) (modules_left c.next.new.self) c.in-Ok-Some.module (rw c.in-Ok-Some.field-0-is at c.in-Ok-Some.ensures.yields) in
+    let next = next_listed c.args.form c.args.several (in_file (g.T.ModuleText.text c.args.texts.now) c.args.pdb.now.file) c.args.pdb.now.file c.loop-module.k (modules_left c.loop-module.modules) (modules_left c.next.new.self) c.in-Ok-Some.module (rw c.in-Ok-Some.field-0-is at c.in-Ok-Some.ensures.yields) in
     let stepped : modules_steps c.next.new.self ≡ modules_steps c.loop-module.modules + 1 = rw c.in-Ok-Some.field-0-is at c.in-Ok-Some.ensures.stepped in
     record {
       continues = continues_then _ _ _ so_far.continues c.put_listed.ensures.continues;

@@ -1,4 +1,4 @@
-use Rattle.pdb_tool.specs.LineViews.{names_of_lines}
+use Rattle.pdb_tool.specs.KeptViews.{kept_names}
 use Rattle.pdb_tool.proofs.ScopeLines.{line_of_other, lines_of_range}
 use Rattle.pdb_tool.proofs.scope_texts.put_symbol.Goals as goal
 
@@ -8,4 +8,4 @@ returns-then-not-is_of_ranges-clause-lines c =
 
 pub returns-clause-lines : goal.returns-clause-lines
 returns-clause-lines c =
-    lines_of_range (names_of_lines c.args.names) c.args.machine c.args.around.now c.args.variable _ _ _ (rw (c.is_of_ranges.ensures, c.raw_kind.ensures) at c.if-not-is_of_ranges.false) (rw c.innermost.ensures at c.in_ok-put_behind.ensures)
+    lines_of_range (kept_names c.args.kept.now) c.args.machine c.args.around.now c.args.variable _ _ _ (rw (c.is_of_ranges.ensures, c.raw_kind.ensures) at c.if-not-is_of_ranges.false) (rw c.innermost.ensures at c.in_ok-put_behind.ensures)

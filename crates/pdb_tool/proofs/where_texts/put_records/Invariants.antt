@@ -6,7 +6,7 @@ use Rattle.pdb_tool.proofs.where_texts.put_records.Given as goal
 -- what was put, and the lines of what is left, are the lines of all
 abbrev pub invariant-loop-line : goal.invariant-loop-line
 invariant-loop-line l = record {
-  told : l.out.items ++ records_text l.asking l.functions l.program (lines_left l.lines) ≡ l.fn.out.items ++ records_text l.fn.asking l.fn.functions l.fn.program (lines_left l.fn.lines);
+  told : l.out.items ++ records_text l.asking l.k l.functions l.program (lines_left l.lines) ≡ l.fn.out.items ++ records_text l.fn.asking l.fn.k l.fn.functions l.fn.program (lines_left l.fn.lines);
   stays : l.functions ≡ l.fn.functions;
 }
 

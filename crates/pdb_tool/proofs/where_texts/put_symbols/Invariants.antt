@@ -9,7 +9,7 @@ use Rattle.pdb_tool.proofs.where_texts.put_symbols.Given as goal
 
 -- what was put, and the lines of what is left behind the last procedure so far, are the lines of all
 abbrev pub invariant-loop-symbol : goal.invariant-loop-symbol
-invariant-loop-symbol l = l.out.items ++ sites_left_text l.asking (option_copied l.program) (names_of_calls l.names) (inlinee_with l.known) (option_map parent_view l.parent) (symbols_left l.symbols) ≡ l.fn.out.items ++ sites_left_text l.fn.asking (option_copied l.fn.program) (names_of_calls l.fn.names) (inlinee_with l.fn.known) None (symbols_left l.fn.symbols)
+invariant-loop-symbol l = l.out.items ++ sites_left_text l.asking l.k (option_copied l.program) (names_of_calls l.names) (inlinee_with l.known) (option_map parent_view l.parent) (symbols_left l.symbols) ≡ l.fn.out.items ++ sites_left_text l.fn.asking l.fn.k (option_copied l.fn.program) (names_of_calls l.fn.names) (inlinee_with l.fn.known) None (symbols_left l.fn.symbols)
 
 abbrev pub decreases-loop-symbol : goal.decreases-loop-symbol
 decreases-loop-symbol l = length (symbols_left l.symbols).items

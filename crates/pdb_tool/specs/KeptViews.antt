@@ -1,0 +1,14 @@
+-- What contracts see of the ends of lines that are kept.
+use Rattle.std.specs.Prelude.{ℕ, List, None, get_or}
+use Rattle.pdb_tool.specs.LineNames.{Names}
+use Rattle.pdb_tool.specs.LineViews.{names_of_lines}
+use Rattle.pdb_tool.specs.KeptEnds.{end_in}
+use Rattle.pdb_tool.specs.declared.kept_ends.KeptEnds.{KeptEnds}
+
+-- the end at a place
+abbrev pub kept_text : KeptEnds → ℕ → List ℕ
+kept_text k n = end_in (get_or k.rows.items n None)
+
+-- by what the names at the ends are found
+abbrev pub kept_names : KeptEnds → Names
+kept_names k = names_of_lines k.names

@@ -1,0 +1,118 @@
+//! The ends of the last lines: most lines end with the name of a type that was written shortly before.
+
+ghost use Rattle.std.specs.Prelude.{◌≡◌, ◌<◌, length, replicate, true, None, Some, IfOk, OnOk};
+ghost use Rattle.std.specs.List.{All};
+ghost use Rattle.pdb_tool.specs.KeptEnds.{IsEnd, number_of_type};
+ghost use Rattle.pdb_tool.specs.LineNames.{typed_end};
+ghost use Rattle.pdb_tool.specs.LineViews.{names_of_lines};
+
+use crate::line_names::{LineEnd, LineNames};
+use pdb::TypeIndex;
+use std::alloc::{AllocError, Global};
+
+/// How many ends are kept: nineteen in twenty lines of large programs have one of so many.
+const KEPT: usize = 512;
+
+/// The ends of the last lines, each at a place that its type's index gives.
+#[derive(Drop)]
+pub struct KeptEnds<'x, 'a> {
+    alloc: Global,
+    names: LineNames<'x, 'a>,
+    rows: Vec<Option<LineEnd>>,
+    ghost exact: { All (IsEnd (names_of_lines names)) rows.items },
+    ghost full: { length rows.items ≡ 512 },
+}
+
+/// The index of a type; 0 where there is none.
+fn number_of_type(index: Option<TypeIndex>) -> u32
+    ensures { result ≡ number_of_type index }
+{
+    match index {
+        Some(index) => index.0,
+        None => 0,
+    }
+}
+
+/// The place of the end of an index. Pointers to a simple type have its index and a multiple of 256; they have other places.
+fn place_of(index: u32) -> usize
+    ensures { result < 512 }
+{
+    let index = index as usize;
+    (index + index / 256) % KEPT
+}
+
+/// Places without an end.
+fn vacant(alloc: Global) -> Result<Vec<Option<LineEnd>>, AllocError>
+    ensures { IfOk result (λ rows. rows.items ≡ replicate 512 None) }
+{
+    let mut rows = Vec::new(alloc);
+    while rows.len() < KEPT {
+        rows.push(None)?;
+    }
+    Ok(rows)
+}
+
+impl<'x, 'a> KeptEnds<'x, 'a> {
+    ghost use Rattle.pdb_tool.specs.KeptViews.{kept_names, kept_text};
+
+    /// No ends so far, of lines with these names.
+    #[tactic(auto, using(crate::proofs::KeptLemmas::vacant_size, crate::proofs::KeptLemmas::vacant_ends))]
+    pub fn new(alloc: Global, names: LineNames<'x, 'a>) -> Result<Self, AllocError>
+        ensures { IfOk result (λ kept. kept_names kept ≡ names_of_lines names.entry) }
+    {
+        let rows = vacant(alloc)?;
+        Ok(KeptEnds { alloc, names, rows })
+    }
+
+    /// The names at the ends of lines.
+    pub fn names(&self) -> LineNames<'x, 'a>
+        ensures { names_of_lines result ≡ kept_names self.now }
+    {
+        self.names
+    }
+
+    // Whether the end of an index is at its place.
+    fn has(&self, place: usize, index: u32) -> bool
+        ensures { result ≡ true → kept_text self.now place ≡ typed_end (kept_names self.now) (Some (record { 0 = index })) }
+    {
+        match self.rows.get(place) {
+            Some(Some(end)) => end.index == index,
+            _ => false,
+        }
+    }
+
+    // Puts the end of an index at a place.
+    fn fill(&mut self, place: usize, index: u32) -> Result<(), AllocError>
+        requires { place < 512 }
+        ensures names { kept_names self.new ≡ kept_names self.old }
+        ensures kept { OnOk result (kept_text self.new place ≡ typed_end (kept_names self.new) (Some (record { 0 = index }))) }
+    {
+        let end = self.names.end(self.alloc, index)?;
+        self.rows[place] = Some(end);
+        Ok(())
+    }
+
+    /// Where the end of a line behind what has a type is kept from now on.
+    #[tactic(auto, using(crate::proofs::KeptLemmas::end_by_number))]
+    pub fn keep(&mut self, index: Option<TypeIndex>) -> Result<usize, AllocError>
+        ensures names { kept_names self.new ≡ kept_names self.old }
+        ensures kept { IfOk result (λ place. kept_text self.new place ≡ typed_end (kept_names self.new) index) }
+    {
+        let number = number_of_type(index);
+        let place = place_of(number);
+        if !self.has(place, number) {
+            self.fill(place, number)?;
+        }
+        Ok(place)
+    }
+
+    /// The end that is kept at a place; empty where there is none.
+    pub fn at(&self, place: usize) -> &[u8]
+        ensures { result.now ≡ kept_text self.now place }
+    {
+        match self.rows.get(place) {
+            Some(Some(end)) => &end.text,
+            _ => &[],
+        }
+    }
+}
