@@ -8,6 +8,7 @@ pub mod SizeSteps
 pub mod Counts
 pub mod NameSteps
 pub mod MemberSteps
+pub mod MemberFaultSteps
 pub mod MemberLaws
 pub mod OverloadLemmas
 pub mod ModifierSteps

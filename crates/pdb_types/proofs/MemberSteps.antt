@@ -54,7 +54,7 @@ entries_inside = record {
       rw (← ends) (omega (arith, within), omega (arith, within));
 }
 
-entry_first : (b : List ℕ) (p : ℕ) (x : FoundEntry) → entry_at b p ≡ Ok x → Follows (listing entries b p) (x.entry ∷ []) (listing entries b x.end)
+pub entry_first : (b : List ℕ) (p : ℕ) (x : FoundEntry) → entry_at b p ≡ Ok x → Follows (listing entries b p) (x.entry ∷ []) (listing entries b x.end)
 entry_first b p x there =
     let within = entry_inside b p x there in
     let piece : entries.piece b p ≡ Some (x.end - p) = rw there refl in

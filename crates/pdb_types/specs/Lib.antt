@@ -10,6 +10,8 @@ pub mod MemberPlaces
 pub mod MemberLists
 pub mod MemberViews
 pub mod MemberListViews
+pub mod MemberEnds
+pub mod MemberEndViews
 pub mod Overloads
 pub mod OverloadViews
 pub mod Enumerators

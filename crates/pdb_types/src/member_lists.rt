@@ -11,17 +11,17 @@ use pdb_base::{Error, FallibleIterator, Result, Steps, TypeIndex};
 use pdb_items::ItemFinder;
 
 /// How many lists may go on in one another.
-const LISTS: u32 = 1024;
+pub(crate) const LISTS: u32 = 1024;
 
 // The list of an index; 0 is none.
-fn some_list(index: u32) -> Option<u32>
+pub(crate) fn some_list(index: u32) -> Option<u32>
     ensures { result ≡ some_list index }
 {
     if index == 0 { None } else { Some(index) }
 }
 
 // The bytes of the list of an index.
-fn list_bytes<'t>(types: &ItemFinder<'t>, index: u32) -> Option<&'t [u8]>
+pub(crate) fn list_bytes<'t>(types: &ItemFinder<'t>, index: u32) -> Option<&'t [u8]>
     ensures bytes { option_map (λ s. s.now) result ≡ list_bytes (item_with types.now index) }
     ensures size { IfSome result (λ s. (2 ≤ length s.now) × (length s.now < 65536)) }
 {

@@ -1,0 +1,9 @@
+use Rattle.std.proofs.Common.{◌≡◌}
+use Rattle.std.proofs.lemmas.List.Elements.{All-push}
+use Rattle.pdb_types.specs.MemberEndViews.{IsEndIn}
+use Rattle.pdb_types.proofs.member_faults.ends_of.Goals as goal
+
+pub loop-item-preserved : goal.loop-item-preserved
+loop-item-preserved c =
+    let pushed = c.in_ok-push.ensures.items in
+    rw pushed (All-push (IsEndIn c.args.types.now) c.loop-item.ends.items _ c.loop-item.invariant c.list_end-end.ensures)
