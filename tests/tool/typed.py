@@ -517,6 +517,15 @@ def compare_types(what, path):
     wanted = b"".join(line + b"\n" for index in some for line in types.lines(index))
     found = ran("types", path, *(f"{index:x}" for index in some))
     tell((found[0], found[2]) == (0, b"") and found[1] == wanted, f"some types of {what}", found[1][:99])
+    # The lines of `check` on members: the error that ends the members of a type, which `types` puts behind them.
+    wanted = []
+    for index, _ in listed:
+        last = types.lines(index)[-1]
+        if last.startswith(b"  error "):
+            wanted.append(b"%s: type %08x: %s" % (path.encode(), index, last.split(b" ", 4)[4]))
+    status, out, err = ran("check", path)
+    lines = [it for it in out.split(b"\n") if it.startswith(path.encode() + b": type ")]
+    tell((status == 1 or not wanted, err, lines) == (True, b"", wanted), f"check of the members of {what}", (lines[:2], wanted[:2]))
 
 
 def random_index(chance, upto):

@@ -7,12 +7,16 @@ use Rattle.pdb.specs.Container.{stream_of}
 use Rattle.pdb.specs.Data.{Data}
 use Rattle.pdb.specs.Data.Data.{InlineSite}
 use Rattle.pdb.specs.Forms.{record_at}
+use Rattle.pdb.specs.Items.{ItemEntry, items_in}
 use Rattle.pdb.specs.Modules.{ModuleEntry}
 use Rattle.pdb.specs.ModuleStream.{ModuleBytes, exports_of, imports_of, inlinees_of, symbols_of}
 use Rattle.pdb.specs.SymbolList.{Entry}
+use Rattle.pdb_resolve.specs.FileParts.{items_where}
 use Rattle.pdb_text.specs.Digits.{hex}
-use Rattle.pdb_tool.specs.Checks.{contributions_ended_in, ended_by, files_of_module, global_symbols_of_file, has_empty_dbi, ids_in, is_damage, is_said, items_ended_by, items_of, lines_of_module, modules_of_file, names_in, refused}
+use Rattle.pdb_types.specs.FullTypes.{says_of_item}
+use Rattle.pdb_tool.specs.Checks.{contributions_ended_in, ended_by, files_of_module, global_symbols_of_file, has_empty_dbi, ids_in, is_damage, is_said, items_ended_by, items_of, lines_of_module, members_ended_by, modules_of_file, names_in, refused}
 use Rattle.pdb_tool.specs.Findings.{Front, file_front, line_of, module_front, sound_in}
+use Rattle.pdb_tool.specs.TypeLines.{tag_said}
 use Rattle.pdb_tool.specs.declared.options.Form.{Form}
 
 -- where the refusal tells of damage
@@ -120,8 +124,21 @@ abbrev pub unless : Bool → List ℕ → List ℕ
 unless true text = []
 unless false text = text
 
+-- of the fault of the members of a type
+abbrev pub type_text : Front → List ItemEntry → ItemEntry → List ℕ
+type_text front types x = fault_text front (at_index (codes "type ") x.index) (members_ended_by types (tag_said (says_of_item (Some x))))
+
+-- of the members of the types of a stream
+unfoldable pub type_texts : Front → List ℕ → List ℕ
+type_texts front b = flat_map (type_text front (items_where (Some b))) (items_of (items_in b))
+
+-- of a stream of types
+abbrev pub listed_types_text : Front → List ℕ → Result (List ℕ) Error → List ℕ
+listed_types_text front place (Ok b) = fault_text front place (items_ended_by (Ok b)) ++ type_texts front b
+listed_types_text front place (Err e) = fault_text front place (items_ended_by (Err e))
+
 unfoldable pub types_text : Front → List ℕ → List ℕ
-types_text front file = fault_text front (codes "types") (items_ended_by (stream_of file 2 None))
+types_text front file = listed_types_text front (codes "types") (stream_of file 2 None)
 
 -- of ids, where the information stream says that they are there
 unfoldable pub ids_text : Front → List ℕ → List ℕ

@@ -11,11 +11,13 @@ use Rattle.pdb.specs.Header.{header_of}
 use Rattle.pdb.specs.DBIHeader.{DBIHeader}
 use Rattle.pdb.specs.Modules.{ModuleEntry, modules_in}
 use Rattle.pdb.specs.Names.{Name, names_of}
-use Rattle.pdb.specs.Items.{items_in}
+use Rattle.pdb.specs.Items.{ItemEntry, items_in}
 use Rattle.pdb.specs.SymbolList.{Entry, symbols_from}
 use Rattle.pdb.specs.LineInfo.{LineInfo}
 use Rattle.pdb.specs.Lines.{lines_of}
 use Rattle.pdb.specs.Files.{FileOf, files_of}
+use Rattle.pdb_types.specs.MemberLists.{members_of}
+use Rattle.pdb_types.specs.TypeSays.{TagSays}
 use Rattle.pdb.specs.ModuleStream.{ModuleBytes, line_program_of}
 
 -- a refusal tells of damage, unless it says that the file has no such name or no global symbols, or that a kind of symbol has no form
@@ -81,6 +83,11 @@ abbrev pub items_ended_by : Result (List ℕ) Error → Option Error
 items_ended_by (Ok stream) = ended_by (items_in stream)
 items_ended_by (Err (StreamNotFound n)) = None
 items_ended_by (Err e) = Some e
+
+-- the fault of the members of what has a tag; what is only declared has none
+abbrev pub members_ended_by : List ItemEntry → Option TagSays → Option Error
+members_ended_by types None = None
+members_ended_by types (Some tag) = if tag.is_forward then None else (members_of types tag.fields.0).fault
 
 -- whether the information stream says that stream 4 has ids
 unfoldable pub ids_in : List ℕ → Result Bool Error

@@ -10,6 +10,7 @@ ghost use Rattle.pdb_tool.specs.Checks.{contributions_ended_by, contributions_en
 ghost use Rattle.pdb_tool.specs.CheckTexts.{address_map_text, debug_text, fault_text, first_text, frame_table_text, globals_text, ids_text, image_text, items_text, listed_globals_text, lists_text, record_text, sections_text, string_table_text, types_text};
 ghost use Rattle.pdb_tool.specs.declared.stop.Stop.{Stop};
 
+use crate::check_types::put_types;
 use crate::findings::{put_answer, put_end, put_list, put_refusal, put_refused_record};
 use crate::fronts::Front;
 use crate::stop::Stop;
@@ -236,7 +237,7 @@ fn put_listed_globals<'s, S: Source<'s>>(
 }
 
 /// The line of the refusal of a stream of items, unless it isn't there.
-fn put_items_refusal(
+pub(crate) fn put_items_refusal(
     out: &mut Vec<u8>,
     front: &Front<'_>,
     place: &[u8],
@@ -248,23 +249,6 @@ fn put_items_refusal(
     match e {
         Error::StreamNotFound(_) => Ok(()),
         e => put_refusal(out, front, place, e),
-    }
-}
-
-/// The line of the types.
-fn put_types<'s, S: Source<'s>>(
-    pdb: &mut PDB<'s, S>,
-    out: &mut Vec<u8>,
-    front: &Front<'_>,
-    place: &[u8],
-) -> Result<(), Stop>
-    ensures continues { Continues pdb.old pdb.new }
-    ensures text { OnOk result (out.new.items ≡ out.old.items ++ fault_text front.now place.now (items_ended_by (stream_of pdb.old.file 2 None))) }
-    ensures unwritten { IfErr result (λ e. (e ≡ Stop.Memory) ⊎ (e ≡ Stop.Read)) }
-{
-    match pdb.type_information() {
-        Ok(types) => put_list(out, front, place, types.iter()),
-        Err(e) => put_items_refusal(out, front, place, e),
     }
 }
 
@@ -465,9 +449,10 @@ pub(crate) fn put_globals<'s, S: Source<'s>>(
     put_listed_globals(alloc, pdb, out, front, b"global symbols", b"global symbol ")
 }
 
-/// The line of the types.
+/// The lines of the types and their members.
 #[tactic(auto, unfolding(crate::specs::CheckTexts::types_text))]
 fn put_typed<'s, S: Source<'s>>(
+    alloc: Global,
     pdb: &mut PDB<'s, S>,
     out: &mut Vec<u8>,
     front: &Front<'_>,
@@ -476,12 +461,13 @@ fn put_typed<'s, S: Source<'s>>(
     ensures text { OnOk result (out.new.items ≡ out.old.items ++ types_text front.now pdb.old.file) }
     ensures unwritten { IfErr result (λ e. (e ≡ Stop.Memory) ⊎ (e ≡ Stop.Read)) }
 {
-    put_types(pdb, out, front, b"types")
+    put_types(alloc, pdb, out, front, b"types")
 }
 
 /// The lines of the types and the ids.
 #[tactic(auto, unfolding(crate::specs::CheckTexts::items_text))]
 pub(crate) fn put_items<'s, S: Source<'s>>(
+    alloc: Global,
     pdb: &mut PDB<'s, S>,
     out: &mut Vec<u8>,
     front: &Front<'_>,
@@ -490,6 +476,6 @@ pub(crate) fn put_items<'s, S: Source<'s>>(
     ensures text { OnOk result (out.new.items ≡ out.old.items ++ items_text front.now pdb.old.file) }
     ensures unwritten { IfErr result (λ e. (e ≡ Stop.Memory) ⊎ (e ≡ Stop.Read)) }
 {
-    put_typed(pdb, out, front)?;
+    put_typed(alloc, pdb, out, front)?;
     put_ids(pdb, out, front)
 }

@@ -88,7 +88,7 @@ fn put_tables<'s, S: Source<'s>>(
     if !is_empty {
         put_globals(alloc, pdb, out, front)?;
     }
-    put_items(pdb, out, front)
+    put_items(alloc, pdb, out, front)
 }
 
 /// The lines of what is wrong with all but the modules, behind what each of them begins with.

@@ -10,7 +10,7 @@ ghost use Rattle.pdb_tool.specs.Checks.{ended_by, files_of_module, items_of, lin
 ghost use Rattle.pdb_tool.specs.CheckTexts.{at_index, fault_text, lines_text, others_text, parts_text, site_text, symbol_text, symbols_text};
 ghost use Rattle.pdb_tool.specs.declared.stop.Stop.{Stop};
 
-use crate::findings::{put_end, put_refusal, put_refused_record, put_symbol_damage};
+use crate::findings::{put_damage_at, put_end, put_refusal, put_refused_record};
 use crate::fronts::Front;
 use crate::stop::Stop;
 use pdb::{
@@ -30,7 +30,7 @@ fn put_site(
 {
     match site.annotations.iter().count() {
         Ok(_) => Ok(()),
-        Err(e) => put_symbol_damage(alloc, out, front, b" site ", index, e),
+        Err(e) => put_damage_at(alloc, out, front, b" site ", index.0, e),
     }
 }
 

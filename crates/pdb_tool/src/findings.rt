@@ -40,23 +40,23 @@ pub fn put_damage(
     }
 }
 
-/// The same of a symbol: behind the word stands its index.
-pub fn put_symbol_damage(
+/// The same of a symbol or a type: behind the word stands its index.
+pub fn put_damage_at(
     alloc: Global,
     out: &mut Vec<u8>,
     front: &Front<'_>,
     word: &[u8],
-    index: SymbolIndex,
+    index: u32,
     e: Error,
 ) -> Result<(), AllocError>
-    ensures { OnOk result (out.new.items ≡ out.old.items ++ damage_text front.now (at_index word.now index.0) e) }
+    ensures { OnOk result (out.new.items ≡ out.old.items ++ damage_text front.now (at_index word.now index) e) }
 {
     if !is_damage(e) {
         return Ok(());
     }
     let mut place = Vec::new(alloc);
     place.extend_from_slice(word)?;
-    put_hex8(&mut place, index.0)?;
+    put_hex8(&mut place, index)?;
     front.put_line(out, &place, e)
 }
 
@@ -75,7 +75,7 @@ pub fn put_refused_record(
     match e {
         Error::OutOfMemory => Err(Stop::Memory),
         Error::IoError => Err(Stop::Read),
-        e => Ok(put_symbol_damage(alloc, out, front, word, index, e)?),
+        e => Ok(put_damage_at(alloc, out, front, word, index.0, e)?),
     }
 }
 

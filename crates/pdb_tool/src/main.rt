@@ -7,6 +7,7 @@ mod asking;
 mod check_file;
 mod check_front;
 mod check_module;
+mod check_types;
 mod checks;
 mod commands;
 mod depth;

@@ -1,7 +1,7 @@
 //! Tests of `findings`.
 
 use crate::findings::{
-    put_answer, put_damage, put_end, put_list, put_refusal, put_refused_record, put_symbol_damage,
+    put_answer, put_damage, put_damage_at, put_end, put_list, put_refusal, put_refused_record,
 };
 use crate::fronts::Front;
 use crate::options::Form;
@@ -17,16 +17,16 @@ fn what_is_not_there_has_no_line(rt: HostRuntime) -> Result<(), Fail> {
     let front = Front::new(Form::Text, b"a", b"");
     put_damage(&mut out, &front, b"names", Error::StreamNameNotFound)?;
     put_damage(&mut out, &front, b"names", Error::GlobalSymbolsNotFound)?;
-    let (index, kind) = (SymbolIndex(4), Error::UnimplementedSymbolKind(7));
-    put_symbol_damage(rt.alloc(), &mut out, &front, b"symbol ", index, kind)?;
+    let (index, kind) = (4, Error::UnimplementedSymbolKind(7));
+    put_damage_at(rt.alloc(), &mut out, &front, b"symbol ", index, kind)?;
     is(&rt, "out.is_empty()", &out.is_empty(), &true);
     put_damage(&mut out, &front, b"names", Error::AddressMapNotFound)?;
-    put_symbol_damage(
+    put_damage_at(
         rt.alloc(),
         &mut out,
         &Front::new(Form::Text, b"a", b"module 1"),
         b" symbol ",
-        SymbolIndex(0xabc),
+        0xabc,
         Error::UnexpectedEof,
     )?;
     let wanted: &[u8] = b"a: names: the file has no complete address map\n\

@@ -7,6 +7,7 @@ pub mod DefinitionLists
 pub mod SizeSteps
 pub mod Counts
 pub mod NameSteps
+pub mod WrapperSteps
 pub mod MemberSteps
 pub mod MemberFaultSteps
 pub mod MemberLaws

@@ -22,4 +22,5 @@ pub mod SimpleViews
 pub mod FullTypes
 pub mod DefinitionViews
 pub mod TypeTexts
+pub mod Wrappers
 pub mod NameViews

@@ -23,6 +23,7 @@ mod sizes;
 mod tags;
 mod type_data;
 mod whole_name;
+mod wrappers;
 
 pub use declarations::put_declaration;
 pub use definitions::TypeDefinitions;

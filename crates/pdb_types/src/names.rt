@@ -16,9 +16,10 @@ use crate::pieces::{
 };
 use crate::pointer::PointerMode;
 use crate::records::{ArgumentList, Array, Bitfield, MemberFunction, Modifier, Pointer, Procedure};
-use crate::shapes::{Shape, is_right, put_mark, put_member_gap, shape_of};
+use crate::shapes::{Shape, is_right, put_mark, put_member_gap, shape_by, shape_of};
 use crate::simple::put_simple;
 use crate::type_data::TypeData;
+use crate::wrappers::wrapper_of;
 use pdb_base::TypeIndex;
 use pdb_items::ItemFinder;
 use std::alloc::AllocError;
@@ -302,7 +303,7 @@ fn put_back_by(
 
 // What stands behind a declared name.
 #[cycle(pieces)]
-#[tactic(auto, using(crate::proofs::NameSteps::parts_simple, crate::proofs::NameSteps::parts_end, crate::proofs::NameSteps::parts_step, crate::proofs::CutLemmas::cut_none, crate::proofs::CutLemmas::cut_full))]
+#[tactic(auto, using(crate::proofs::NameSteps::parts_simple, crate::proofs::NameSteps::parts_end, crate::proofs::WrapperSteps::back_step, crate::proofs::CutLemmas::cut_none, crate::proofs::CutLemmas::cut_full))]
 pub(crate) fn put_back(
     types: &ItemFinder<'_>,
     full: &TypeDefinitions<'_>,
@@ -317,7 +318,7 @@ pub(crate) fn put_back(
     if index < 0x1000 || depth == 0 || out.len() >= limit {
         return Ok(());
     }
-    let says = type_of(types, index);
+    let says = wrapper_of(types, index);
     put_back_by(types, full, out, limit, says, depth - 1)
 }
 
@@ -364,9 +365,30 @@ fn put_arguments(
     put_arguments_by(types, full, out, limit, says, depth - 1)
 }
 
-// The name of the type of an index.
+// The name of a type that says this.
 #[cycle(pieces)]
 #[tactic(auto, using(crate::proofs::CutLemmas::cut_then, crate::proofs::CutLemmas::cut_none))]
+fn put_name_by(
+    types: &ItemFinder<'_>,
+    full: &TypeDefinitions<'_>,
+    out: &mut Vec<u8>,
+    limit: usize,
+    says: Option<TypeData<'_>>,
+    depth: u32,
+) -> Result<(), AllocError>
+    requires { length out.old.items ≤ limit }
+    ensures { OnOk result (IsCut limit out.old.items (name_in (parts_of types.now (first_definition full.now) depth (parts types.now (first_definition full.now) depth) (option_map shown_type says.entry))) out.new.items) }
+{
+    put_front_by(types, full, out, limit, says, depth)?;
+    if shape_by(types, says, depth).is_function() {
+        put(out, limit, b" ")?;
+    }
+    put_back_by(types, full, out, limit, says, depth)
+}
+
+// The name of the type of an index.
+#[cycle(pieces)]
+#[tactic(auto, using(crate::proofs::NameSteps::parts_simple, crate::proofs::NameSteps::parts_end, crate::proofs::NameSteps::parts_step, crate::proofs::CutLemmas::cut_none, crate::proofs::CutLemmas::cut_full))]
 pub(crate) fn put_name_at(
     types: &ItemFinder<'_>,
     full: &TypeDefinitions<'_>,
@@ -378,11 +400,17 @@ pub(crate) fn put_name_at(
     requires { length out.old.items ≤ limit }
     ensures { OnOk result (IsCut limit out.old.items (name_in (parts types.now (first_definition full.now) depth index)) out.new.items) }
 {
-    put_front(types, full, out, limit, index, depth)?;
-    if shape_of(types, index, depth).is_function() {
-        put(out, limit, b" ")?;
+    if index < 0x1000 {
+        return put_simple(out, limit, index);
     }
-    put_back(types, full, out, limit, index, depth)
+    if depth == 0 {
+        return put(out, limit, b"<...>");
+    }
+    if out.len() >= limit {
+        return Ok(());
+    }
+    let says = type_of(types, index);
+    put_name_by(types, full, out, limit, says, depth - 1)
 }
 
 // The last argument of a list.

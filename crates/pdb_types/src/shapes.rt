@@ -7,9 +7,9 @@ ghost use Rattle.pdb_types.specs.TypeReading.{shown_type};
 ghost use Rattle.pdb_types.specs.TypeTexts.{gap, is_function, is_plain, member_gap, parts, parts_of};
 
 use crate::cuts::put;
-use crate::definitions::type_of;
 use crate::simple::is_simple_pointer;
 use crate::type_data::TypeData;
+use crate::wrappers::wrapper_of;
 use pdb_items::ItemFinder;
 use std::alloc::AllocError;
 
@@ -43,7 +43,7 @@ impl Shape {
 
 // The shape of a type that says this.
 #[cycle(shapes)]
-fn shape_by(types: &ItemFinder<'_>, says: Option<TypeData<'_>>, depth: u32) -> Shape
+pub(crate) fn shape_by(types: &ItemFinder<'_>, says: Option<TypeData<'_>>, depth: u32) -> Shape
     ensures { (first : List ℕ → Option ℕ) → result ≡ (parts_of types.now first depth (parts types.now first depth) (option_map shown_type says.entry)).shape }
 {
     match says {
@@ -56,14 +56,14 @@ fn shape_by(types: &ItemFinder<'_>, says: Option<TypeData<'_>>, depth: u32) -> S
 
 // The shape of the type of an index.
 #[cycle(shapes)]
-#[tactic(auto, using(crate::proofs::NameSteps::parts_simple, crate::proofs::NameSteps::parts_end, crate::proofs::NameSteps::parts_step))]
+#[tactic(auto, using(crate::proofs::NameSteps::parts_simple, crate::proofs::NameSteps::parts_end, crate::proofs::WrapperSteps::shape_step))]
 pub(crate) fn shape_of(types: &ItemFinder<'_>, index: u32, depth: u32) -> Shape
     ensures { (first : List ℕ → Option ℕ) → result ≡ (parts types.now first depth index).shape }
 {
     if index < 0x1000 || depth == 0 {
         return Shape::Plain;
     }
-    let says = type_of(types, index);
+    let says = wrapper_of(types, index);
     shape_by(types, says, depth - 1)
 }
 
@@ -82,7 +82,7 @@ fn is_right_by(types: &ItemFinder<'_>, says: Option<TypeData<'_>>, depth: u32) -
 
 // Whether qualifiers stand behind the front of the type of an index.
 #[cycle(sides)]
-#[tactic(auto, using(crate::proofs::NameSteps::parts_simple, crate::proofs::NameSteps::parts_end, crate::proofs::NameSteps::parts_step))]
+#[tactic(auto, using(crate::proofs::NameSteps::parts_simple, crate::proofs::NameSteps::parts_end, crate::proofs::WrapperSteps::side_step))]
 pub(crate) fn is_right(types: &ItemFinder<'_>, index: u32, depth: u32) -> bool
     ensures { (first : List ℕ → Option ℕ) → result ≡ (parts types.now first depth index).is_right }
 {
@@ -92,7 +92,7 @@ pub(crate) fn is_right(types: &ItemFinder<'_>, index: u32, depth: u32) -> bool
     if depth == 0 {
         return false;
     }
-    let says = type_of(types, index);
+    let says = wrapper_of(types, index);
     is_right_by(types, says, depth - 1)
 }
 

@@ -4,7 +4,7 @@ use super::is;
 use super::support::{few, stream};
 use crate::*;
 use pdb_base::{Error, FallibleIterator, Feature, Result, TypeIndex, Variant};
-use pdb_items::ItemFinder;
+use pdb_items::{ItemFinder, ItemIter};
 use std::alloc::Global;
 use std::process::Abort;
 
@@ -377,4 +377,42 @@ fn a_structure_and_an_enumeration(rt: HostRuntime) -> Result<()> {
         name: b"round",
     };
     gives(&rt, alloc, &[&values], &[round], None)
+}
+
+#[test]
+fn faults_of_lists_that_many_types_have(rt: HostRuntime) -> Result<()> {
+    let alloc = rt.alloc();
+    let table = b"\x09\x14\0\0\x11\0\0\0";
+    let goes_on = list_of(alloc, &[b"\x04\x14\0\0\x01\x10\0\0", table])?;
+    let cut = list_of(alloc, &[table, b"\x09\x14\0"])?;
+    let unknown = list_of(alloc, &[table, b"\x77\x77\0\0"])?;
+    let itself = list_of(alloc, &[table, b"\x04\x14\0\0\x03\x10\0\0"])?;
+    let whole = list_of(alloc, &[table, table])?;
+    let class = b"\x01\x10\x74\0\0\0\x01\0";
+    let bytes = stream(alloc, &[&goes_on, &cut, &unknown, &itself, &whole, class])?;
+    let types = ItemFinder::new(alloc, few(&rt, &bytes))?;
+    let eof = Some(Error::UnexpectedEof);
+    let member = Some(Error::UnimplementedFeature(Feature::SymbolDataFormat));
+    let wanted = [
+        (0, None),
+        (0x1000, eof),
+        (0x1001, eof),
+        (0x1002, member),
+        (0x1003, None),
+        (0x1004, None),
+        (0x1005, eof),
+        (0x1006, eof),
+        (0xfff, eof),
+    ];
+    let faults = MemberFaults::new(alloc, &types, ItemIter::new(few(&rt, &bytes))?)?;
+    for (list, fault) in wanted {
+        is(&rt, "fault", &faults.fault(TypeIndex(list)), &fault);
+    }
+    // The items of another stream take time, and change nothing.
+    let other = stream(alloc, &[class, &whole])?;
+    let faults = MemberFaults::new(alloc, &types, ItemIter::new(few(&rt, &other))?)?;
+    for (list, fault) in wanted {
+        is(&rt, "fault", &faults.fault(TypeIndex(list)), &fault);
+    }
+    Ok(())
 }

@@ -1,12 +1,15 @@
 use Rattle.std.proofs.Common.{rules, ◌≡◌, ◌-◌, arith}
+use Rattle.std.proofs.lemmas.List.{append-nil}
 use Rattle.std.specs.Prelude.{codes}
 use Rattle.std.specs.Fmt.{decimal}
 use Rattle.pdb_items.specs.IdForms.{type_index_of}
 use Rattle.pdb_types.specs.Cuts.{IsCut}
 use Rattle.pdb_types.specs.FullTypes.{first_definition, size_of}
+use Rattle.pdb_types.specs.SimpleTypes.{simple_text}
 use Rattle.pdb_types.specs.TypeReading.{arguments_of}
 use Rattle.pdb_types.specs.TypeTexts.{count_text, name_in, parts, small, small_size}
 use Rattle.pdb_types.proofs.CutLemmas.{cut_none, list_end, list_more, on_four, on_three}
+use Rattle.pdb_types.proofs.NameSteps.{parts_simple}
 use Rattle.pdb_types.proofs.names.+pieces.Goals as goal
 
 pub put_array_back-returns : goal.put_array_back-returns
@@ -35,3 +38,7 @@ put_list-returns t c =
     let done : c.loop-k.k ≡ last = omega (arith, c.loop-k-test.false, c.loop-k.auto.k-end, c.if-count-eq0.false) in
     list_end c.put-3.result c.args.limit (λ j. name_in (parts c.args.types.now (first_definition c.args.full.now) c.args.depth j)) (arguments_of c.args.arguments.now) last (type_index_of 0) _ _ _ _ _
     (omega (arith, c.len-count.ensures, c.if-count-eq0.false)) c.in_ok-put.ensures (rw done at c.loop-k.invariant) (rw c.at-2.ensures at c.in_ok-put_last.ensures) c.put-3.ensures
+
+pub put_name_at-returns-then-index-lt4096 : goal.put_name_at-returns-then-index-lt4096
+put_name_at-returns-then-index-lt4096 t c =
+    rw (parts_simple c.args.types.now (first_definition c.args.full.now) c.args.depth c.args.index c.if-index-lt4096.true, append-nil (simple_text c.args.index)) c.put_simple.ensures

@@ -15,6 +15,9 @@ decreases-put_back l = 16 * l.depth + 0
 abbrev pub decreases-put_name_at : goal.decreases-put_name_at
 decreases-put_name_at l = 16 * l.depth + 1
 
+abbrev pub decreases-put_name_by : goal.decreases-put_name_by
+decreases-put_name_by l = 16 * l.depth + 9
+
 abbrev pub decreases-put_last : goal.decreases-put_last
 decreases-put_last l = 16 * l.depth + 2
 
