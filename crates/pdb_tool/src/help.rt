@@ -271,11 +271,12 @@ const CHECK: &str = "\
 pdb_tool check [--json] FILE..
 
 Reads each FILE to its end and prints what is damaged: FILE, the part, and the error, one line for
-each list, symbol or inlined call that can't be read. A file without damage is `ok`. What a file
-doesn't have is no damage, nor is a kind of symbol that isn't known. The names of files and the
-streams that only other programs know are not read. K counts modules from 0, and symbols have the
-indices that symbols prints. An error of a FILE is printed on standard error. The status is 1 if
-anything is damaged. With --json the part and the error of a FILE without damage are null.
+each list, symbol or inlined call that can't be read, and for each type whose members can't. A file
+without damage is `ok`. What a file doesn't have is no damage, nor is a kind of symbol that isn't
+known. The names of files and the streams that only other programs know are not read. K counts
+modules from 0. Symbols have the indices that symbols prints, and types those that types prints. An
+error of a FILE is printed on standard error. The status is 1 if anything is damaged. With --json
+the part and the error of a FILE without damage are null.
 
   $ pdb_tool check app.pdb damaged.pdb
   app.pdb: ok
