@@ -1,10 +1,12 @@
 //! Finds each id of a file from 0x1000 on. With the words FILE `finder` it tells how many there are, and how many bytes
-//! they have in all; with FILE `qualified` how many have qualified names, and how many bytes these have. It is Rattle's
-//! source, a caller of `pdb`, which `build` puts into a crate of its own.
+//! they have in all; with FILE `qualified` how many have qualified names, and how many bytes these have; with FILE `named`
+//! how many types the file has, and how many bytes their names have. It is Rattle's source, a caller of `pdb`, which
+//! `build` puts into a crate of its own.
 #![tactic(auto)]
 
 use pdb::{
-    IdIndex, IdInformation, ItemFinder, MemorySource, PDB, Result, TypeInformation, qualified_name,
+    IdIndex, IdInformation, ItemFinder, MemorySource, PDB, Result, TypeDefinitions, TypeIndex,
+    TypeInformation, put_name, qualified_name,
 };
 use std::alloc::Global;
 use std::env;
@@ -57,6 +59,26 @@ fn count_names<'t>(ids: &ItemFinder<'t>, types: &ItemFinder<'t>) -> (u32, usize)
     (count, size)
 }
 
+/// How many types there are, and how many bytes their names have.
+fn count_types(
+    alloc: Global,
+    types: &ItemFinder<'_>,
+    definitions: &TypeDefinitions<'_>,
+) -> Result<(u32, usize)> {
+    let (mut count, mut size) = (0u32, 0usize);
+    let mut name = Vec::new(alloc);
+    for index in FIRST..u32::MAX {
+        if types.find(index).is_none() {
+            break;
+        }
+        name.clear();
+        put_name(types, definitions, &mut name, TypeIndex(index))?;
+        count = count.wrapping_add(1);
+        size = size.wrapping_add(name.len());
+    }
+    Ok((count, size))
+}
+
 /// What a word asks for of both streams.
 fn counted<'t>(
     alloc: Global,
@@ -64,6 +86,9 @@ fn counted<'t>(
     ids: &'t IdInformation<'_>,
     types: &'t TypeInformation<'_>,
 ) -> Result<(u32, usize)> {
+    if word == "named" {
+        return count_types(alloc, &types.finder(alloc)?, &types.definitions(alloc)?);
+    }
     let ids = ids.finder(alloc)?;
     if word == "finder" {
         return Ok(count_items(&ids));
@@ -96,7 +121,7 @@ fn bytes_of(rt: &(impl Files + AllocGlobal), name: &str) -> io::Result<Vec<u8>> 
     Ok(bytes)
 }
 
-/// Tells what the words ask for: a file, and a word of the two.
+/// Tells what the words ask for: a file, and a word of the three.
 fn told(rt: &(impl Env + Files + Print + AllocGlobal)) -> io::Result<()> {
     let mut words = env::args(rt)?.skip(1);
     let (Some(name), Some(word)) = (words.next(), words.next()) else {

@@ -3,6 +3,8 @@
 use std::collections::HashMap;
 use std::io::Write;
 
+mod type_names;
+
 fn u16_at(b: &[u8], p: usize) -> u16 {
     u16::from_le_bytes(b[p..p + 2].try_into().unwrap())
 }
@@ -418,6 +420,10 @@ fn main() {
         }
         if word == "finder" {
             finder(&mut out, &Items::new(&file.stream(4)));
+            continue;
+        }
+        if word == "named" || word == "names-of-types" {
+            type_names::named(&mut out, &Items::new(&file.stream(2)), word != "named");
             continue;
         }
         if word == "qualified" {
