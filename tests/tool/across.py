@@ -14,17 +14,16 @@ def padded(data, size):
     return data + bytes(-len(data) % size)
 
 
-def container(streams):
-    """A file of these streams, in pages of 512 bytes: page 1 has the directory's page, which is 2."""
-    pages, lists = [], []
-    for stream in streams:
-        first = 3 + len(pages)
-        pages += [padded(stream, 512)[at : at + 512] for at in range(0, len(stream), 512)]
-        lists.append(range(first, 3 + len(pages)))
-    directory = pack("<I", len(streams)) + b"".join(pack("<I", len(it)) for it in streams) + b"".join(pack("<I", n) for it in lists for n in it)
-    assert len(directory) <= 512
-    head = b"Microsoft C/C++ MSF 7.00\r\n\x1aDS\0\0\0" + pack("<6I", 512, 1, 3 + len(pages), len(directory), 0, 1)
-    return b"".join(padded(it, 512) for it in (head, pack("<I", 2), directory)) + b"".join(pages)
+def container(streams, page=512):
+    """A file of these streams, in pages of this size: page 1 has the numbers of the directory's pages, which stand behind it."""
+    counts = [-(-len(it) // page) for it in streams]
+    size = 4 * (1 + len(streams) + sum(counts))
+    own = -(-size // page)
+    assert 4 * own <= page
+    first = 2 + own
+    directory = pack("<I", len(streams)) + b"".join(pack("<I", len(it)) for it in streams) + pack(f"<{sum(counts)}I", *range(first, first + sum(counts)))
+    head = b"Microsoft C/C++ MSF 7.00\r\n\x1aDS\0\0\0" + pack("<6I", page, 1, first + sum(counts), size, 0, 1)
+    return b"".join(padded(it, page) for it in (head, pack(f"<{own}I", *range(2, first)), directory, *streams))
 
 
 def record(kind, fields):

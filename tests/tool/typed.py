@@ -606,8 +606,31 @@ def random_file(chance):
     return container([b"", numbers(20000404, 1, 2) + bytes(16), random_stream(chance), b"", b""])
 
 
+def file_with(records):
+    """A file whose types are these records."""
+    counted = b"".join(pack("<H", len(it)) + it for it in records)
+    stream = numbers(20040203, 56, 0x1000, 0x1000 + len(records), len(counted)) + bytes(36) + counted
+    return container([b"", numbers(20000404, 1, 2) + bytes(16), stream, b"", b""], 4096)
+
+
+def shared_lists(room):
+    """100,000 classes whose members go through 100 long lists, the last of which has an error: each list is read once, so
+    that some seconds do for what would take hours."""
+    long = b"".join(pack("<HHI", 0x1409, 0, 0x674) for _ in range(2000))
+    chain = [pack("<H", 0x1203) + long + pack("<HHI", 0x1404, 0, 0x1001 + k) for k in range(99)] + [pack("<HH", 0x1203, 0x1409)]
+    tag = pack("<HHHIIIH", 0x1505, 1, 0, 0x1000, 0, 0, 4) + b"S\0"
+    path = f"{room}/shared.pdb"
+    with open(path, "wb") as it:
+        it.write(file_with(chain + [tag] * 100_000))
+    status, out, err = ran("check", path, limit=60)
+    lines = [it for it in out.split(b"\n") if b": type " in it]
+    last = b"%s: type %08x: the data ends before a record does" % (path.encode(), 0x1000 + 100 + 99_999)
+    tell((status, err, len(lines), lines[-1:]) == (1, b"", 100_000, [last]), "check of lists that many types have", (len(lines), lines[-1:]))
+
+
 def types(room):
-    """Real files, those of the folder PDB_FILES, and random records."""
+    """Real files, those of the folder PDB_FILES, random records, and lists that many types have."""
+    shared_lists(room)
     further = sorted(glob.glob(f"{CORPUS}/*.pdb")) if CORPUS else []
     for path in [f"{FILES}/{name}.pdb" for name in REAL] + further:
         compare_types(os.path.basename(path), path)
