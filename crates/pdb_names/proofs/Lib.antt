@@ -1,1 +1,4 @@
-pub mod Appending
+pub mod Eaches
+pub mod Joining
+pub mod Runs
+pub mod Views

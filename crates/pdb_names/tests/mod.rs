@@ -1,3 +1,4 @@
 //! Tests of what no clause says: names and what they spell, from outside.
 
+mod itanium;
 mod names;
