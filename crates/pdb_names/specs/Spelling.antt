@@ -2,6 +2,7 @@
 use Rattle.std.specs.Prelude.{ℕ, List, length, drop, ◌++◌, Bool, not, ◌&&◌, ◌||◌, Option, Some, None, option_map, nat_eq, nat_lt, nat_le, ◌==◌, if◌then◌else◌, codes}
 use Rattle.std.specs.List.{list_all, starts_with}
 use Rattle.pdb_names.specs.CNames.{c_name}
+use Rattle.pdb_names.specs.MicrosoftNames.{microsoft_name}
 use Rattle.pdb_names.specs.Pieces.{◌>>=◌}
 use Rattle.pdb_names.specs.ItaniumNames.{itanium_name}
 
@@ -9,13 +10,14 @@ use Rattle.pdb_names.specs.ItaniumNames.{itanium_name}
 abbrev pub is_allowed : ℕ → Bool
 is_allowed b = nat_le 0x20 b && not (b == 0x7f)
 
--- the name of bytes without a prefix: by the Itanium ABI, or on x86 of C; those of Microsoft's C++ begin with ?
+-- the name of bytes without a prefix: of Microsoft's C++, by the Itanium ABI, or on x86 of C
 unfoldable pub ruled : List ℕ → Bool → Option (List ℕ)
 ruled d x86 =
-    if starts_with nat_eq d (codes "_Z") then itanium_name (drop 2 d)
-    else (if x86 && starts_with nat_eq d (codes "__Z") then itanium_name (drop 3 d)
-    else (if x86 && not (starts_with nat_eq d (codes "?")) then c_name d
-    else None))
+    if starts_with nat_eq d (codes "?") then microsoft_name (drop 1 d)
+    else if starts_with nat_eq d (codes "_Z") then itanium_name (drop 2 d)
+    else if x86 && starts_with nat_eq d (codes "__Z") then itanium_name (drop 3 d)
+    else if x86 then c_name d
+    else None
 
 -- the slot of an import keeps its prefix
 unfoldable pub prefixed : List ℕ → Bool → Option (List ℕ)

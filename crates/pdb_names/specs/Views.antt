@@ -1,11 +1,20 @@
 -- What values of the code stand for in the definitions.
 use Rattle.std.specs.Prelude.{map}
 use Rattle.pdb_names.specs.ItaniumNames as itanium
+use Rattle.pdb_names.specs.MicrosoftNames as microsoft
 use Rattle.pdb_names.specs.RustNames as rust
+use Rattle.pdb_names.specs.SpecialNames as specials
+use Rattle.pdb_names.specs.declared.components.Kept.{Kept}
+use Rattle.pdb_names.specs.declared.components.Reader.{Reader}
+use Rattle.pdb_names.specs.declared.components.Word.{Word}
 use Rattle.pdb_names.specs.declared.itanium_name.Cut.{Cut}
 use Rattle.pdb_names.specs.declared.itanium_name.Parts.{Parts}
 use Rattle.pdb_names.specs.declared.itanium_name.Piece.{Piece}
+use Rattle.pdb_names.specs.declared.microsoft_name.First.{First}
 use Rattle.pdb_names.specs.declared.rust_name.Decoded.{Decoded}
+use Rattle.pdb_names.specs.declared.special_name.Special.{Special}
+
+-- ---- names of the Itanium ABI
 
 abbrev pub decoded_of : Decoded → rust.Decoded
 decoded_of d = rust.decoded d.text.items d.rest.now
@@ -18,3 +27,20 @@ piece_of p = itanium.piece p.text.items p.rest.now
 
 abbrev pub parts_of : Parts → itanium.Parts
 parts_of p = record { texts = map (λ v. v.items) p.texts.items; rest = p.rest.now }
+
+-- ---- names of Microsoft's C++
+
+abbrev pub special_of : Special → specials.Special
+special_of p = specials.special p.text.now p.of_class p.rest.now
+
+abbrev pub kept_of : Kept → microsoft.Kept
+kept_of k = microsoft.pair k.bytes.items k.text.items
+
+abbrev pub word_of : Word → microsoft.Word
+word_of w = record { bytes = w.bytes.now; rest = w.rest.now }
+
+abbrev pub left_of : Reader → microsoft.Left
+left_of r = microsoft.left r.rest.now (map kept_of r.kept.items)
+
+abbrev pub first_of : First → microsoft.First
+first_of f = microsoft.first f.before.items f.of_class f.behind.items (left_of f.reader)

@@ -182,7 +182,7 @@ fn part_at<'d>(alloc: Global, before: Option<&[u8]>, bytes: &'d [u8]) -> Result<
 }
 
 /// The last of some texts.
-#[tactic(auto, using(crate::proofs::Views::text_at))]
+#[tactic(auto, using(crate::proofs::Views::item_at))]
 fn last_of(texts: &[Vec<u8>]) -> Option<&[u8]>
     ensures { option_map (λ x. x.now) result ≡ slice_get (map (λ v. v.items) texts.now) (length texts.now - 1) }
 {

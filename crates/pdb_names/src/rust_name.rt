@@ -32,7 +32,7 @@ fn is_hash(text: &[u8]) -> bool
 }
 
 /// Whether there are several parts, of which the last is a hash.
-#[tactic(auto, using(crate::proofs::Views::text_at))]
+#[tactic(auto, using(crate::proofs::Views::item_at))]
 pub(crate) fn is_hashed(texts: &[Vec<u8>]) -> bool
     ensures { result ≡ hashed_test (map (λ v. v.items) texts.now) }
 {

@@ -8,6 +8,7 @@ ghost use Rattle.pdb_names.specs.Spelling.{is_allowed as allowed_test, prefixed 
 
 use crate::c_name::c_name;
 use crate::itanium_name::itanium_name;
+use crate::microsoft_name::microsoft_name;
 use crate::pieces::Stop;
 use std::alloc::{AllocError, Global};
 
@@ -36,23 +37,25 @@ fn of_c(alloc: Global, decorated: &[u8]) -> Result<Vec<u8>, Stop>
 fn ruled(alloc: Global, decorated: &[u8], x86: bool) -> Result<Vec<u8>, Stop>
     ensures { Gives (λ t. t.items) result (ruled_name decorated.now x86) }
 {
-    if decorated.starts_with(b"_Z") {
+    if decorated.starts_with(b"?") {
+        microsoft_name(alloc, &decorated[1..])
+    } else if decorated.starts_with(b"_Z") {
         itanium_name(alloc, &decorated[2..])
     } else if x86 && decorated.starts_with(b"__Z") {
         itanium_name(alloc, &decorated[3..])
-    } else if x86 && !decorated.starts_with(b"?") {
+    } else if x86 {
         of_c(alloc, decorated)
     } else {
         Err(Stop::NoAnswer)
     }
 }
 
-/// Whether a rule may answer a name: but on x86 each has an underscore first.
+/// Whether a rule may answer a name: but on x86 each has an underscore or a question mark first.
 #[tactic(auto, unfolding(crate::specs::Spelling::spelled, crate::specs::Spelling::prefixed, crate::specs::Spelling::ruled))]
 fn has_rule(decorated: &[u8], x86: bool) -> bool
     ensures { result ≡ false → spelled decorated.now x86 ≡ None }
 {
-    x86 || decorated.first() == Some(&b'_')
+    x86 || decorated.starts_with(b"_") || decorated.starts_with(b"?")
 }
 
 /// The prefix of the slot of an import, which stays.

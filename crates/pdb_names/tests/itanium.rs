@@ -1,28 +1,7 @@
 //! Names as the Itanium C++ ABI decorates them, with what `c++filt` prints for them.
 
-use super::names::is;
-use std::alloc::{AllocError, Global};
-use std::process::Abort;
-
-/// Each name is answered by the text beside it, on all machines.
-fn are(rt: &impl Abort, alloc: Global, names: &[(&[u8], &[u8])]) -> Result<(), AllocError> {
-    for (decorated, wanted) in names {
-        for x86 in [true, false] {
-            is(rt, alloc, decorated, x86, Some(wanted))?;
-        }
-    }
-    Ok(())
-}
-
-/// No rule answers these names, on any machine.
-fn stay(rt: &impl Abort, alloc: Global, names: &[&[u8]]) -> Result<(), AllocError> {
-    for decorated in names {
-        for x86 in [true, false] {
-            is(rt, alloc, decorated, x86, None)?;
-        }
-    }
-    Ok(())
-}
+use super::names::{are, is, stay};
+use std::alloc::AllocError;
 
 #[test]
 fn names_of_several_parts(rt: HostRuntime) -> Result<(), AllocError> {

@@ -21,6 +21,30 @@ pub(crate) fn is(
     Ok(())
 }
 
+/// Each name is answered by the text beside it, on all machines.
+pub(crate) fn are(
+    rt: &impl Abort,
+    alloc: Global,
+    names: &[(&[u8], &[u8])],
+) -> Result<(), AllocError> {
+    for (decorated, wanted) in names {
+        for x86 in [true, false] {
+            is(rt, alloc, decorated, x86, Some(wanted))?;
+        }
+    }
+    Ok(())
+}
+
+/// No rule answers these names, on any machine.
+pub(crate) fn stay(rt: &impl Abort, alloc: Global, names: &[&[u8]]) -> Result<(), AllocError> {
+    for decorated in names {
+        for x86 in [true, false] {
+            is(rt, alloc, decorated, x86, None)?;
+        }
+    }
+    Ok(())
+}
+
 #[test]
 fn names_of_c(rt: HostRuntime) -> Result<(), AllocError> {
     for (decorated, wanted) in [
