@@ -3,7 +3,7 @@ use Rattle.std.proofs.Common.{◌≡◌, ℕ, List, [], ◌∷◌, ◌++◌, map
 use Rattle.std.proofs.lemmas.Grind.{reverse_onto}
 use Rattle.std.proofs.lemmas.List.{map-append}
 
-reversed_of : {X : Type 0} (f : X → List ℕ) (xs : List X) → map f (reverse xs) ≡ reverse (map f xs)
+pub reversed_of : {X : Type 0} (f : X → List ℕ) (xs : List X) → map f (reverse xs) ≡ reverse (map f xs)
 reversed_of f [] = refl
 reversed_of f (x ∷ xs) =
     ap (map f) (reverse_onto xs x [])

@@ -5,7 +5,7 @@ use Rattle.std.specs.List.{list_any, slice_get}
 use Rattle.std.specs.Option.{option_map}
 use Rattle.std.proofs.lemmas.Option.{slice_get-map, slice_get-get_or, slice_get_past}
 use Rattle.std.proofs.lemmas.List.{take-map, length-map}
-use Rattle.pdb_names.specs.MicrosoftNames.{Kept, has_bytes, is_wanted}
+use Rattle.pdb_names.specs.KeptNames.{Kept, has_bytes, is_wanted}
 use Rattle.pdb_names.specs.RustNames.{all_but_last}
 
 pub item_at : {X Y : Type 0} (f : X → Y) (xs : List X) (i : ℕ) (x : X) → i < length xs → x ≡ get_or xs i x → slice_get (map f xs) i ≡ Some (f x)

@@ -1,5 +1,5 @@
 -- What the rules share: steps that may give no answer, pieces up to an end, and texts that are joined.
-use Rattle.std.specs.Prelude.{◌≡◌, ℕ, zero, suc, List, [], ◌∷◌, ◌++◌, Bool, Option, Some, None, option_and_then, Result, Ok, Err, codes, if◌then◌else◌}
+use Rattle.std.specs.Prelude.{◌≡◌, ℕ, zero, suc, List, [], ◌∷◌, ◌++◌, length, Bool, Option, Some, None, option_and_then, Result, Ok, Err, codes, nat_lt, if◌then◌else◌}
 use Rattle.std.specs.List.{join_by}
 use Rattle.pdb_names.specs.declared.pieces.Stop.{Stop}
 use Rattle.pdb_names.specs.declared.pieces.Stop.TheVariants.{NoAnswer, OutOfMemory}
@@ -30,6 +30,10 @@ behind_mark is_first mark now = if is_first then now else now ++ mark
 -- parts of a qualified name in one text
 abbrev pub qualified : List (List ℕ) → List ℕ
 qualified ts = joined (codes "::") ts
+
+-- a name has at most 4,096 bytes, and so has each part of it
+abbrev pub bounded : List ℕ → Option (List ℕ)
+bounded name = if nat_lt 4096 (length name) then None else Some name
 
 -- why there is no value where the definition says this; memory may run out at any time
 abbrev pub Stops : {Y : Type 0} → Stop → Option Y → Type 0

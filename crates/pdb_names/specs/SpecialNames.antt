@@ -1,7 +1,7 @@
 -- Special names of Microsoft's C++: constructors, destructors, operators, and what a compiler makes by itself.
 use Rattle.std.specs.Prelude.{ℕ, ◌==◌, Bool, true, false, List, [], ◌∷◌, Option, Some, None, codes, nat_lt, if◌then◌else◌}
 
-abbrev row : ℕ → List ℕ → ℕ × List ℕ
+abbrev pub row : ℕ → List ℕ → ℕ × List ℕ
 row code text = (code, text)
 
 -- the text in a table by the byte that stands for it

@@ -3,7 +3,7 @@ use Rattle.std.specs.Prelude.{ℕ, List, length, drop, ◌++◌, Bool, not, ◌&
 use Rattle.std.specs.List.{list_all, starts_with}
 use Rattle.pdb_names.specs.CNames.{c_name}
 use Rattle.pdb_names.specs.MicrosoftNames.{microsoft_name}
-use Rattle.pdb_names.specs.Pieces.{◌>>=◌}
+use Rattle.pdb_names.specs.Pieces.{◌>>=◌, bounded}
 use Rattle.pdb_names.specs.ItaniumNames.{itanium_name}
 
 -- a byte that a decorated name may have
@@ -24,10 +24,6 @@ unfoldable pub prefixed : List ℕ → Bool → Option (List ℕ)
 prefixed d x86 =
     if starts_with nat_eq d (codes "__imp_") then option_map (λ name. codes "__imp_" ++ name) (ruled (drop 6 d) x86)
     else ruled d x86
-
--- a name has at most 4,096 bytes
-abbrev pub bounded : List ℕ → Option (List ℕ)
-bounded name = if nat_lt 4096 (length name) then None else Some name
 
 -- the name that a decorated name spells, where a rule answers it
 unfoldable pub spelled : List ℕ → Bool → Option (List ℕ)

@@ -2,12 +2,15 @@
 #![tactic(auto)]
 
 mod c_name;
-mod components;
 mod itanium_name;
 mod microsoft_name;
+mod numbers;
 mod pieces;
+mod reader;
 mod rust_name;
 mod special_name;
 mod spelling;
+mod templates;
+mod type_heads;
 
 pub use spelling::put_name;

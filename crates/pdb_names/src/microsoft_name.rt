@@ -4,14 +4,20 @@ ghost use Rattle.std.specs.Prelude.{◌≡◌, ◌≤◌, ◌||◌, ◌&&◌, []
 ghost use Rattle.std.specs.Char.{is_ascii_digit};
 ghost use Rattle.std.specs.List.{slice_get};
 ghost use Rattle.pdb_names.specs.Pieces.{Gives, qualified};
-ghost use Rattle.pdb_names.specs.MicrosoftNames.{first_at as first_there, first_text as text_of_first, is_kind as kind_test, microsoft_name as name_behind, plain, plain_first as first_of_plain, scoped as scoped_name, special_first as first_of_special, word as word_there};
+ghost use Rattle.pdb_names.specs.KeptNames.{plain, word as word_there};
+ghost use Rattle.pdb_names.specs.MicrosoftNames.{first_at as first_there, first_text as text_of_first, is_kind as kind_test, microsoft_name as name_behind, plain_first as first_of_plain, scoped as scoped_name, special_at as special_first_there, special_first as first_of_special, special_template as template_of_special, template_first as first_of_template};
+ghost use Rattle.pdb_names.specs.Templates.{template as template_at, typ};
 ghost use Rattle.pdb_names.specs.SpecialNames.{special_name as special_there};
 ghost use Rattle.pdb_names.specs.Views.{first_of, special_of, word_of};
 
-use crate::components::{Reader, begins_with_digit, first_word};
 use crate::pieces::{Stop, joined};
+use crate::reader::{Reader, Text, begins_with_digit, first_word};
 use crate::special_name::{Special, special_name};
+use crate::templates::{arguments, template};
 use std::alloc::Global;
+
+/// How deep types stand in one another at most.
+const LEVELS: u32 = 16;
 
 /// The first component: its text, whether that of its class stands behind it, and what stands behind both.
 #[derive(Drop)]
@@ -23,7 +29,6 @@ pub(crate) struct First<'d> {
 }
 
 /// A plain name as the first component.
-#[tactic(auto, unfolding(crate::specs::MicrosoftNames::first_at))]
 fn plain_first(alloc: Global, bytes: &[u8]) -> Result<First<'_>, Stop>
     ensures { Gives first_of result (option_and_then (λ w. option_map first_of_plain (plain [] w)) (word_there bytes.now)) }
 {
@@ -58,16 +63,70 @@ fn special_first(alloc: Global, name: Special<'_>) -> Result<First<'_>, Stop>
     })
 }
 
+/// A special name with arguments as the first component.
+#[tactic(auto, unfolding(crate::specs::MicrosoftNames::special_template))]
+fn special_template(alloc: Global, name: Special<'_>) -> Result<First<'_>, Stop>
+    ensures { Gives first_of result (template_of_special (typ 16) (special_of name.entry)) }
+{
+    let reader = Reader {
+        rest: name.rest,
+        kept: Vec::new(alloc),
+    };
+    let Text { text, rest } = arguments(alloc, reader, LEVELS)?;
+    Ok(First {
+        before: Vec::from_slice(alloc, name.text)?,
+        of_class: name.of_class,
+        behind: text,
+        reader: Reader {
+            rest,
+            kept: Vec::new(alloc),
+        },
+    })
+}
+
+/// A template as the first component, which isn't kept.
+fn template_first(alloc: Global, bytes: &[u8]) -> Result<First<'_>, Stop>
+    ensures { Gives first_of result (option_map first_of_template (template_at (typ 16) bytes.now)) }
+{
+    let Text { text, rest } = template(alloc, bytes, LEVELS)?;
+    Ok(First {
+        before: text,
+        of_class: false,
+        behind: Vec::new(alloc),
+        reader: Reader {
+            rest,
+            kept: Vec::new(alloc),
+        },
+    })
+}
+
+/// The first component that begins with a question mark.
+fn special_at(alloc: Global, bytes: &[u8]) -> Result<First<'_>, Stop>
+    requires { 1 ≤ length bytes.now }
+    ensures { Gives first_of result (special_first_there (typ 16) bytes.now) }
+{
+    if bytes.starts_with(b"?$?") {
+        let Some(name) = special_name(&bytes[3..]) else {
+            return Err(Stop::NoAnswer);
+        };
+        return special_template(alloc, name);
+    }
+    if bytes.starts_with(b"?$") {
+        return template_first(alloc, &bytes[2..]);
+    }
+    let Some(name) = special_name(&bytes[1..]) else {
+        return Err(Stop::NoAnswer);
+    };
+    special_first(alloc, name)
+}
+
 /// The first component, which stands behind a question mark.
 #[tactic(auto, unfolding(crate::specs::MicrosoftNames::first_at))]
 fn first_at(alloc: Global, bytes: &[u8]) -> Result<First<'_>, Stop>
-    ensures { Gives first_of result (first_there bytes.now) }
+    ensures { Gives first_of result (first_there (typ 16) bytes.now) }
 {
     if bytes.starts_with(b"?") {
-        let Some(name) = special_name(&bytes[1..]) else {
-            return Err(Stop::NoAnswer);
-        };
-        return special_first(alloc, name);
+        return special_at(alloc, bytes);
     }
     if begins_with_digit(bytes) {
         return Err(Stop::NoAnswer);
@@ -138,7 +197,7 @@ pub(crate) fn microsoft_name(alloc: Global, bytes: &[u8]) -> Result<Vec<u8>, Sto
         behind,
         mut reader,
     } = first_at(alloc, bytes)?;
-    let texts = reader.components(alloc)?;
+    let texts = reader.components(alloc, LEVELS)?;
     if !is_kind(reader.rest) {
         return Err(Stop::NoAnswer);
     }

@@ -3,3 +3,4 @@
 mod itanium;
 mod microsoft;
 mod names;
+mod templates;

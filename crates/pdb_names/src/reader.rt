@@ -1,9 +1,9 @@
-//! Components of names of Microsoft's C++, and the table of those that are kept for back-references.
+//! What is left to read of a name of Microsoft's C++, and the table of names that are kept for back-references.
 
 ghost use Rattle.std.specs.Prelude.{◌≡◌, ◌-◌, ◌+◌, ◌<◌, ◌≤◌, ◌==◌, length, map, option_map, position, IfSome, OnOk, Some, slice_index, IsTrue};
 ghost use Rattle.std.specs.List.{list_any, slice_get};
 ghost use Rattle.pdb_names.specs.Pieces.{Gives};
-ghost use Rattle.pdb_names.specs.MicrosoftNames.{again as repeated, all_components as all_of, begins_with_digit as digit_test, component as component_at, components as components_at, got, has_bytes, is_wanted, left, listed, one_more as one_more_of, plain as plain_name, unnamed as unnamed_space, with_pair, word as word_there};
+ghost use Rattle.pdb_names.specs.KeptNames.{again as repeated, begins_with_digit as digit_test, got, has_bytes, is_wanted, left, plain as plain_name, unnamed as unnamed_space, with_pair, word as word_there};
 ghost use Rattle.pdb_names.specs.Views.{kept_of, left_of, word_of};
 
 use crate::c_name::is_name;
@@ -30,6 +30,13 @@ pub(crate) struct Word<'d> {
     pub rest: &'d [u8],
 }
 
+/// A text that bytes spell, and the bytes behind them.
+#[derive(Drop)]
+pub(crate) struct Text<'d> {
+    pub text: Vec<u8>,
+    pub rest: &'d [u8],
+}
+
 /// The index of the first `@`.
 fn first_at_sign(bytes: &[u8]) -> Option<usize>
     ensures at { result ≡ position (λ x. x == 64) bytes.now }
@@ -39,7 +46,7 @@ fn first_at_sign(bytes: &[u8]) -> Option<usize>
 }
 
 /// The bytes up to the first `@`.
-#[tactic(auto, unfolding(crate::specs::MicrosoftNames::word))]
+#[tactic(auto, unfolding(crate::specs::KeptNames::word))]
 pub(crate) fn first_word(bytes: &[u8]) -> Option<Word<'_>>
     ensures said { option_map word_of result ≡ word_there bytes.now }
     ensures shorter { IfSome result (λ w. length w.rest.now < length bytes.now) }
@@ -78,7 +85,7 @@ impl<'d> Reader<'d> {
     }
 
     /// Whether fewer than ten are kept, and not these bytes.
-    #[tactic(auto, unfolding(crate::specs::MicrosoftNames::is_wanted), using(crate::proofs::Views::wanted_of))]
+    #[tactic(auto, unfolding(crate::specs::KeptNames::is_wanted), using(crate::proofs::Views::wanted_of))]
     fn wants(&self, bytes: &[u8]) -> bool
         ensures { result ≡ is_wanted bytes.now (map kept_of self.now.kept.items) }
     {
@@ -86,7 +93,7 @@ impl<'d> Reader<'d> {
     }
 
     /// Keeps bytes and the text that they spell, unless ten are kept, or these bytes.
-    #[tactic(auto, unfolding(crate::specs::MicrosoftNames::with_pair))]
+    #[tactic(auto, unfolding(crate::specs::KeptNames::with_pair))]
     pub(crate) fn keep(&mut self, alloc: Global, bytes: &[u8], text: &[u8]) -> Result<(), Stop>
         ensures said { Gives (λ _. left_of self.new) result (Some (left self.old.rest.now (with_pair bytes.now text.now (map kept_of self.old.kept.items)))) }
         ensures same { self.new.rest.now ≡ self.old.rest.now }
@@ -112,7 +119,7 @@ impl<'d> Reader<'d> {
     }
 
     /// The text that a digit refers back to.
-    fn again(&mut self, alloc: Global) -> Result<Vec<u8>, Stop>
+    pub(crate) fn again(&mut self, alloc: Global) -> Result<Vec<u8>, Stop>
         requires { 1 ≤ length self.old.rest.now }
         ensures said { Gives (λ t. got t.items (left_of self.new)) result (repeated (slice_get (map kept_of self.old.kept.items) (slice_index self.old.rest.now 0 - 48)) (left_of self.old)) }
         ensures shorter { OnOk result (length self.new.rest.now < length self.old.rest.now) }
@@ -140,67 +147,12 @@ impl<'d> Reader<'d> {
     }
 
     /// An anonymous namespace.
-    fn unnamed(&mut self, alloc: Global, name: Word<'d>) -> Result<Vec<u8>, Stop>
+    pub(crate) fn unnamed(&mut self, alloc: Global, name: Word<'d>) -> Result<Vec<u8>, Stop>
         ensures said { Gives (λ t. got t.items (left_of self.new)) result (unnamed_space (map kept_of self.old.kept.items) (word_of name.entry)) }
         ensures behind { OnOk result (self.new.rest.now ≡ name.entry.rest.now) }
     {
         self.keep(alloc, name.bytes, UNNAMED)?;
         self.rest = name.rest;
         Ok(Vec::from_slice(alloc, UNNAMED)?)
-    }
-
-    /// A component at the front.
-    #[tactic(auto, unfolding(crate::specs::MicrosoftNames::component))]
-    fn component(&mut self, alloc: Global) -> Result<Vec<u8>, Stop>
-        ensures said { Gives (λ t. got t.items (left_of self.new)) result (component_at (left_of self.old)) }
-        ensures shorter { OnOk result (length self.new.rest.now < length self.old.rest.now) }
-    {
-        if begins_with_digit(self.rest) {
-            return self.again(alloc);
-        }
-        let Some(name) = first_word(self.rest) else {
-            return Err(Stop::NoAnswer);
-        };
-        if self.rest.starts_with(b"?A") {
-            self.unnamed(alloc, name)
-        } else {
-            self.plain(alloc, name)
-        }
-    }
-
-    /// One component more.
-    #[tactic(auto, unfolding(crate::specs::MicrosoftNames::one_more))]
-    fn one_more(&mut self, alloc: Global, texts: &mut Vec<Vec<u8>>) -> Result<(), Stop>
-        ensures said { Gives (λ _. listed (map (λ v. v.items) texts.new.items) (left_of self.new)) result (one_more_of (listed (map (λ v. v.items) texts.old.items) (left_of self.old))) }
-        ensures shorter { OnOk result (length self.new.rest.now < length self.old.rest.now) }
-    {
-        let text = self.component(alloc)?;
-        texts.push(text)?;
-        Ok(())
-    }
-
-    /// Components up to an `@`.
-    #[tactic(auto, unfolding(crate::specs::MicrosoftNames::all_components), using(crate::proofs::Runs::run_start, crate::proofs::Runs::run_step, crate::proofs::Runs::run_end, crate::proofs::Runs::run_stop))]
-    fn all_components(&mut self, alloc: Global, texts: &mut Vec<Vec<u8>>) -> Result<(), Stop>
-        ensures said { Gives (λ _. listed (map (λ v. v.items) texts.new.items) (left_of self.new)) result (all_of (listed (map (λ v. v.items) texts.old.items) (left_of self.old))) }
-        ensures shorter { OnOk result (length self.new.rest.now ≤ length self.old.rest.now) }
-        ensures ended { OnOk result (1 ≤ length self.new.rest.now) }
-    {
-        while !self.rest.starts_with(b"@") {
-            self.one_more(alloc, texts)?;
-        }
-        Ok(())
-    }
-
-    /// The texts of components up to an `@`, which is passed over.
-    #[tactic(auto, unfolding(crate::specs::MicrosoftNames::components))]
-    pub(crate) fn components(&mut self, alloc: Global) -> Result<Vec<Vec<u8>>, Stop>
-        ensures said { Gives (λ ts. listed (map (λ v. v.items) ts.items) (left_of self.new)) result (components_at (left_of self.old)) }
-        ensures shorter { OnOk result (length self.new.rest.now < length self.old.rest.now) }
-    {
-        let mut texts = Vec::new(alloc);
-        self.all_components(alloc, &mut texts)?;
-        self.rest = &self.rest[1..];
-        Ok(texts)
     }
 }
