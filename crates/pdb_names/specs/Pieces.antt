@@ -9,7 +9,7 @@ infixl 10 ◌>>=◌
 abbrev pub ◌>>=◌ : {A B : Type 0} → Option A → (A → Option B) → Option B
 o >>= f = option_and_then f o
 
--- piece behind piece, up to where an end stands: at most n
+-- piece behind piece, up to where an end stands: at most n. Each takes a byte, so one more than are left are enough
 unfoldable pub until : {S : Type 0} → (S → Bool) → (S → Option S) → ℕ → S → Option S
 until is_end piece zero s = None
 until is_end piece (suc n) s = if is_end s then Some s else option_and_then (until is_end piece n) (piece s)
