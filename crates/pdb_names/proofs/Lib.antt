@@ -1,1 +1,7 @@
-pub mod Appending
+pub mod Eaches
+pub mod Hex
+pub mod Joining
+pub mod Levels
+pub mod Reversing
+pub mod Runs
+pub mod Views

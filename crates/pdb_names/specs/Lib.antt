@@ -1,3 +1,12 @@
 pub mod CNames
 pub mod ItaniumNames
+pub mod KeptNames
+pub mod MicrosoftNames
+pub mod Numbers
+pub mod Pieces
+pub mod RustNames
+pub mod SpecialNames
 pub mod Spelling
+pub mod Templates
+pub mod TypeHeads
+pub mod Views

@@ -27,7 +27,7 @@ fn has_no_question_mark(bytes: &[u8]) -> bool
 }
 
 /// Whether the bytes are a name: at least one, and none of them a question mark.
-fn is_name(bytes: &[u8]) -> bool
+pub(crate) fn is_name(bytes: &[u8]) -> bool
     ensures { result ≡ name_test bytes.now }
 {
     !bytes.is_empty() && has_no_question_mark(bytes)

@@ -3,6 +3,14 @@
 
 mod c_name;
 mod itanium_name;
+mod microsoft_name;
+mod numbers;
+mod pieces;
+mod reader;
+mod rust_name;
+mod special_name;
 mod spelling;
+mod templates;
+mod type_heads;
 
 pub use spelling::put_name;

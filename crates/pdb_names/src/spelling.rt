@@ -1,16 +1,18 @@
 //! The name that a decorated name spells.
 
-ghost use Rattle.std.specs.Prelude.{◌≡◌, ◌++◌, [], false, None, take, option_map, OnOk, OnErr, IfOk, is_some};
+ghost use Rattle.std.specs.Prelude.{◌≡◌, ◌++◌, false, None, length, nat_lt, option_map, OnOk, OnErr, IfOk, is_some};
 ghost use Rattle.std.specs.List.{list_all};
 ghost use Rattle.pdb_names.specs.CNames.{c_name as name_of_c};
-ghost use Rattle.pdb_names.specs.ItaniumNames.{behind};
-ghost use Rattle.pdb_names.specs.Spelling.{is_allowed as allowed_test, ruled as ruled_name, spelled, text_of};
+ghost use Rattle.pdb_names.specs.Pieces.{Gives};
+ghost use Rattle.pdb_names.specs.Spelling.{is_allowed as allowed_test, prefixed as prefixed_name, ruled as ruled_name, spelled, text_of};
 
 use crate::c_name::c_name;
-use crate::itanium_name::{Name, itanium_name};
-use std::alloc::AllocError;
+use crate::itanium_name::itanium_name;
+use crate::microsoft_name::microsoft_name;
+use crate::pieces::Stop;
+use std::alloc::{AllocError, Global};
 
-/// How many bytes a decorated name has at most.
+/// How many bytes a name has at most, decorated or not.
 const MOST: usize = 4096;
 
 /// Whether a decorated name may have these bytes: none is below 0x20 or 0x7f.
@@ -21,89 +23,71 @@ fn is_allowed(decorated: &[u8]) -> bool
 }
 
 /// The name of a C function on x86.
-#[tactic(auto, unfolding(crate::specs::Spelling::ruled))]
-fn of_c(decorated: &[u8]) -> Option<Name<'_>>
-    ensures { option_map (λ n. n.scope.now ++ n.name.now) result ≡ behind [] (name_of_c decorated.now) }
+fn of_c(alloc: Global, decorated: &[u8]) -> Result<Vec<u8>, Stop>
+    ensures { Gives (λ t. t.items) result (name_of_c decorated.now) }
 {
-    let name = c_name(decorated)?;
-    Some(Name { scope: b"", name })
+    match c_name(decorated) {
+        Some(name) => Ok(Vec::from_slice(alloc, name)?),
+        None => Err(Stop::NoAnswer),
+    }
 }
 
 /// The name of bytes without a prefix.
 #[tactic(auto, unfolding(crate::specs::Spelling::ruled))]
-fn ruled(decorated: &[u8], x86: bool) -> Option<Name<'_>>
-    ensures { option_map (λ n. n.scope.now ++ n.name.now) result ≡ ruled_name decorated.now x86 }
+fn ruled(alloc: Global, decorated: &[u8], x86: bool) -> Result<Vec<u8>, Stop>
+    ensures { Gives (λ t. t.items) result (ruled_name decorated.now x86) }
 {
-    if decorated.starts_with(b"_Z") {
-        itanium_name(&decorated[2..])
+    if decorated.starts_with(b"?") {
+        microsoft_name(alloc, &decorated[1..])
+    } else if decorated.starts_with(b"_Z") {
+        itanium_name(alloc, &decorated[2..])
     } else if x86 && decorated.starts_with(b"__Z") {
-        itanium_name(&decorated[3..])
-    } else if x86 && !decorated.starts_with(b"?") {
-        of_c(decorated)
+        itanium_name(alloc, &decorated[3..])
+    } else if x86 {
+        of_c(alloc, decorated)
     } else {
-        None
+        Err(Stop::NoAnswer)
     }
 }
 
-/// Whether a rule may answer a name: but on x86 each has an underscore first.
-#[tactic(auto, unfolding(crate::specs::Spelling::spelled, crate::specs::Spelling::ruled))]
+/// Whether a rule may answer a name: but on x86 each has an underscore or a question mark first.
+#[tactic(auto, unfolding(crate::specs::Spelling::spelled, crate::specs::Spelling::prefixed, crate::specs::Spelling::ruled))]
 fn has_rule(decorated: &[u8], x86: bool) -> bool
     ensures { result ≡ false → spelled decorated.now x86 ≡ None }
 {
-    x86 || decorated.first() == Some(&b'_')
+    x86 || decorated.starts_with(b"_") || decorated.starts_with(b"?")
 }
 
 /// The prefix of the slot of an import, which stays.
 const IMPORTED: &[u8; 6] = b"__imp_";
 
-/// A prefix that stays, and the name behind it.
-#[derive(Clone, Copy)]
-struct Spelled<'d> {
-    prefix: &'d [u8],
-    name: Name<'d>,
+/// The name of bytes, with the prefix of an import that they have.
+#[tactic(auto, unfolding(crate::specs::Spelling::prefixed))]
+fn prefixed(alloc: Global, decorated: &[u8], x86: bool) -> Result<Vec<u8>, Stop>
+    ensures { Gives (λ t. t.items) result (prefixed_name decorated.now x86) }
+{
+    if !decorated.starts_with(IMPORTED) {
+        return ruled(alloc, decorated, x86);
+    }
+    let name = ruled(alloc, &decorated[6..], x86)?;
+    let mut whole = Vec::from_slice(alloc, IMPORTED)?;
+    whole.extend_from_slice(&name)?;
+    Ok(whole)
 }
 
 /// The name that a decorated name spells, where a rule answers it.
 #[tactic(auto, unfolding(crate::specs::Spelling::spelled))]
-fn spell(decorated: &[u8], x86: bool) -> Option<Spelled<'_>>
-    ensures { option_map (λ s. s.prefix.now ++ (s.name.scope.now ++ s.name.name.now)) result ≡ spelled decorated.now x86 }
+fn spell(alloc: Global, decorated: &[u8], x86: bool) -> Result<Vec<u8>, Stop>
+    ensures { Gives (λ t. t.items) result (spelled decorated.now x86) }
 {
     if !has_rule(decorated, x86) || decorated.len() > MOST || !is_allowed(decorated) {
-        return None;
+        return Err(Stop::NoAnswer);
     }
-    if decorated.starts_with(IMPORTED) {
-        let name = ruled(&decorated[6..], x86)?;
-        return Some(Spelled {
-            prefix: IMPORTED,
-            name,
-        });
+    let name = prefixed(alloc, decorated, x86)?;
+    if name.len() > MOST {
+        return Err(Stop::NoAnswer);
     }
-    let name = ruled(decorated, x86)?;
-    Some(Spelled { prefix: b"", name })
-}
-
-/// Appends a text, or cuts `out` off at `start`.
-fn put(out: &mut Vec<u8>, start: usize, text: &[u8]) -> Result<(), AllocError>
-    ensures ok { OnOk result (out.new.items ≡ out.old.items ++ text.now) }
-    ensures err { OnErr result (out.new.items ≡ take start out.old.items) }
-{
-    if let Err(e) = out.extend_from_slice(text) {
-        out.truncate(start);
-        return Err(e);
-    }
-    Ok(())
-}
-
-/// Appends a prefix and a name, or leaves `out` as it was.
-#[tactic(auto, using(crate::proofs::Appending::appended, crate::proofs::Appending::taken_0, crate::proofs::Appending::taken_1, crate::proofs::Appending::taken_2))]
-fn put_all(out: &mut Vec<u8>, spelled: Spelled<'_>) -> Result<(), AllocError>
-    ensures ok { OnOk result (out.new.items ≡ out.old.items ++ (spelled.entry.prefix.now ++ (spelled.entry.name.scope.now ++ spelled.entry.name.name.now))) }
-    ensures err { OnErr result (out.new.items ≡ out.old.items) }
-{
-    let start = out.len();
-    put(out, start, spelled.prefix)?;
-    put(out, start, spelled.name.scope)?;
-    put(out, start, spelled.name.name)
+    Ok(name)
 }
 
 /// Appends the name that a decorated name spells, or its bytes as they are. The result is whether a rule answered.
@@ -113,14 +97,16 @@ pub fn put_name(out: &mut Vec<u8>, decorated: &[u8], x86: bool) -> Result<bool, 
     ensures answered { IfOk result (λ is_answered. is_answered ≡ is_some (spelled decorated.now x86)) }
     ensures err { OnErr result (out.new.items ≡ out.old.items) }
 {
-    match spell(decorated, x86) {
-        Some(spelled) => {
-            put_all(out, spelled)?;
+    let alloc = *out.allocator();
+    match spell(alloc, decorated, x86) {
+        Ok(name) => {
+            out.extend_from_slice(&name)?;
             Ok(true)
         }
-        None => {
+        Err(Stop::NoAnswer) => {
             out.extend_from_slice(decorated)?;
             Ok(false)
         }
+        Err(Stop::OutOfMemory) => Err(AllocError),
     }
 }

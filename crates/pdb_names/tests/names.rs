@@ -5,7 +5,7 @@ use std::alloc::{AllocError, Global};
 use std::process::Abort;
 
 /// A name is put behind what is there, and whether a rule answered it is returned.
-fn is(
+pub(crate) fn is(
     rt: &impl Abort,
     alloc: Global,
     decorated: &[u8],
@@ -18,6 +18,30 @@ fn is(
     text.extend_from_slice(wanted.unwrap_or(decorated))?;
     assert!(rt; is_answered == wanted.is_some(), "{decorated:?}");
     assert!(rt; out == text, "{decorated:?}: {out:?}");
+    Ok(())
+}
+
+/// Each name is answered by the text beside it, on all machines.
+pub(crate) fn are(
+    rt: &impl Abort,
+    alloc: Global,
+    names: &[(&[u8], &[u8])],
+) -> Result<(), AllocError> {
+    for (decorated, wanted) in names {
+        for x86 in [true, false] {
+            is(rt, alloc, decorated, x86, Some(wanted))?;
+        }
+    }
+    Ok(())
+}
+
+/// No rule answers these names, on any machine.
+pub(crate) fn stay(rt: &impl Abort, alloc: Global, names: &[&[u8]]) -> Result<(), AllocError> {
+    for decorated in names {
+        for x86 in [true, false] {
+            is(rt, alloc, decorated, x86, None)?;
+        }
+    }
     Ok(())
 }
 
@@ -74,8 +98,6 @@ fn names_that_no_rule_answers(rt: HostRuntime) -> Result<(), AllocError> {
         b"_f\x7f",
         b"?bar@D@@WBA@EAAXXZ",
         b"__imp_f",
-        b"_ZNSt9exceptionD1Ev",
-        b"_ZN4core3fmt9Formatter3pad17h0123456789abcdefE",
         b"_Z1fIiEvT_",
         b"_Z1fB5cxx11v",
         b"_Z01fv",
