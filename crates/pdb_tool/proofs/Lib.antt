@@ -13,6 +13,7 @@ pub mod WrittenSoFar
 pub mod TypeLists
 pub mod FirstTexts
 pub mod Patterns
+pub mod PublicNames
 pub mod SomeWord
 pub mod Colons
 pub mod SameSizes

@@ -224,3 +224,9 @@ begun pattern name star h o =
 pub not_begun : (b : Bool) (pattern name : List ℕ) (star : ℕ) → FirstStar pattern star → b ≡ false → (IsTrue b ↔ OccursAt name (take star pattern) 0) → b ≡ matches pattern name
 not_begun b pattern name star h e o =
     no_first_piece b (take star pattern) (42 ∷ drop (star + 1) pattern) name (no_star pattern star h.0.before) e o ∙ ap (λ l. matches l name) (by_star pattern star h.0.high h.1)
+
+-- ---- a star alone
+
+pub star_alone : (name : List ℕ) → matches (42 ∷ []) name ≡ true
+star_alone [] = refl
+star_alone (b ∷ name) = star_alone name

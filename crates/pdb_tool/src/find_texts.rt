@@ -47,7 +47,7 @@ fn put_public_found(
 }
 
 /// The line of a public symbol, where one of its names is asked for.
-#[tactic(auto, unfolding(crate::specs::FindTexts::public_line))]
+#[tactic(auto, unfolding(crate::specs::FindTexts::public_line), using(crate::proofs::PublicNames::as_it_is))]
 fn put_public(
     out: &mut Vec<u8>,
     finder: &Finder<'_, '_>,
@@ -59,7 +59,9 @@ fn put_public(
     ensures { OnOk result (out.new.items ≡ out.old.items ++ public_line finder.now place name.now (text_of name.now (spelled name.now x86))) }
 {
     spells.clear();
-    put_name(spells, name, x86)?;
+    if !put_name(spells, name, x86)? {
+        return finder.put_if_asked(out, b"public", place, None, name);
+    }
     if finder.is_asked(spells) || finder.is_asked(name) {
         put_public_found(out, finder, place, name, spells)
     } else {

@@ -1,6 +1,6 @@
 //! Names that match a pattern.
 
-ghost use Rattle.std.specs.Prelude.{◌≡◌};
+ghost use Rattle.std.specs.Prelude.{◌≡◌, ◌∷◌, [], true};
 ghost use Rattle.pdb_tool.specs.Wildcards.{from_somewhere, matches};
 
 use bstr::ByteSlice;
@@ -22,10 +22,20 @@ fn matches_somewhere(pattern: &[u8], name: &[u8]) -> bool
     }
 }
 
+/// Whether a pattern is a star alone: every name matches it, so that no byte needs to be read.
+fn is_star(pattern: &[u8]) -> bool
+    ensures { result ≡ true → pattern.now ≡ 42 ∷ [] }
+{
+    pattern == b"*".as_slice()
+}
+
 /// Whether a name matches a pattern: `*` stands for any bytes, also none, and each other byte for itself.
 pub fn matches(pattern: &[u8], name: &[u8]) -> bool
     ensures { result ≡ matches pattern.now name.now }
 {
+    if is_star(pattern) {
+        return true;
+    }
     match pattern.find_byte(STAR) {
         None => name == pattern,
         Some(star) => {

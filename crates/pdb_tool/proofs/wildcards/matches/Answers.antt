@@ -1,6 +1,11 @@
-use Rattle.std.proofs.Common.{◌∙◌, refl}
-use Rattle.pdb_tool.proofs.Patterns.{begun, not_begun, no_star_at_all, whole_name}
+use Rattle.std.proofs.Common.{◌∙◌, refl, sym}
+use Rattle.pdb_tool.proofs.Patterns.{begun, not_begun, no_star_at_all, star_alone, whole_name}
 use Rattle.pdb_tool.proofs.wildcards.matches.Goals as goal
+
+pub returns-then-is_star : goal.returns-then-is_star
+returns-then-is_star c =
+    let star = c.is_star.ensures c.if-is_star.true in
+    rw star (sym (star_alone c.args.name.now))
 
 pub returns-in-None : goal.returns-in-None
 returns-in-None c = c.eq.ensures ∙ whole_name c.args.pattern.now c.args.name.now (no_star_at_all _ c.in-None.ensures)
