@@ -24,6 +24,7 @@ pub mod StreamNames
 pub mod JsonValues
 pub mod ReadBack
 pub mod FoundReadBack
+pub mod ListReadBack
 pub mod OpenScopes
 pub mod GlobalKinds
 pub mod ScopeLines

@@ -39,6 +39,7 @@ mod kind_names;
 mod line_names;
 mod line_texts;
 mod list_help;
+mod list_laws;
 mod lookups;
 mod member_texts;
 mod mistakes;
