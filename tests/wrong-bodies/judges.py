@@ -11,8 +11,12 @@ TYPE = re.compile(r"(?m)^(pub(?:\([a-z]+\))? )?(?:struct|enum) (\w+)")
 TRAIT = re.compile(r"(?m)^(?:pub(?:\([a-z]+\))? )?trait \w+")
 MODEL = re.compile(r"(?m)^(impl)\b[^\n{]*\bModel for (\w+)")
 # What a file brings from specs/: names in braces, or a module under another name.
-NAMES = re.compile(r"\buse Rattle\.\w+\.specs\.(\w+)[\w.]*\.\{([^}]*)\}")
-MODULE = re.compile(r"\buse Rattle\.\w+\.specs\.(\w+)[\w.]* as (\w+)")
+NAMES = re.compile(r"\buse Rattle\.(\w+)\.specs\.(\w+)[\w.]*\.\{([^}]*)\}")
+MODULE = re.compile(r"\buse Rattle\.(\w+)\.specs\.(\w+)[\w.]* as (\w+)")
+# A module of another crate that a crate's specs/Lib.antt passes on.
+PASSED_ON = re.compile(r"(?m)^pub use Rattle\.(\w+)\.specs\.(\w+)$")
+# What a tactic unfolds: a definition, by the crate and the module.
+UNFOLDED = re.compile(r"\b(\w+)::specs::(\w+)::(\w+)")
 # A signature, or the head of a type: with it a definition begins. An equation goes on with one.
 SIGNATURE = re.compile(r"(?:(?:pub|abbrev|unfoldable|opaque) )*(?:(data|record) )?([^\s:(){},]+)\s*(?:\{[^}]*\}\s*)*:(?=\s)")
 ANY = "*"
@@ -33,6 +37,13 @@ def named_in(text):
     return set(re.findall(r"\b[A-Z]\w*|\b\w+(?=\(|::<)|(?<=::)\w+", text)) | set(re.findall(r"\w+", brought))
 
 
+def brought_from_outside(text):
+    """The words that a text brings in from other crates, and those behind `::`: what is called by another word is no free
+    function of another crate."""
+    brought = re.findall(r"(?m)^(?:pub )?use (?!crate\b|self\b|super\b)[^;]*;", text)
+    return set(re.findall(r"\w+", " ".join(brought))) | set(re.findall(r"(?<=::)\w+", text))
+
+
 class Definition:
     """A definition of a file of specs/: its text without comments, and where the words come from that its file has."""
 
@@ -44,25 +55,26 @@ class Definition:
 
 
 def brought_in(text):
-    """Each word that lines `use` bring from specs/, with the module and the name of what it stands for."""
-    for module, names in NAMES.findall(text):
+    """Each word that lines `use` bring from specs/, with the crate, the module and the name of what it stands for."""
+    for crate, module, names in NAMES.findall(text):
         for name in names.split(","):
             name, _, other = (it.strip() for it in name.partition(" as "))
             for word in {other or name, *(other or name).split("◌")} - {""}:
-                yield word, (module, name)
-    for module, other in MODULE.findall(text):
-        yield other, (module, ANY)
+                yield word, (crate, module, name)
+    for crate, module, other in MODULE.findall(text):
+        yield other, (crate, module, ANY)
 
 
-def cited_in(text, origins):
-    """The modules and names of the definitions that a text names, or unfolds."""
+def cited_in(text, origins, own):
+    """The crates, modules and names of the definitions that a text of a crate names, or unfolds."""
     named = {origins[it] for it in words_of(text) if it in origins}
-    return named | set(re.findall(r"\bspecs::(\w+)::(\w+)", text))
+    return named | {(own if crate == "crate" else crate, *it) for crate, *it in UNFOLDED.findall(text)}
 
 
 def definitions_in(folder):
-    """The definitions of a folder, each by its module and its name; what a `data` lists has a name too. A crate of tests
-    alone has no such folder."""
+    """The definitions of a crate, each by the crate, its module and its name; what a `data` lists has a name too. A crate of
+    tests alone has none."""
+    crate, folder = os.path.basename(folder), f"{folder}/specs"
     for file in sorted(os.listdir(folder)) if os.path.isdir(folder) else ():
         module, text = file.removesuffix(".antt"), text_of(f"{folder}/{file}")
         origins, found, name, is_data = dict(brought_in(text)), {}, None, False
@@ -79,8 +91,15 @@ def definitions_in(folder):
                 if is_data and (listed := re.match(r"\s+(\w+) :", line)):
                     found.setdefault(listed[1], found[name])
         for name in found:
-            origins.update((word, (module, name)) for word in {name, *name.split("◌")} - {""})
-        yield from (((module, name), it) for name, it in found.items())
+            origins.update((word, (crate, module, name)) for word in {name, *name.split("◌")} - {""})
+        yield from (((crate, module, name), it) for name, it in found.items())
+
+
+def passed_on_by(folder):
+    """The modules of other crates that a crate passes on, each by both."""
+    path = f"{folder}/specs/Lib.antt"
+    found = PASSED_ON.findall(text_of(path)) if os.path.isfile(path) else ()
+    return {(os.path.basename(folder), module): crate for crate, module in found}
 
 
 def block_at(text, start):
@@ -96,6 +115,7 @@ class Source:
     def __init__(self, text, is_own):
         self.origins = dict(brought_in(text))
         found = [(it, it[0]) for kind in (FUNCTION, CONSTANT) for it in kind.finditer(text)]
+        self.free = {it[0] for it in FUNCTION.finditer(text) if not it[0][0].isspace()}
         found += [(it, block_at(text, it.start())) for kind in (TYPE, MODEL) for it in kind.finditer(text)]
         seen = ("pub ", "impl", "pub(crate) ", "pub(super) ") if is_own else ("pub ", "impl")
         self.items = [(it[2], item) for it, item in found if it[1] in seen]
@@ -110,27 +130,41 @@ class Judges:
     """The definitions and sources of a crate and of those below it, by which its mutants are judged."""
 
     def __init__(self, folders):
-        self.definitions = {key: it for folder in folders for key, it in definitions_in(f"{folder}/specs")}
-        texts = [(text, folder == folders[-1]) for folder in folders for _, text in sorted(sources_in(f"{folder}/src").items())]
+        self.own = os.path.basename(folders[-1])
+        self.definitions = {key: it for folder in folders for key, it in definitions_in(folder)}
+        self.passed_on = {key: it for folder in folders for key, it in passed_on_by(folder).items()}
+        texts = [(text, os.path.basename(folder)) for folder in folders for _, text in sorted(sources_in(f"{folder}/src").items())]
         self.traits = [block_at(it, found.start()) for it, _ in texts for found in TRAIT.finditer(it)]
-        self.items = {}
-        for text, is_own in texts:
-            source = Source(text, is_own)
+        self.items, self.outside = {}, {}
+        for text, crate in texts:
+            source = Source(text, crate == self.own)
             for name, item in source.items:
-                self.items.setdefault(name, []).append((item, source.origins))
+                is_outside = crate != self.own and item in source.free
+                kind = self.outside if is_outside else self.items
+                kind.setdefault(name, []).append((item, source.origins, crate))
 
     def of(self, texts):
         """The texts that decide over mutants of these files, these among them."""
         words = set().union(*(named_in(it) for it in texts))
         items = [it for name in sorted(words & self.items.keys()) for it in self.items[name]]
-        left = set().union(*(cited_in(it, dict(brought_in(it))) for it in texts), *(cited_in(*it) for it in items))
+        outside = words & set().union(*(brought_from_outside(it) for it in texts))
+        items += [it for name in sorted(outside & self.outside.keys()) for it in self.outside[name]]
+        left = set().union(*(cited_in(it, dict(brought_in(it)), self.own) for it in texts), *(cited_in(*it) for it in items))
         found = set()
         while left := self.known(left) - found:
             found |= left
             left = set().union(*(self.definitions[it].cited() for it in left))
-        return [*texts, *(it for it, _ in items), *(self.definitions[it].text for it in sorted(found)), *self.traits]
+        return [*texts, *(it for it, *_ in items), *(self.definitions[it].text for it in sorted(found)), *self.traits]
 
     def known(self, keys):
-        """Those of these names that are definitions; of a module under another name, all of it."""
-        modules = {module for module, name in keys if name == ANY}
-        return keys & self.definitions.keys() | {it for it in self.definitions if it[0] in modules}
+        """Those of these names that are definitions, each in the crate that has it; of a module under another name, all of
+        it."""
+        keys = {(self.home_of(crate, module), module, name) for crate, module, name in keys}
+        modules = {(crate, module) for crate, module, name in keys if name == ANY}
+        return keys & self.definitions.keys() | {it for it in self.definitions if it[:2] in modules}
+
+    def home_of(self, crate, module):
+        """The crate that has a module which this one has or passes on."""
+        while (crate, module) in self.passed_on:
+            crate = self.passed_on[crate, module]
+        return crate

@@ -80,7 +80,7 @@ fn put_members(
     let (Ok(listed), Ok(items)) = (information.iter(), information.iter()) else {
         return Ok(());
     };
-    let faults = MemberFaults::new(alloc, &types, listed)?;
+    let faults = MemberFaults::of_types(alloc, &types, listed)?;
     Ok(put_each(alloc, out, front, &faults, items)?)
 }
 

@@ -86,7 +86,7 @@ fn ends_of(
 impl<'x, 't> MemberFaults<'x, 't> {
     /// Those of a file's types, which are passed twice: as they are found, and one after another. Memory may be refused
     /// for the table of the lists' ends.
-    pub fn new(
+    pub fn of_types(
         alloc: Global,
         types: &'x ItemFinder<'t>,
         items: ItemIter<'t>,

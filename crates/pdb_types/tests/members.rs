@@ -404,13 +404,13 @@ fn faults_of_lists_that_many_types_have(rt: HostRuntime) -> Result<()> {
         (0x1006, eof),
         (0xfff, eof),
     ];
-    let faults = MemberFaults::new(alloc, &types, ItemIter::new(few(&rt, &bytes))?)?;
+    let faults = MemberFaults::of_types(alloc, &types, ItemIter::new(few(&rt, &bytes))?)?;
     for (list, fault) in wanted {
         is(&rt, "fault", &faults.fault(TypeIndex(list)), &fault);
     }
     // The items of another stream take time, and change nothing.
     let other = stream(alloc, &[class, &whole])?;
-    let faults = MemberFaults::new(alloc, &types, ItemIter::new(few(&rt, &other))?)?;
+    let faults = MemberFaults::of_types(alloc, &types, ItemIter::new(few(&rt, &other))?)?;
     for (list, fault) in wanted {
         is(&rt, "fault", &faults.fault(TypeIndex(list)), &fault);
     }
