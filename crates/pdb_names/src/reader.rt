@@ -1,13 +1,19 @@
-//! What is left to read of a name of Microsoft's C++, and the table of names that are kept for back-references.
+//! What is left to read of a name of Microsoft's C++: its components, of which ten are kept for back-references, the
+//! arguments of templates, and types. Types stand in one another at most 16 deep: `levels` says how many more may.
 
-ghost use Rattle.std.specs.Prelude.{◌≡◌, ◌-◌, ◌+◌, ◌<◌, ◌≤◌, ◌==◌, length, map, option_map, position, IfSome, OnOk, Some, slice_index, IsTrue};
+ghost use Rattle.std.specs.Prelude.{◌≡◌, ◌-◌, ◌+◌, ◌<◌, ◌≤◌, ◌==◌, ◌++◌, codes, drop, length, map, option_map, position, IfSome, OnOk, Some, slice_index, IsTrue};
 ghost use Rattle.std.specs.List.{list_any, slice_get};
-ghost use Rattle.pdb_names.specs.Pieces.{Gives};
 ghost use Rattle.pdb_names.specs.KeptNames.{again as repeated, begins_with_digit as digit_test, got, has_bytes, is_wanted, left, plain as plain_name, unnamed as unnamed_space, with_pair, word as word_there};
+ghost use Rattle.pdb_names.specs.Numbers.{number_at as number_there};
+ghost use Rattle.pdb_names.specs.Pieces.{Gives};
+ghost use Rattle.pdb_names.specs.Templates.{all_arguments as all_arguments_of, all_components as all_of, class_type as class_there, component as component_at, components as components_at, kept_template, listed, marked_type as marked_there, one_argument as argument_of, one_more as one_more_of, plain_component, template as template_at, typ as type_at, type_in, typed, with_number, with_type};
 ghost use Rattle.pdb_names.specs.Views.{kept_of, left_of, word_of};
 
 use crate::c_name::is_name;
+use crate::numbers::number_at;
 use crate::pieces::Stop;
+use crate::templates::{Typed, class_of, is_pack, template};
+use crate::type_heads::{Head, Set, Shape, head_at};
 use std::alloc::Global;
 
 /// What is shown for an anonymous namespace.
@@ -119,7 +125,7 @@ impl<'d> Reader<'d> {
     }
 
     /// The text that a digit refers back to.
-    pub(crate) fn again(&mut self, alloc: Global) -> Result<Vec<u8>, Stop>
+    fn again(&mut self, alloc: Global) -> Result<Vec<u8>, Stop>
         requires { 1 ≤ length self.old.rest.now }
         ensures said { Gives (λ t. got t.items (left_of self.new)) result (repeated (slice_get (map kept_of self.old.kept.items) (slice_index self.old.rest.now 0 - 48)) (left_of self.old)) }
         ensures shorter { OnOk result (length self.new.rest.now < length self.old.rest.now) }
@@ -147,12 +153,265 @@ impl<'d> Reader<'d> {
     }
 
     /// An anonymous namespace.
-    pub(crate) fn unnamed(&mut self, alloc: Global, name: Word<'d>) -> Result<Vec<u8>, Stop>
+    fn unnamed(&mut self, alloc: Global, name: Word<'d>) -> Result<Vec<u8>, Stop>
         ensures said { Gives (λ t. got t.items (left_of self.new)) result (unnamed_space (map kept_of self.old.kept.items) (word_of name.entry)) }
         ensures behind { OnOk result (self.new.rest.now ≡ name.entry.rest.now) }
     {
         self.keep(alloc, name.bytes, UNNAMED)?;
         self.rest = name.rest;
         Ok(Vec::from_slice(alloc, UNNAMED)?)
+    }
+
+    /// A number as an argument.
+    fn number_argument(&mut self, alloc: Global, texts: &mut Vec<Vec<u8>>) -> Result<(), Stop>
+        requires { 2 ≤ length self.old.rest.now }
+        ensures said { Gives (λ _. listed (map (λ v. v.items) texts.new.items) (left_of self.new)) result (option_map (with_number (listed (map (λ v. v.items) texts.old.items) (left_of self.old))) (number_there (drop 2 self.old.rest.now))) }
+        ensures shorter { OnOk result (length self.new.rest.now < length self.old.rest.now) }
+    {
+        let Text { text, rest } = number_at(alloc, &self.rest[2..])?;
+        texts.push(text)?;
+        self.rest = rest;
+        Ok(())
+    }
+
+    /// A type with its const as an argument.
+    #[cycle(templates)]
+    fn type_argument(
+        &mut self,
+        alloc: Global,
+        levels: u32,
+        texts: &mut Vec<Vec<u8>>,
+    ) -> Result<(), Stop>
+        ensures said { Gives (λ _. listed (map (λ v. v.items) texts.new.items) (left_of self.new)) result (option_map (with_type (listed (map (λ v. v.items) texts.old.items) (left_of self.old))) (type_at levels (left_of self.old))) }
+        ensures shorter { OnOk result (length self.new.rest.now < length self.old.rest.now) }
+    {
+        let Typed { mut text, set } = self.typ(alloc, levels)?;
+        set.put(&mut text)?;
+        texts.push(text)?;
+        Ok(())
+    }
+
+    /// One argument more.
+    #[cycle(templates)]
+    #[tactic(auto, unfolding(crate::specs::Templates::one_argument))]
+    fn one_argument(
+        &mut self,
+        alloc: Global,
+        levels: u32,
+        texts: &mut Vec<Vec<u8>>,
+    ) -> Result<(), Stop>
+        ensures said { Gives (λ _. listed (map (λ v. v.items) texts.new.items) (left_of self.new)) result (argument_of (type_at levels) (listed (map (λ v. v.items) texts.old.items) (left_of self.old))) }
+        ensures shorter { OnOk result (length self.new.rest.now < length self.old.rest.now) }
+    {
+        if is_pack(self.rest) {
+            self.rest = &self.rest[3..];
+            return Ok(());
+        }
+        if self.rest.starts_with(b"$S") {
+            self.rest = &self.rest[2..];
+            return Ok(());
+        }
+        if self.rest.starts_with(b"$0") {
+            return self.number_argument(alloc, texts);
+        }
+        self.type_argument(alloc, levels, texts)
+    }
+
+    /// Arguments up to an `@`.
+    #[cycle(templates)]
+    #[tactic(auto, unfolding(crate::specs::Templates::all_arguments), using(crate::proofs::Runs::run_start, crate::proofs::Runs::run_step, crate::proofs::Runs::run_end, crate::proofs::Runs::run_stop))]
+    pub(crate) fn all_arguments(
+        &mut self,
+        alloc: Global,
+        levels: u32,
+        texts: &mut Vec<Vec<u8>>,
+    ) -> Result<(), Stop>
+        ensures said { Gives (λ _. listed (map (λ v. v.items) texts.new.items) (left_of self.new)) result (all_arguments_of (type_at levels) (listed (map (λ v. v.items) texts.old.items) (left_of self.old))) }
+        ensures shorter { OnOk result (length self.new.rest.now ≤ length self.old.rest.now) }
+        ensures ended { OnOk result (1 ≤ length self.new.rest.now) }
+    {
+        while !self.rest.starts_with(b"@") {
+            self.one_argument(alloc, levels, texts)?;
+        }
+        Ok(())
+    }
+
+    /// Keeps a template by its text behind `?$`.
+    fn keep_template(&mut self, alloc: Global, text: &[u8]) -> Result<(), Stop>
+        ensures said { Gives (λ _. left_of self.new) result (Some (left self.old.rest.now (with_pair (codes "?$" ++ text.now) text.now (map kept_of self.old.kept.items)))) }
+        ensures same { self.new.rest.now ≡ self.old.rest.now }
+    {
+        let mut bytes = Vec::from_slice(alloc, b"?$")?;
+        bytes.extend_from_slice(text)?;
+        self.keep(alloc, &bytes, text)
+    }
+
+    /// A template as a component.
+    #[cycle(templates)]
+    fn template_component(&mut self, alloc: Global, levels: u32) -> Result<Vec<u8>, Stop>
+        requires { 2 ≤ length self.old.rest.now }
+        ensures said { Gives (λ t. got t.items (left_of self.new)) result (option_map (kept_template (left_of self.old)) (template_at (type_at levels) (drop 2 self.old.rest.now))) }
+        ensures shorter { OnOk result (length self.new.rest.now < length self.old.rest.now) }
+    {
+        let Text { text, rest } = template(alloc, &self.rest[2..], levels)?;
+        self.keep_template(alloc, &text)?;
+        self.rest = rest;
+        Ok(text)
+    }
+
+    /// A component without a table or arguments.
+    #[tactic(auto, unfolding(crate::specs::KeptNames::word))]
+    fn plain_component(&mut self, alloc: Global) -> Result<Vec<u8>, Stop>
+        ensures said { Gives (λ t. got t.items (left_of self.new)) result (plain_component (left_of self.old)) }
+        ensures shorter { OnOk result (length self.new.rest.now < length self.old.rest.now) }
+    {
+        let Some(name) = first_word(self.rest) else {
+            return Err(Stop::NoAnswer);
+        };
+        if self.rest.starts_with(b"?A") {
+            self.unnamed(alloc, name)
+        } else {
+            self.plain(alloc, name)
+        }
+    }
+
+    /// A component at the front.
+    #[cycle(templates)]
+    #[tactic(auto, unfolding(crate::specs::Templates::component))]
+    fn component(&mut self, alloc: Global, levels: u32) -> Result<Vec<u8>, Stop>
+        ensures said { Gives (λ t. got t.items (left_of self.new)) result (component_at (type_at levels) (left_of self.old)) }
+        ensures shorter { OnOk result (length self.new.rest.now < length self.old.rest.now) }
+    {
+        if begins_with_digit(self.rest) {
+            return self.again(alloc);
+        }
+        if self.rest.starts_with(b"?$") {
+            return self.template_component(alloc, levels);
+        }
+        self.plain_component(alloc)
+    }
+
+    /// One component more.
+    #[cycle(templates)]
+    #[tactic(auto, unfolding(crate::specs::Templates::one_more))]
+    fn one_more(&mut self, alloc: Global, levels: u32, texts: &mut Vec<Vec<u8>>) -> Result<(), Stop>
+        ensures said { Gives (λ _. listed (map (λ v. v.items) texts.new.items) (left_of self.new)) result (one_more_of (type_at levels) (listed (map (λ v. v.items) texts.old.items) (left_of self.old))) }
+        ensures shorter { OnOk result (length self.new.rest.now < length self.old.rest.now) }
+    {
+        let text = self.component(alloc, levels)?;
+        texts.push(text)?;
+        Ok(())
+    }
+
+    /// Components up to an `@`.
+    #[cycle(templates)]
+    #[tactic(auto, unfolding(crate::specs::Templates::all_components), using(crate::proofs::Runs::run_start, crate::proofs::Runs::run_step, crate::proofs::Runs::run_end, crate::proofs::Runs::run_stop))]
+    fn all_components(
+        &mut self,
+        alloc: Global,
+        levels: u32,
+        texts: &mut Vec<Vec<u8>>,
+    ) -> Result<(), Stop>
+        ensures said { Gives (λ _. listed (map (λ v. v.items) texts.new.items) (left_of self.new)) result (all_of (type_at levels) (listed (map (λ v. v.items) texts.old.items) (left_of self.old))) }
+        ensures shorter { OnOk result (length self.new.rest.now ≤ length self.old.rest.now) }
+        ensures ended { OnOk result (1 ≤ length self.new.rest.now) }
+    {
+        while !self.rest.starts_with(b"@") {
+            self.one_more(alloc, levels, texts)?;
+        }
+        Ok(())
+    }
+
+    /// The texts of components up to an `@`, which is passed over.
+    #[cycle(templates)]
+    #[tactic(auto, unfolding(crate::specs::Templates::components))]
+    pub(crate) fn components(&mut self, alloc: Global, levels: u32) -> Result<Vec<Vec<u8>>, Stop>
+        ensures said { Gives (λ ts. listed (map (λ v. v.items) ts.items) (left_of self.new)) result (components_at (type_at levels) (left_of self.old)) }
+        ensures shorter { OnOk result (length self.new.rest.now < length self.old.rest.now) }
+    {
+        let mut texts = Vec::new(alloc);
+        self.all_components(alloc, levels, &mut texts)?;
+        self.rest = &self.rest[1..];
+        Ok(texts)
+    }
+
+    /// The name of a class, which isn't an anonymous namespace.
+    #[cycle(templates)]
+    #[tactic(auto, unfolding(crate::specs::Templates::class_type))]
+    fn class_type(&mut self, alloc: Global, levels: u32, prefix: &[u8]) -> Result<Typed, Stop>
+        ensures said { Gives (λ t. typed t.text.items t.set (left_of self.new)) result (class_there (type_at levels) prefix.now (left_of self.old)) }
+        ensures shorter { OnOk result (length self.new.rest.now < length self.old.rest.now) }
+    {
+        if self.rest.starts_with(b"?A") {
+            return Err(Stop::NoAnswer);
+        }
+        let texts = self.components(alloc, levels)?;
+        let text = class_of(alloc, prefix, texts)?;
+        Ok(Typed {
+            text,
+            set: Set::none(),
+        })
+    }
+
+    /// A type behind its const and volatile, and before a mark.
+    #[cycle(templates)]
+    #[tactic(auto, unfolding(crate::specs::Templates::marked_type))]
+    fn marked_type(
+        &mut self,
+        alloc: Global,
+        levels: u32,
+        mark: &[u8],
+        set: Set,
+    ) -> Result<Typed, Stop>
+        ensures said { Gives (λ t. typed t.text.items t.set (left_of self.new)) result (marked_there (type_at levels) mark.now set (left_of self.old)) }
+        ensures shorter { OnOk result (length self.new.rest.now < length self.old.rest.now) }
+    {
+        if self.rest.is_empty() {
+            return Err(Stop::NoAnswer);
+        }
+        let Some(own) = Set::of(self.rest[0]) else {
+            return Err(Stop::NoAnswer);
+        };
+        self.rest = &self.rest[1..];
+        let Typed {
+            mut text,
+            set: inner,
+        } = self.typ(alloc, levels)?;
+        own.and(inner).put(&mut text)?;
+        text.extend_from_slice(mark)?;
+        Ok(Typed { text, set })
+    }
+
+    /// A type by how it begins.
+    #[cycle(templates)]
+    fn type_by(&mut self, alloc: Global, levels: u32, head: Head<'_>) -> Result<Typed, Stop>
+        ensures said { Gives (λ t. typed t.text.items t.set (left_of self.new)) result (type_in (type_at levels) head.entry.shape head.entry.text.now head.entry.set (left_of self.old)) }
+        ensures shorter { OnOk result (length self.new.rest.now ≤ length self.old.rest.now) }
+    {
+        match head.shape {
+            Shape::Simple => Ok(Typed {
+                text: Vec::from_slice(alloc, head.text)?,
+                set: head.set,
+            }),
+            Shape::Class => self.class_type(alloc, levels, head.text),
+            Shape::Marked => self.marked_type(alloc, levels, head.text, head.set),
+        }
+    }
+
+    /// A type.
+    #[cycle(templates)]
+    #[tactic(auto, using(crate::proofs::Levels::typ_end, crate::proofs::Levels::typ_step))]
+    fn typ(&mut self, alloc: Global, levels: u32) -> Result<Typed, Stop>
+        ensures said { Gives (λ t. typed t.text.items t.set (left_of self.new)) result (type_at levels (left_of self.old)) }
+        ensures shorter { OnOk result (length self.new.rest.now < length self.old.rest.now) }
+    {
+        if levels == 0 {
+            return Err(Stop::NoAnswer);
+        }
+        let Some(head) = head_at(self.rest) else {
+            return Err(Stop::NoAnswer);
+        };
+        self.rest = head.rest;
+        self.type_by(alloc, levels - 1, head)
     }
 }
