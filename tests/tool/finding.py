@@ -15,11 +15,18 @@ line 0001:00000108 0x1108 8 a.c:2:0 main
 inlined 0001:00000108 0x1108 2 a.c:10:0 ??
 inlined 0001:0000010e 0x110e 5 a.c:12:0 ??
 """
-CLAMP = b"""procedure 0001:00000000 0x1000 331 nested
+CLAMP = b"""public 0001:00000000 0x1000 - nested (?nested@@YAHH@Z)
+procedure 0001:00000000 0x1000 331 nested
 inlined 0001:00000085 0x1085 56 tour::clamp
 inlined 0001:0000035a 0x135a 21 tour::clamp
 inlined 0001:000003c6 0x13c6 23 tour::clamp
 inlined 0001:00000534 0x1534 11 tour::clamp
+"""
+# Tables of classes are named by public symbols alone.
+SPELLED = b"""public 0001:000005c0 0x15c0 - operator new (??2@YAPEAX_K@Z)
+public 0002:000000e8 0x20e8 - tour::square::`vftable' (??_7square@tour@@6Bnamed@1@@)
+public 0002:000000f0 0x20f0 - tour::square::`vftable' (??_7square@tour@@6Bshape@1@@)
+procedure 0001:000005c0 0x15c0 36 operator new
 """
 USAGES = {
     "find": b"usage: pdb_tool find [--json] FILE NAME..\n",
@@ -107,6 +114,7 @@ def frames_of(file, addresses):
 
 def found_in_real_files():
     compare("find in cpp-lld", (0, CLAMP, b""), "find", f"{FILES}/cpp-lld.pdb", "*clamp*", "nested")
+    compare("find of names of Microsoft's C++", (0, SPELLED, b""), "find", f"{FILES}/cpp-lld.pdb", "tour::square::`*", "operator new")
     for name in REAL:
         file = f"{FILES}/{name}.pdb"
         found = lines_of("find", file, "*")
