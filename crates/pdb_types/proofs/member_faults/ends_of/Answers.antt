@@ -1,4 +1,3 @@
-use Rattle.std.proofs.Common.{◌≡◌}
 use Rattle.std.proofs.lemmas.List.Elements.{All-push}
 use Rattle.pdb_types.specs.MemberEndViews.{IsEndIn}
 use Rattle.pdb_types.proofs.member_faults.ends_of.Goals as goal

@@ -1,4 +1,4 @@
-use Rattle.std.proofs.Common.{◌≡◌, All, length}
+use Rattle.std.proofs.Common.{All, length}
 use Rattle.pdb_items.specs.ItemViews.{items_left}
 use Rattle.pdb_types.specs.MemberEndViews.{IsEndIn}
 use Rattle.pdb_types.proofs.member_faults.ends_of.Given as goal

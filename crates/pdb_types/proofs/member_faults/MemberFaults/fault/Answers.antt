@@ -1,4 +1,4 @@
-use Rattle.std.proofs.Common.{◌≡◌, ◌+◌, ◌-◌, None, arith, refl, sym, ap, ◌∙◌}
+use Rattle.std.proofs.Common.{◌≡◌, ◌+◌, ◌-◌, arith, sym, ap, ◌∙◌}
 use Rattle.pdb_types.specs.MemberLists.{members_from, members_of}
 use Rattle.pdb_types.proofs.MemberFaultSteps.{ends_in, goes_on_to, no_list, no_lists}
 use Rattle.pdb_types.proofs.member_faults.MemberFaults.fault.Goals as goal
