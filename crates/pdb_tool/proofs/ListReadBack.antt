@@ -1,9 +1,9 @@
 -- The JSON values of lists, of keys and of errors read back.
-use Rattle.std.proofs.Common.{◌≡◌, ℕ, ◌<◌, ◌≤◌, ◌^◌, List, [], ◌∷◌, Bool, true, false, cond, Option, Some, None, decimal, refl, arith}
+use Rattle.std.proofs.Common.{◌≡◌, ℕ, ◌<◌, ◌^◌, List, [], ◌∷◌, Bool, true, false, cond, Option, Some, None, decimal, refl, arith}
 use Rattle.std.specs.Prelude.{◌||◌}
 use Rattle.std.specs.Option.{unwrap_or}
 use Rattle.std.specs.Str.{bytes_eq}
-use Rattle.json.specs.Json.{Json, document, null}
+use Rattle.json.specs.Json.{document, null}
 use Rattle.json.specs.Print.{print, IsNumber}
 use Rattle.json.specs.Tree.{depth, items_depth, HasNumbers, ItemsHaveNumbers, json_tokens}
 use Rattle.json.proofs.Printed.Decimals.{IsNumber-decimal}

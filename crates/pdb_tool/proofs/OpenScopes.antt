@@ -1,5 +1,5 @@
 -- The scopes that are open, the innermost of which stands last in memory and first in definitions.
-use Rattle.std.proofs.Common.{◌≡◌, ◌↔◌, ℕ, zero, suc, ◌+◌, ◌-◌, ◌<◌, ◌≤◌, min, List, [], ◌∷◌, ◌++◌, reverse, length, take, get_or, Option, Some, None, IsSome, option_to_list, refl, sym, ap, subst, ◌∙◌, arith}
+use Rattle.std.proofs.Common.{◌≡◌, ◌↔◌, ℕ, ◌+◌, ◌-◌, ◌<◌, ◌≤◌, min, List, [], ◌∷◌, ◌++◌, reverse, length, take, get_or, Option, Some, None, IsSome, option_to_list, refl, sym, ap, subst, ◌∙◌, arith}
 use Rattle.std.specs.List.{slice_get}
 use Rattle.std.proofs.lemmas.List.{length-append, reverse-append, take_more, take_all}
 use Rattle.pdb_base.specs.Tiling.{listing}

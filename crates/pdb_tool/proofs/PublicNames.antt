@@ -4,7 +4,7 @@ use Rattle.std.specs.Prelude.{◌||◌, codes, is_some}
 use Rattle.std.proofs.lemmas.Slice.Eq.{bytes_eq-Decides}
 use Rattle.pdb.specs.PdbInternalSectionOffset.{PdbInternalSectionOffset}
 use Rattle.pdb_names.specs.Spelling.{text_of}
-use Rattle.pdb_tool.specs.FindTexts.{Finding, found_in, is_asked, line_if_asked, public_line, public_name}
+use Rattle.pdb_tool.specs.FindTexts.{Finding, is_asked, line_if_asked, public_line, public_name}
 
 twice : (asked : Bool) → (asked || asked) ≡ asked
 twice true = refl

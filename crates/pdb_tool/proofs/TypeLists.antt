@@ -1,5 +1,5 @@
 -- The texts of a list of types.
-use Rattle.std.proofs.Common.{◌≡◌, ℕ, List, [], ◌∷◌, ◌++◌, Option, Some, None, refl, append_assoc, arith, flat_map, length}
+use Rattle.std.proofs.Common.{◌≡◌, ℕ, List, [], ◌∷◌, ◌++◌, Some, None, refl, append_assoc, arith, flat_map, length}
 use Rattle.std.proofs.lemmas.Grind.{common_steps}
 use Rattle.pdb.specs.Error.{Error}
 use Rattle.pdb.specs.Items.{ItemEntry}

@@ -1,5 +1,5 @@
 -- The registers from which variables of a procedure's frame count.
-use Rattle.std.specs.Prelude.{ℕ, zero, suc, ◌+◌, ◌==◌, ◌||◌, ◌&&◌, nat_lt, Bool, if◌then◌else◌, List, [], ◌∷◌, length, Option, Some, None, Result, Ok, Err}
+use Rattle.std.specs.Prelude.{ℕ, zero, suc, ◌==◌, ◌||◌, nat_lt, Bool, if◌then◌else◌, List, [], ◌∷◌, length, Option, Some, None, Result, Ok}
 use Rattle.pdb.specs.Error.{Error}
 use Rattle.pdb.specs.Forms.{kind_at}
 use Rattle.pdb.specs.Scopes.{starts_of, ends_of}

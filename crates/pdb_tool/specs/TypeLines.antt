@@ -1,11 +1,11 @@
 -- The lines of types in `types`.
-use Rattle.std.specs.Prelude.{ℕ, ℤ, Bool, not, ◌||◌, if◌then◌else◌, nat_lt, List, [], ◌++◌, codes, Option, Some, None, is_some}
+use Rattle.std.specs.Prelude.{ℕ, ℤ, Bool, not, ◌||◌, if◌then◌else◌, List, [], ◌++◌, codes, Option, Some, None, is_some}
 use Rattle.std.specs.Fmt.{signed_decimal}
 use Rattle.pdb.specs.Items.{ItemEntry}
 use Rattle.pdb_items.specs.Ids.{kind_at}
 use Rattle.pdb_text.specs.Digits.{hex}
 use Rattle.pdb_text.specs.OneLine.{one_line}
-use Rattle.pdb_types.specs.FullTypes.{full_index, says_of_item, size_of, tag_in}
+use Rattle.pdb_types.specs.FullTypes.{full_index, size_of, tag_in}
 use Rattle.pdb_types.specs.TypeSays.{TagSays, TypeSays, unique_name_of}
 use Rattle.pdb_types.specs.TypeSays.TypeSays.{Enumeration}
 use Rattle.pdb_types.specs.TypeTexts.{shown_name}

@@ -1,4 +1,4 @@
-use Rattle.std.proofs.Common.{◌≡◌, take, flat_map}
+use Rattle.std.proofs.Common.{take, flat_map}
 use Rattle.std.specs.Io.KnownBytes.{Appends}
 use Rattle.pdb_tool.specs.TypeTexts.{index_lines}
 use Rattle.pdb_tool.specs.TypeViews.{types_of}

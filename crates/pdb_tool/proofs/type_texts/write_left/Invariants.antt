@@ -1,4 +1,4 @@
-use Rattle.std.proofs.Common.{◌≡◌, length}
+use Rattle.std.proofs.Common.{length}
 use Rattle.pdb_items.specs.ItemViews.{items_left}
 use Rattle.pdb_tool.specs.TypeTexts.{types_left}
 use Rattle.pdb_tool.specs.TypeViews.{types_of}
