@@ -628,9 +628,27 @@ def shared_lists(room):
     tell((status, err, len(lines), lines[-1:]) == (1, b"", 100_000, [last]), "check of lists that many types have", (len(lines), lines[-1:]))
 
 
+def doubled_lists(room):
+    """Lists of arguments, each of which has the one before it twice: names that would have 2^60 bytes end in a second."""
+    lists = [pack("<HI", 0x1201, 0)] + [pack("<HIII", 0x1201, 2, 0x1000 + k, 0x1000 + k) for k in range(60)]
+    path = f"{room}/doubled.pdb"
+    with open(path, "wb") as it:
+        it.write(file_with(lists))
+    before = os.times()
+    status, out, err = ran("types", path, "103c", limit=60)
+    after = os.times()
+    taken = after.children_user + after.children_system - before.children_user - before.children_system
+    line = out.rstrip(b"\n")
+    head = b"0000103c LF_ARGLIST "
+    tell((status, err, line[: len(head)], line[-5:], len(line)) == (0, b"", head, b"<...>", len(head) + LENGTH + 5), "a name of 2^60 bytes", (status, len(line)))
+    tell(taken < 1, "the time of a name of 2^60 bytes", taken)
+    compare_types("lists of arguments in lists", path)
+
+
 def types(room):
-    """Real files, those of the folder PDB_FILES, random records, and lists that many types have."""
+    """Real files, those of the folder PDB_FILES, random records, lists that many types have, and long names."""
     shared_lists(room)
+    doubled_lists(room)
     further = sorted(glob.glob(f"{CORPUS}/*.pdb")) if CORPUS else []
     for path in [f"{FILES}/{name}.pdb" for name in REAL] + further:
         compare_types(os.path.basename(path), path)
