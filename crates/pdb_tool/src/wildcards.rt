@@ -1,6 +1,7 @@
 //! Names that match a pattern.
 
-ghost use Rattle.std.specs.Prelude.{◌≡◌, ◌∷◌, [], true};
+ghost use Rattle.std.specs.Prelude.{◌≡◌, codes};
+ghost use Rattle.std.specs.Str.{bytes_eq};
 ghost use Rattle.pdb_tool.specs.Wildcards.{from_somewhere, matches};
 
 use bstr::ByteSlice;
@@ -24,7 +25,7 @@ fn matches_somewhere(pattern: &[u8], name: &[u8]) -> bool
 
 /// Whether a pattern is a star alone: every name matches it, so that no byte needs to be read.
 fn is_star(pattern: &[u8]) -> bool
-    ensures { result ≡ true → pattern.now ≡ 42 ∷ [] }
+    ensures { result ≡ bytes_eq pattern.now (codes "*") }
 {
     pattern == b"*".as_slice()
 }

@@ -1,10 +1,12 @@
 use Rattle.std.proofs.Common.{◌∙◌, refl, sym}
+use Rattle.std.specs.Prelude.{codes}
+use Rattle.std.proofs.lemmas.Slice.Eq.{bytes_eq-Decides}
 use Rattle.pdb_tool.proofs.Patterns.{begun, not_begun, no_star_at_all, star_alone, whole_name}
 use Rattle.pdb_tool.proofs.wildcards.matches.Goals as goal
 
 pub returns-then-is_star : goal.returns-then-is_star
 returns-then-is_star c =
-    let star = c.is_star.ensures c.if-is_star.true in
+    let star = (bytes_eq-Decides c.args.pattern.now (codes "*")).0 (sym c.is_star.ensures ∙ c.if-is_star.true) in
     rw star (sym (star_alone c.args.name.now))
 
 pub returns-in-None : goal.returns-in-None
