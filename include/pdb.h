@@ -431,6 +431,8 @@ typedef struct pdb_frame {
 /* The frames of addresses, of each from the innermost inlined function to the function itself, at least one. *count is
  * how many there are, and *size how many bytes their names have. A part of the file that can't be read counts as not
  * present. The file is opened once. PDB_ROOM where either buffer is too small; what fits is written. Takes memory.
+ * Where no function is known, the name is what that of a public symbol spells: tour::clamp for ?clamp@tour@@YAHHHH@Z. A jump
+ * of incremental linking is ILT+N(NAME): it leads to NAME.
  *
  * How large the buffers have to be: an address has one frame, and one more for each inlined call of its procedure that
  * covers it. That are at most symbols_size / 4 + 1 frames, by the symbols of its module. A name of a function has less than

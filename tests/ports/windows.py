@@ -112,6 +112,7 @@ def texts(it, files, damaged):
         it.program("pdb_tool", ["find", file, "*"])
         it.program("pdb_tool", ["where", file, "main.cpp:1-9999"])
         it.program("pdb_tool", ["resolve", file, *ADDRESSES])
+        it.program("pdb_tool", ["variables", file, *ADDRESSES])
         it.program("pdb_tool", ["resolve", "--json", file], input="\n".join(ADDRESSES).encode() + b"\n")
     for at in range(0, len(damaged), 20):
         it.program("pdb_tool", ["check", *damaged[at : at + 20]])
@@ -119,6 +120,7 @@ def texts(it, files, damaged):
     for file in damaged:
         it.program("pdb_list", [file, *commands(2)])
         it.program("pdb_tool", ["resolve", file, *ADDRESSES])
+        it.program("pdb_tool", ["variables", file, *ADDRESSES])
 
 
 def arguments(it, file):

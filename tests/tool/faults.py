@@ -15,6 +15,7 @@ def refused_memory(sample, room):
     subprocess.run([*build, "-o", refuse, f"{TOP}/tests/memory/refuse.c"], check=True)
     for words, given in ((["resolve", sample, "1:108", "1:100", "2:0", "1100"], b""), (["resolve", sample], b"1:108\n1100\nno\n1:100\n"),
                          (["resolve", "--addresses", sample, "1:108", "--base", "0", "1100"], b""),
+                         (["variables", sample, "1:108", "1100"], b""), (["variables", sample], b"1:108\nno\n"),
                          (["key", sample, sample], b""), (["lines", sample, "0", "1", "0"], b""), (["scopes", sample], b""),
                          (["symbols", sample], b""), (["symbols", sample, "0", "0"], b""), (["check", sample, sample], b""),
                          (["find", sample, "*"], b""), (["where", sample, "a.c"], b""), (["sources", sample, "0", "1"], b""),
@@ -53,7 +54,7 @@ def writers_that_fail(sample, room):
     """A standard output that fails behind each number of bytes: a beginning of the text stands there."""
     for words, given in ((["help"], b""), (["--version"], b""), (["key", sample, sample], b""), (["resolve", sample, "1:108", "2:0"], b""),
                          (["resolve", sample], b"1:108\nno\n"), (["lines", sample, "0", "1"], b""), (["scopes", sample], b""),
-                         (["symbols", sample, "0"], b""), (["check", sample, sample], b""), (["find", sample, "*"], b""),
+                         (["variables", sample, "1:108", "2:0"], b""), (["symbols", sample, "0"], b""), (["check", sample, sample], b""), (["find", sample, "*"], b""),
                          (["where", sample, "a.c"], b""), (["sources", sample], b""), (["modules", sample], b""), (["sections", sample], b""),
                          (["types", sample, "74", "1000"], b"")):
         _, whole, _ = ran(*words, given=given)

@@ -31,7 +31,7 @@ def many_lines(sample):
 
 def order_of_faults(sample):
     """Arguments are judged before a file is opened; one file's error is told, and the next follows."""
-    usage = b"usage: pdb_tool resolve [--base=HEX] [--key=KEY | --image=IMAGE] [--addresses] [--json] FILE [ADDRESS..]\n"
+    usage = b"usage: pdb_tool resolve [--base=HEX] [--key=KEY | --image=IMAGE] [--addresses] [--offsets] [--json] FILE [ADDRESS..]\n"
     compare("a bad word and no file", wrong(b"address zz is none: write HEX, 0xHEX, HEXh, or SECTION:OFFSET", usage), "resolve", "nowhere.pdb", "zz")
     usage = b"usage: pdb_tool lines FILE [K..]\n"
     compare("a bad number and no file", wrong(b"zz is no index of a module: pdb_tool modules FILE lists them", usage), "lines", "nowhere.pdb", "0", "zz")

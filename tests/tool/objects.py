@@ -27,7 +27,7 @@ LINES = b"""{"kind":"line","at":"0001:00000100","rva":"0x1100","length":8,"file"
 {"kind":"inlined","at":"0001:0000010e","rva":"0x110e","length":5,"file":"a.c","line":12,"column":0,"name":null}
 """
 USAGES = {
-    "resolve": b"usage: pdb_tool resolve [--base=HEX] [--key=KEY | --image=IMAGE] [--addresses] [--json] FILE [ADDRESS..]\n",
+    "resolve": b"usage: pdb_tool resolve [--base=HEX] [--key=KEY | --image=IMAGE] [--addresses] [--offsets] [--json] FILE [ADDRESS..]\n",
     "key": b"usage: pdb_tool key [--json] FILE..\n",
     "find": b"usage: pdb_tool find [--json] FILE NAME..\n",
     "check": b"usage: pdb_tool check [--json] FILE..\n",

@@ -33,7 +33,7 @@ def stored(name):
         return it.read()
 
 
-COMMANDS = b"resolve find where lines scopes symbols types sources modules sections streams key check help version"
+COMMANDS = b"resolve variables find where lines scopes symbols types sources modules sections streams key check help version"
 USAGE = b"usage: pdb_tool COMMAND [OPTION..] FILE [ARGUMENT..]; pdb_tool help prints more\n"
 
 

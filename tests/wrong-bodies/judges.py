@@ -1,6 +1,6 @@
 """What decides whether a contract rejects a mutant, beside the mutant itself: the file that it changes, the definitions
 that this file cites and those that they cite, the contracts of the functions that it calls, the types and constants that
-it names, and the traits."""
+it names, and the traits; all of these from files and crates that it brings in, or that those bring in."""
 import os
 import re
 
@@ -126,35 +126,92 @@ def sources_in(folder):
     return {path: text_of(path) for at, _, names in os.walk(folder) for name in names for path in [f"{at}/{name}"] if name.endswith(".rt")}
 
 
-class Judges:
-    """The definitions and sources of a crate and of those below it, by which its mutants are judged."""
+def code_of(text):
+    """A source without its comments and attributes."""
+    return re.sub(r"(?m)^\s*//.*$|#\[[^\]]*\]", "", text)
 
-    def __init__(self, folders):
-        self.own = os.path.basename(folders[-1])
+
+def home_of(folder, path, own):
+    """The crate of a source; of the crate that is judged also the file."""
+    crate = os.path.basename(folder)
+    return f"{crate}/{os.path.basename(path).removesuffix('.rt')}" if crate == own else crate
+
+
+def heads_in(text):
+    """The first words of the paths that a source takes from its crate: a file's name, or what the root has."""
+    for found in re.finditer(r"\b(?:crate|super)::(\w+|\{)", text):
+        if found[1] != "{":
+            yield found[1]
+            continue
+        depth, at, is_first = 1, found.end(), True
+        for word in re.finditer(r"\w+|[{},]", text[at:]):
+            depth += {"{": 1, "}": -1}.get(word[0], 0)
+            if depth == 0:
+                break
+            if is_first and word[0].isidentifier():
+                yield word[0]
+            is_first = depth == 1 and word[0] == ","
+
+
+def implemented_in(text):
+    """The words in the heads of a source's blocks `impl`: types whose methods stand there, among others."""
+    return set(re.findall(r"\w+", " ".join(re.findall(r"(?m)^impl\b[^{]*", text))))
+
+
+class Judges:
+    """The definitions and sources of a crate and of those below it, by which its mutants are judged. `below` has the crates
+    below each; without it every crate counts as one that every file reaches."""
+
+    def __init__(self, folders, below=None):
+        self.own, self.below = os.path.basename(folders[-1]), below
+        self.files = {os.path.basename(path).removesuffix(".rt"): code_of(it) for path, it in sources_in(f"{folders[-1]}/src").items()}
+        self.implemented = {file: implemented_in(it) for file, it in self.files.items()}
         self.definitions = {key: it for folder in folders for key, it in definitions_in(folder)}
         self.passed_on = {key: it for folder in folders for key, it in passed_on_by(folder).items()}
-        texts = [(text, os.path.basename(folder)) for folder in folders for _, text in sorted(sources_in(f"{folder}/src").items())]
-        self.traits = [block_at(it, found.start()) for it, _ in texts for found in TRAIT.finditer(it)]
+        texts = [(text, home_of(folder, path, self.own)) for folder in folders for path, text in sorted(sources_in(f"{folder}/src").items())]
+        self.traits = [(block_at(it, found.start()), home) for it, home in texts for found in TRAIT.finditer(it)]
         self.items, self.outside = {}, {}
-        for text, crate in texts:
+        for text, home in texts:
+            crate = home.partition("/")[0]
             source = Source(text, crate == self.own)
             for name, item in source.items:
                 is_outside = crate != self.own and item in source.free
                 kind = self.outside if is_outside else self.items
-                kind.setdefault(name, []).append((item, source.origins, crate))
+                kind.setdefault(name, []).append((item, source.origins, crate, home))
 
     def of(self, texts):
         """The texts that decide over mutants of these files, these among them."""
-        words = set().union(*(named_in(it) for it in texts))
-        items = [it for name in sorted(words & self.items.keys()) for it in self.items[name]]
+        words, reached = set().union(*(named_in(it) for it in texts)), self.reached_by(texts)
+        items = [it for name in sorted(words & self.items.keys()) for it in self.items[name] if it[3] in reached]
         outside = words & set().union(*(brought_from_outside(it) for it in texts))
         items += [it for name in sorted(outside & self.outside.keys()) for it in self.outside[name]]
-        left = set().union(*(cited_in(it, dict(brought_in(it)), self.own) for it in texts), *(cited_in(*it) for it in items))
+        left = set().union(*(cited_in(it, dict(brought_in(it)), self.own) for it in texts), *(cited_in(*it[:3]) for it in items))
         found = set()
         while left := self.known(left) - found:
             found |= left
             left = set().union(*(self.definitions[it].cited() for it in left))
-        return [*texts, *(it for it, *_ in items), *(self.definitions[it].text for it in sorted(found)), *self.traits]
+        traits = [it for it, home in self.traits if home in reached]
+        return [*texts, *(it for it, *_ in items), *(self.definitions[it].text for it in sorted(found)), *traits]
+
+    def reached_by(self, texts):
+        """The crates whose types and traits these files can meet, and the files of this crate: those that they name, or that
+        a file names which they bring in, what has methods of the types there, and the crates below. A value of any other
+        type has no way into them."""
+        if self.below is None:
+            return {home for items in self.items.values() for *_, home in items} | {it for _, it in self.traits}
+        found, seen, left = set(), set(), [code_of(it) for it in texts]
+        while left:
+            text = left.pop()
+            named = set(re.findall(r"\b(\w+)::", text)) | set(re.findall(r"(?m)^(?:pub )?use (\w+)", text))
+            found |= {it for crate in named & self.below.keys() for it in (crate, *self.below[crate])}
+            heads = set(heads_in(text))
+            types = set(re.findall(r"\b(?:struct|enum|trait) (\w+)", text))
+            files = {it for it in self.files if it in heads or types & self.implemented[it]}
+            # What is no file of the crate comes from its root.
+            files |= {"lib", "main"} & self.files.keys() if heads - self.files.keys() else set()
+            left += [self.files[it] for it in files - seen]
+            seen |= files
+        return found | {f"{self.own}/{it}" for it in seen}
 
     def known(self, keys):
         """Those of these names that are definitions, each in the crate that has it; of a module under another name, all of

@@ -19,7 +19,7 @@ use Rattle.pdb_resolve.specs.ModuleCode.{Code, call_in, calls_in, inlined_at, in
 use Rattle.pdb_resolve.specs.Frames.{frames_in, inlined_frame, outer_frame}
 use Rattle.pdb_resolve.specs.FileParts.{names_in}
 use Rattle.pdb_resolve.specs.AcrossModules.{global_id_in}
-use Rattle.pdb_resolve.specs.Resolved.{frames_of_module, public_of_file}
+use Rattle.pdb_resolve.specs.Resolved.{frames_of_module, other_of_file}
 
 -- ---- calls
 
@@ -72,7 +72,7 @@ few_in_module file q m =
     let calls = few_calls q (inlinee_with (inlinees_in m)) (symbols_in m) (procedure_at q m) in
     let symbols = few_symbols_by m (symbols_part_of m) refl in
     let frame = inlined_frame (names_in file) (global_id_in file m) (program_in m) in
-    let last = outer_frame (names_in file) (public_of_file file (Some m) q) q m ∷ [] in
+    let last = outer_frame (names_in file) (other_of_file file (Some m) q) q m ∷ [] in
     let counted : length (map frame (reverse (inlined_at q m)) ++ last) ≡ length (inlined_at q m) + 1 =
     length-append (map frame (reverse (inlined_at q m))) last ∙ ap (λ (n : ℕ). n + 1) (length-map (reverse (inlined_at q m)) frame ∙ length-reverse (inlined_at q m)) in
     omega (arith, calls, symbols, counted)

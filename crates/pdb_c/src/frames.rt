@@ -1,22 +1,21 @@
 //! The frames of addresses, many at once.
 
-ghost use Rattle.std.specs.Prelude.{◌≡◌, ◌+◌, [], ◌∷◌, ◌⊎◌, length, true, map, Ok, Err, OnOk, IfErr};
+ghost use Rattle.std.specs.Prelude.{◌≡◌, ◌+◌, [], ◌∷◌, ◌⊎◌, length, true, map, option_copied, Ok, Err, OnOk, IfErr};
 ghost use Rattle.std.specs.Option.{option_map};
 ghost use Rattle.pdb.specs.Error.{Error};
 ghost use Rattle.pdb.specs.Source.{Continues};
 ghost use Rattle.pdb.specs.Container.{opens};
-ghost use Rattle.pdb.specs.Qualified.{shown_qualified};
 ghost use Rattle.pdb.specs.Text.{name_bytes};
 ghost use Rattle.pdb_resolve.specs.Frames.{scope_text};
-ghost use Rattle.pdb_resolve.specs.KeptFrames.{shown_frame};
+ghost use Rattle.pdb_resolve.specs.KeptFrames.{shown_frame, shown_function_name};
 ghost use Rattle.pdb_c.specs.Rooms.{put};
 ghost use Rattle.pdb_c.specs.Boundary.{IsRefused};
 ghost use Rattle.pdb_c.specs.FrameRows.{place_asked, qualified_bytes, file_bytes, told_of, frame_row, frame_rows, frame_bytes, frames_bytes, frames_asked, bytes_asked, all_rows, all_names, AreFrames};
 
 use crate::answers::{OUT_OF_MEMORY, both_code, code_of, room_code};
 use crate::rooms::{behind, put_bytes, put_row};
-use pdb::{Error, MemorySource, PDB, PdbInternalSectionOffset, QualifiedName, RawString, Result};
-use pdb_resolve::{Frame, Resolver, Streams};
+use pdb::{Error, MemorySource, PDB, PdbInternalSectionOffset, RawString, Result};
+use pdb_resolve::{Frame, FunctionName, Resolver, Streams};
 use std::alloc::Global;
 
 /// An address that is asked for.
@@ -86,15 +85,15 @@ fn add_scope(names: &mut [u8], size: &mut usize, scope: Option<RawString<'_>>) -
 
 /// Puts a function's name.
 #[tactic(auto, using(crate::proofs::Putting::put_behind, crate::proofs::Putting::put_none))]
-fn add_name(names: &mut [u8], size: &mut usize, name: Option<QualifiedName<'_>>) -> Result<()>
-    ensures names { OnOk result (names.new ≡ put size.old (qualified_bytes (option_map shown_qualified name.entry)) names.old) }
-    ensures size { OnOk result (size.new ≡ size.old + length (qualified_bytes (option_map shown_qualified name.entry))) }
+fn add_name(names: &mut [u8], size: &mut usize, name: Option<&FunctionName<'_>>) -> Result<()>
+    ensures names { OnOk result (names.new ≡ put size.old (qualified_bytes (option_map shown_function_name (option_copied name.entry))) names.old) }
+    ensures size { OnOk result (size.new ≡ size.old + length (qualified_bytes (option_map shown_function_name (option_copied name.entry)))) }
     ensures refused { IfErr result (λ e. e ≡ Error.OutOfMemory) }
 {
     match name {
         Some(name) => {
-            add_scope(names, size, name.scope)?;
-            add(names, size, name.name.as_bytes())
+            add_scope(names, size, name.qualifier())?;
+            add(names, size, name.unqualified())
         }
         None => Ok(()),
     }
@@ -130,7 +129,7 @@ fn put_frame(
     ensures refused { IfErr result (λ e. e ≡ Error.OutOfMemory) }
 {
     let name_at = *size;
-    add_name(names, size, frame.name)?;
+    add_name(names, size, frame.name.as_ref())?;
     let file_at = *size;
     add_file(names, size, frame.file)?;
     let row = PdbFrame {

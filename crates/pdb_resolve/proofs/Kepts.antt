@@ -58,6 +58,17 @@ read_set file xs ys k m there set is are = λ j n h. elim (cases_eq j k) [
       are j n (sym other ∙ (ap (λ (l : List (Option ModuleBytes)). slice_index_or l j None) (sym set) ∙ h)))
 ]
 
+-- one more that wasn't there leaves the others
+pub stays_then : {U : Type 0} (xs ys : List (Option ModuleBytes)) (k : ℕ) (m : ModuleBytes) (r : Result U Error)
+    → OnOk r ((k < length xs) × (ys ≡ slice_set xs k (Some m))) → IfErr r (λ e. (e ≡ OutOfMemory) × (ys ≡ xs)) → slice_index_or xs k None ≡ None
+    → (j : ℕ) (n : ModuleBytes) → slice_index_or xs j None ≡ Some n → slice_index_or ys j None ≡ Some n
+stays_then xs ys k m (Ok u) kept refused none j n h = elim (cases_eq j k) [
+  | inl e ↦ (let both : Some n ≡ None = sym h ∙ (ap (λ (i : ℕ). slice_index_or xs i None) e ∙ none) in absurd cc)
+  | inr o ↦ (let other : slice_index_or (slice_set xs k (Some m)) j None ≡ slice_index_or xs j None = get_or-set_other xs k j (Some m) None o in
+      ap (λ (l : List (Option ModuleBytes)). slice_index_or l j None) kept.1 ∙ (other ∙ h))
+]
+stays_then xs ys k m (Err e) kept refused none j n h = ap (λ (l : List (Option ModuleBytes)). slice_index_or l j None) refused.1 ∙ h
+
 -- what is kept once one more was kept, or memory ended
 record StillRead (file : List ℕ) (xs ys : List (Option ModuleBytes)) : Type 0 where
   pub read : AreRead file ys

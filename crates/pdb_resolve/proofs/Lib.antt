@@ -6,6 +6,7 @@ pub mod Sorts
 pub mod Firsts
 pub mod Pieces
 pub mod Scopes
+pub mod LeastOffsets
 pub mod Asking
 pub mod Kepts
 pub mod FoundProcedures
@@ -16,7 +17,9 @@ pub mod TablePairs
 pub mod LastPairs
 pub mod FirstSections
 pub mod ContributionPieces
+pub mod OtherNames
 pub mod PublicKinds
+pub mod CodeKinds
 pub mod Nearest
 pub mod PublicRows
 pub mod PublicCount
@@ -25,3 +28,10 @@ pub mod FirstContributions
 pub mod Sites
 pub mod BackAgain
 pub mod ImportLaws
+pub mod OpenScopeStack
+pub mod VariableWalks
+pub mod ToldKeys
+pub mod RecordsBehind
+pub mod WalkSteps
+pub mod VariablesFound
+pub mod CallNumbers

@@ -12,7 +12,7 @@ use Rattle.pdb.specs.Forms.{record_at}
 use Rattle.pdb.specs.Inlinees.{InlineeEntry}
 use Rattle.pdb.specs.SymbolList.{Entry, symbols_from}
 use Rattle.pdb_symbols.proofs.SymbolLaws.{spaced}
-use Rattle.pdb_resolve.specs.ModuleCode.{Code, Role, role, procedure_of_role, procedure_of, code_covers, index_of, Call, call_of_role, between, call_in}
+use Rattle.pdb_resolve.specs.ModuleCode.{Code, Role, role, procedure_of_role, procedure_of, index_of, Call, call_of_role, between, call_in}
 use Rattle.pdb_resolve.specs.ModuleCode.Role.{at_procedure, at_other, at_site, passed}
 use Rattle.pdb_resolve.specs.declared.site.KeptSite.{KeptSite}
 use Rattle.pdb_resolve.specs.Listed.{entry_of}
@@ -57,25 +57,25 @@ pub record Stands (of : Entry → Option Code) (ss : List Entry) (c : Code) : Ty
 stands_later : (of : Entry → Option Code) (s : Entry) (ss : List Entry) (c : Code) → Stands of ss c → Stands of (s ∷ ss) c
 stands_later of s ss c h = record { before = s ∷ h.before; symbol = h.symbol; after = h.after; whole = ap (λ (l : List Entry). s ∷ l) h.whole; says = h.says }
 
-stands_by : (of : Entry → Option Code) (q : PdbInternalSectionOffset) (s : Entry) (ss : List Entry) (c d : Code) (t : Bool) → of s ≡ Some d → (find (code_covers q) (filter_map of ss) ≡ Some c → Stands of ss c) → cond t (Some d) (find (code_covers q) (filter_map of ss)) ≡ Some c → Stands of (s ∷ ss) c
-stands_by of q s ss c d true says rest e = let same : d ≡ c = cc in record { before = []; symbol = s; after = ss; whole = refl; says = says ∙ ap Some same }
-stands_by of q s ss c d false says rest e = stands_later of s ss c (rest e)
+stands_by : (of : Entry → Option Code) (test : Code → Bool) (s : Entry) (ss : List Entry) (c d : Code) (t : Bool) → of s ≡ Some d → (find test (filter_map of ss) ≡ Some c → Stands of ss c) → cond t (Some d) (find test (filter_map of ss)) ≡ Some c → Stands of (s ∷ ss) c
+stands_by of test s ss c d true says rest e = let same : d ≡ c = cc in record { before = []; symbol = s; after = ss; whole = refl; says = says ∙ ap Some same }
+stands_by of test s ss c d false says rest e = stands_later of s ss c (rest e)
 
-abbrev found_in : PdbInternalSectionOffset → Option Code → List Code → Option Code
-found_in q None cs = find (code_covers q) cs
-found_in q (Some d) cs = cond (code_covers q d) (Some d) (find (code_covers q) cs)
+abbrev found_in : (Code → Bool) → Option Code → List Code → Option Code
+found_in test None cs = find test cs
+found_in test (Some d) cs = cond (test d) (Some d) (find test cs)
 
-found_cons : (of : Entry → Option Code) (q : PdbInternalSectionOffset) (s : Entry) (ss : List Entry) (o : Option Code) → of s ≡ o → find (code_covers q) (filter_map of (s ∷ ss)) ≡ found_in q o (filter_map of ss)
-found_cons of q s ss None e = rw e refl
-found_cons of q s ss (Some d) e = rw e refl
+found_cons : (of : Entry → Option Code) (test : Code → Bool) (s : Entry) (ss : List Entry) (o : Option Code) → of s ≡ o → find test (filter_map of (s ∷ ss)) ≡ found_in test o (filter_map of ss)
+found_cons of test s ss None e = rw e refl
+found_cons of test s ss (Some d) e = rw e refl
 
-stands_cases : (of : Entry → Option Code) (q : PdbInternalSectionOffset) (s : Entry) (ss : List Entry) (c : Code) (o : Option Code) → of s ≡ o → (find (code_covers q) (filter_map of ss) ≡ Some c → Stands of ss c) → found_in q o (filter_map of ss) ≡ Some c → Stands of (s ∷ ss) c
-stands_cases of q s ss c None says rest e = stands_later of s ss c (rest e)
-stands_cases of q s ss c (Some d) says rest e = stands_by of q s ss c d (code_covers q d) says rest e
+stands_cases : (of : Entry → Option Code) (test : Code → Bool) (s : Entry) (ss : List Entry) (c : Code) (o : Option Code) → of s ≡ o → (find test (filter_map of ss) ≡ Some c → Stands of ss c) → found_in test o (filter_map of ss) ≡ Some c → Stands of (s ∷ ss) c
+stands_cases of test s ss c None says rest e = stands_later of s ss c (rest e)
+stands_cases of test s ss c (Some d) says rest e = stands_by of test s ss c d (test d) says rest e
 
-pub stands : (of : Entry → Option Code) (q : PdbInternalSectionOffset) (ss : List Entry) (c : Code) → find (code_covers q) (filter_map of ss) ≡ Some c → Stands of ss c
-stands of q [] c e = absurd cc
-stands of q (s ∷ ss) c e = stands_cases of q s ss c (of s) refl (stands of q ss c) (sym (found_cons of q s ss (of s) refl) ∙ e)
+pub stands : (of : Entry → Option Code) (test : Code → Bool) (ss : List Entry) (c : Code) → find test (filter_map of ss) ≡ Some c → Stands of ss c
+stands of test [] c e = absurd cc
+stands of test (s ∷ ss) c e = stands_cases of test s ss c (of s) refl (stands of test ss c) (sym (found_cons of test s ss (of s) refl) ∙ e)
 
 -- what a symbol says that is a procedure
 pub record IsProcedure (s : Entry) (c : Code) : Type 0 where

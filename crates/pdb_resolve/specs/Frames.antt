@@ -1,7 +1,8 @@
 -- The frames of a place, from the innermost outwards, and their text.
-use Rattle.std.specs.Prelude.{ℕ, List, [], ◌∷◌, ◌++◌, map, flat_map, reverse, codes, Option, Some, None}
+use Rattle.std.specs.Prelude.{ℕ, ◌==◌, if◌then◌else◌, List, [], ◌∷◌, ◌++◌, ◌-◌, map, flat_map, reverse, codes, Option, Some, None}
 use Rattle.std.specs.Option.{option_map, unwrap_or}
 use Rattle.std.specs.Fmt.{decimal}
+use Rattle.pdb_text.specs.Digits.{short_hex}
 use Rattle.pdb.specs.Fields.{cstring_at}
 use Rattle.pdb.specs.PdbInternalSectionOffset.{PdbInternalSectionOffset}
 use Rattle.pdb.specs.Items.{ItemEntry}
@@ -12,11 +13,12 @@ use Rattle.pdb.specs.LineProgram.{ProgramOf}
 use Rattle.pdb.specs.Files.{FileOf, file_at}
 use Rattle.pdb_text.specs.OneLine.{one_line}
 use Rattle.pdb_resolve.specs.AsIfEmpty.{if_read}
-use Rattle.pdb_resolve.specs.ModuleCode.{program_in, Call, function_at, line_at, inlined_at, name_at}
+use Rattle.pdb_resolve.specs.ModuleCode.{program_in, Call, Named, unnamed, named_in, function_at, line_at, inlined_at}
 
--- a frame: its function, with the name before it, its file, and its line and column
+-- a frame: its function, with the name before it, how far the place is behind the record that has the name, its file, and its line and column
 pub record Frame : Type 0 where
   pub name : Option Qualified
+  pub displacement : Option ℕ
   pub file : Option (List ℕ)
   pub line : ℕ
   pub column : ℕ
@@ -50,10 +52,11 @@ abbrev pub plain : List ℕ → Qualified
 plain name = record { scope = None; name = name }
 
 -- a frame with a line record, and without one
-abbrev pub frame_of : Option (List ℕ) → Option ProgramOf → Option Qualified → Option LineInfo → Frame
-frame_of strings program name None = record { name = name; file = None; line = 0; column = 0 }
-frame_of strings program name (Some r) = record {
+abbrev pub frame_of : Option (List ℕ) → Option ProgramOf → Option Qualified → Option ℕ → Option LineInfo → Frame
+frame_of strings program name displacement None = record { name = name; displacement = displacement; file = None; line = 0; column = 0 }
+frame_of strings program name displacement (Some r) = record {
   name = name;
+  displacement = displacement;
   file = file_name strings (file_in program r.file_index.0);
   line = r.line_start;
   column = unwrap_or r.column_start 0;
@@ -66,26 +69,37 @@ named_id ids types (Some id) = qualified_of ids types id
 
 -- of a function that was inlined, where global_id has the id that the whole file knows by one in the module
 abbrev pub inlined_frame : Names → (ℕ → Option ℕ) → Option ProgramOf → Call → Frame
-inlined_frame n global_id program c = frame_of n.strings program (named_id n.ids n.types (global_id c.id)) (Some c.line)
+inlined_frame n global_id program c = frame_of n.strings program (named_id n.ids n.types (global_id c.id)) None (Some c.line)
 
--- the name of the function at a place; of the public before it where no function is there
-abbrev pub name_or : Option (List ℕ) → Option (List ℕ) → Option ℕ → Option (List ℕ)
-name_or public name None = public
-name_or public name (Some index) = name
+-- how far a place is behind what names its code
+abbrev pub displacement_from : PdbInternalSectionOffset → Named → Option ℕ
+displacement_from q n = option_map (λ start. q.offset - start) n.start
 
-abbrev pub outer_name : Option (List ℕ) → PdbInternalSectionOffset → ModuleBytes → Option (List ℕ)
-outer_name public q m = name_or public (name_at q m) (function_at q m)
+abbrev pub frame_named_by : Option (List ℕ) → Option ProgramOf → PdbInternalSectionOffset → Named → Option LineInfo → Frame
+frame_named_by strings program q n line = frame_of strings program (option_map plain n.name) (displacement_from q n) line
 
-abbrev pub outer_frame : Names → Option (List ℕ) → PdbInternalSectionOffset → ModuleBytes → Frame
-outer_frame n public q m = frame_of n.strings (program_in m) (option_map plain (outer_name public q m)) (line_at q m)
+-- what names the function at a place; where no function is there, what else does
+abbrev pub named_or : Named → Option Named → Option ℕ → Named
+named_or other function None = other
+named_or other function (Some index) = unwrap_or function unnamed
+
+abbrev pub outer_named : Named → PdbInternalSectionOffset → ModuleBytes → Named
+outer_named other q m = named_or other (named_in m (function_at q m)) (function_at q m)
+
+abbrev pub outer_frame : Names → Named → PdbInternalSectionOffset → ModuleBytes → Frame
+outer_frame n other q m = frame_named_by n.strings (program_in m) q (outer_named other q m) (line_at q m)
 
 -- the inlined frames from the last site to the first, and then that of the function
-unfoldable pub frames_in : Names → (ℕ → Option ℕ) → Option (List ℕ) → PdbInternalSectionOffset → ModuleBytes → List Frame
-frames_in n global_id public q m = map (inlined_frame n global_id (program_in m)) (reverse (inlined_at q m)) ++ outer_frame n public q m ∷ []
+unfoldable pub frames_in : Names → (ℕ → Option ℕ) → Named → PdbInternalSectionOffset → ModuleBytes → List Frame
+frames_in n global_id other q m = map (inlined_frame n global_id (program_in m)) (reverse (inlined_at q m)) ++ outer_frame n other q m ∷ []
 
 -- where no module's code is there
-abbrev pub frame_without : Option (List ℕ) → Frame
-frame_without public = frame_of None None (option_map plain public) None
+abbrev pub frame_without : PdbInternalSectionOffset → Named → Frame
+frame_without q other = frame_named_by None None q other None
+
+-- where no place is there
+abbrev pub no_frame : Frame
+no_frame = frame_of None None None None None
 
 -- ---- text
 
@@ -115,10 +129,26 @@ abbrev pub name_text : Option Qualified → List ℕ
 name_text None = codes "??"
 name_text (Some name) = scoped_text name.scope name.name
 
--- the name, and FILE:LINE:COLUMN, each with a line end
+-- `+0x` and how far the place is behind what has the name, where it is
+abbrev pub displacement_text : Option ℕ → List ℕ
+displacement_text None = []
+displacement_text (Some n) = if n == 0 then [] else codes "+0x" ++ short_hex n
+
+-- the name, what stands behind it, and FILE:LINE:COLUMN, each with a line end
+abbrev pub frame_lines : List ℕ → Frame → List ℕ
+frame_lines behind f = name_text f.name ++ behind ++ codes "\n" ++ file_text f.file ++ codes ":" ++ decimal f.line ++ codes ":" ++ decimal f.column ++ codes "\n"
+
 abbrev pub frame_text : Frame → List ℕ
-frame_text f = name_text f.name ++ codes "\n" ++ file_text f.file ++ codes ":" ++ decimal f.line ++ codes ":" ++ decimal f.column ++ codes "\n"
+frame_text f = frame_lines [] f
+
+-- the same with the displacement
+abbrev pub displaced_text : Frame → List ℕ
+displaced_text f = frame_lines (displacement_text f.displacement) f
 
 -- the frames, and an empty line
 abbrev pub frames_text : List Frame → List ℕ
 frames_text fs = flat_map frame_text fs ++ codes "\n"
+
+-- the same with displacements
+abbrev pub displaced_frames : List Frame → List ℕ
+displaced_frames fs = flat_map displaced_text fs ++ codes "\n"

@@ -1,7 +1,12 @@
 -- Words of private functions, and what is kept of a module.
-use Rattle.std.specs.Prelude.{◌≡◌, ◌<◌, ◌≤◌, find, filter_map, get_or, length, drop, ℕ, nat_le, nat_lt, if◌then◌else◌, List, [], ◌∷◌, ◌++◌, Option, Some, None, map}
+use Rattle.std.specs.Prelude.{◌≡◌, ◌<◌, ◌≤◌, find, filter_map, get_or, length, drop, ℕ, nat_le, nat_lt, if◌then◌else◌, List, [], ◌∷◌, ◌++◌, Option, Some, None, Result, ◌==◌, map}
 use Rattle.std.specs.List.Sorted.{IsNonDecreasingBy}
+use Rattle.std.specs.Ordering.{nat_cmp}
+use Rattle.std.specs.BTreeMap.{BTreeMap, get}
 use Rattle.std.specs.Option.{option_map, option_to_list}
+use Rattle.pdb.specs.Error.{Error}
+use Rattle.pdb_records.specs.RecordReading.{further_at}
+use Rattle.pdb_records.specs.RecordSays.{Says}
 use Rattle.pdb.specs.PdbInternalSectionOffset.{PdbInternalSectionOffset}
 use Rattle.pdb.specs.AnnotationViews.{annotation_bytes}
 use Rattle.pdb.specs.Data.{Data}
@@ -14,11 +19,12 @@ use Rattle.pdb_resolve.specs.declared.range.CodeRange.{CodeRange}
 use Rattle.pdb_resolve.specs.declared.role.Role.{Role as Read}
 use Rattle.pdb_resolve.specs.declared.role.Role.TheVariants.{Procedure, Other, Site, Passed}
 use Rattle.pdb_resolve.specs.declared.calls.InlinedCall.{InlinedCall}
+use Rattle.pdb_resolve.specs.declared.leading.Leading.{Leading as LeadingRead}
 use Rattle.pdb_resolve.specs.declared.site.KeptSite.{KeptSite}
 use Rattle.pdb_resolve.specs.Covering.{first_covering}
 use Rattle.pdb_resolve.specs.RangeOrder.{InOrder}
 use Rattle.pdb_resolve.specs.Listed.{entry_of}
-use Rattle.pdb_resolve.specs.ModuleCode.{Code, Role, role, begins_at, Call, call_of_role, index_of, code_covers, symbols_in, AreCodesApart, says}
+use Rattle.pdb_resolve.specs.ModuleCode.{Code, Role, role, begins_at, Call, call_of_role, index_of, code_covers, symbols_in, AreCodesApart, Leading, least_in, lesser, says}
 use Rattle.pdb_resolve.specs.ModuleCode.Role.{at_procedure, at_other, at_site, passed}
 
 -- what a symbol is to the code
@@ -109,3 +115,25 @@ pub record IsListed (i : ℕ) (ss : List Entry) : Type 0 where
 abbrev pub head_says : List Entry → Option Data
 head_says [] = None
 head_says (s ∷ ss) = says s
+
+-- ---- trampolines
+
+abbrev pub shown_leading : LeadingRead → Leading
+shown_leading t = record { kind = t.kind; place = t.place; number = t.number; target = t.target }
+
+-- the least offset of ranges in a section
+abbrev pub least_among : ℕ → List CodeRange → Option ℕ
+least_among section [] = None
+least_among section (r ∷ rs) = if r.place.section == section then Some (lesser r.place.offset (least_among section rs)) else least_among section rs
+
+-- what is kept of them by their sections
+abbrev pub AreLeastOf : List CodeRange → BTreeMap ℕ ℕ → Type 0
+AreLeastOf rs least = (s : ℕ) → get nat_cmp least s ≡ least_among s rs
+
+abbrev pub AreLeastIn : List Code → BTreeMap ℕ ℕ → Type 0
+AreLeastIn cs least = (s : ℕ) → get nat_cmp least s ≡ least_in s cs
+
+-- what the first symbol says that is a further record
+abbrev pub head_further : List Entry → Option (Result Says Error)
+head_further [] = None
+head_further (s ∷ ss) = Some (further_at s.bytes)

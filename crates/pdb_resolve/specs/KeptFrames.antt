@@ -6,16 +6,41 @@ use Rattle.pdb.specs.LineProgram.{ProgramOf}
 use Rattle.pdb.specs.ModuleStream.{ModuleBytes}
 use Rattle.pdb.specs.Qualified.{Qualified, shown_qualified}
 use Rattle.pdb.specs.Text.{name_bytes}
+use Rattle.pdb_resolve.specs.ModuleCode.{Named}
+use Rattle.pdb_resolve.specs.declared.function_names.FunctionName.{FunctionName}
+use Rattle.pdb_resolve.specs.declared.function_names.FunctionName.TheVariants.{Read, Made}
+use Rattle.pdb_resolve.specs.declared.function_names.Naming.{Naming}
+use Rattle.pdb_resolve.specs.declared.function_names.NamedCode.{NamedCode}
 use Rattle.pdb_resolve.specs.declared.frames.Frame.{Frame as FrameRead}
 use Rattle.pdb_resolve.specs.declared.frames.FunctionNames.{FunctionNames}
 use Rattle.pdb_resolve.specs.declared.frames.NamedFile.{NamedFile}
-use Rattle.pdb_resolve.specs.Frames.{Frame, Names, file_name, file_in}
+use Rattle.pdb_resolve.specs.Frames.{Frame, Names, file_name, file_in, plain}
 use Rattle.pdb_resolve.specs.FileParts.{modules_where}
 use Rattle.pdb_resolve.specs.AcrossModules.{global_id}
 
+-- what a name of a function shows
+abbrev pub shown_function_name : FunctionName → Qualified
+shown_function_name (Read name) = shown_qualified name
+shown_function_name (Made name) = plain name.items
+
+abbrev pub name_shown : FunctionName → List ℕ
+name_shown name = (shown_function_name name).name
+
+-- what names a place is kept with a name that isn't qualified
+abbrev pub IsNameOf : Option FunctionName → Option (List ℕ) → Type 0
+IsNameOf name expected = option_map shown_function_name name ≡ option_map plain expected
+
+pub record IsNamed (n : Naming) (expected : Named) : Type 0 where
+  pub name : IsNameOf n.name expected.name
+  pub start : n.start ≡ expected.start
+
+-- what names code by a record
+abbrev pub shown_naming : NamedCode → Named
+shown_naming n = record { name = option_map name_bytes n.name; start = n.start }
+
 -- what a frame shows
 abbrev pub shown_frame : FrameRead → Frame
-shown_frame f = record { name = option_map shown_qualified f.name; file = option_map name_bytes f.file; line = f.line; column = f.column }
+shown_frame f = record { name = option_map shown_function_name f.name; displacement = f.displacement; file = option_map name_bytes f.file; line = f.line; column = f.column }
 
 -- the names of functions and of files
 abbrev pub names_of : FunctionNames → Option (List ℕ) → Names
@@ -26,8 +51,8 @@ abbrev pub global_of_call : List ℕ → Option (List ℕ) → FunctionNames →
 global_of_call file strings n m id = global_id file strings (modules_where (option_copied n.information)) m id
 
 -- a frame with a line record in a file of this name
-abbrev pub frame_named : Option (List ℕ) → Option Qualified → LineInfo → Frame
-frame_named file name r = record { name = name; file = file; line = r.line_start; column = unwrap_or r.column_start 0 }
+abbrev pub frame_named : Option (List ℕ) → Option Qualified → Option ℕ → LineInfo → Frame
+frame_named file name displacement r = record { name = name; displacement = displacement; file = file; line = r.line_start; column = unwrap_or r.column_start 0 }
 
 -- a file has the name that its index tells
 abbrev pub IsNamedIn : Option (List ℕ) → Option ProgramOf → Option NamedFile → Type 0

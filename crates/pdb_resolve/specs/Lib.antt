@@ -3,6 +3,8 @@ pub mod RangeOrder
 pub mod Covering
 pub mod Sorting
 pub mod ModuleCode
+pub mod Leading
+pub mod Machines
 pub mod Frames
 pub mod FileParts
 pub mod AcrossModules
@@ -22,3 +24,7 @@ pub mod PublicTable
 pub mod Resolved
 pub mod KeptParts
 pub mod KeptNames
+pub mod VariableRecords
+pub mod Variables
+pub mod VariableWalk
+pub mod VariableViews

@@ -1,11 +1,11 @@
 -- What stands at a place of a module's code: the function, the line, the inlined calls.
-use Rattle.std.specs.Prelude.{◌≡◌, ◌⊎◌, All, ℕ, Bool, true, false, ◌+◌, ◌&&◌, ◌==◌, nat_le, nat_lt, if◌then◌else◌, List, [], Option, Some, None, Result, Ok, find, filter_map}
-use Rattle.std.specs.Option.{is_some, option_map, option_or}
+use Rattle.std.specs.Prelude.{◌≡◌, ◌⊎◌, All, ℕ, Bool, true, false, ◌+◌, ◌&&◌, ◌==◌, ◌-◌, nat_le, nat_lt, if◌then◌else◌, List, [], ◌∷◌, Option, Some, None, Result, Ok, find, filter_map}
+use Rattle.std.specs.Option.{is_some, option_map, option_or, unwrap_or}
 use Rattle.pdb.specs.Error.{Error}
 use Rattle.pdb.specs.PdbInternalSectionOffset.{PdbInternalSectionOffset}
 use Rattle.pdb.specs.Data.{Data}
-use Rattle.pdb.specs.Data.Data.{Procedure, Thunk, SeparatedCode, InlineSite}
-use Rattle.pdb.specs.Forms.{record_at}
+use Rattle.pdb.specs.Data.Data.{Procedure, Thunk, SeparatedCode, InlineSite, Trampoline}
+use Rattle.pdb.specs.Forms.{kind_at, record_at}
 use Rattle.pdb.specs.SymbolList.{Entry}
 use Rattle.pdb.specs.ModuleStream.{ModuleBytes, symbols_of, line_program_of, inlinees_of}
 use Rattle.pdb.specs.Inlinees.{InlineeEntry, inlinee_with}
@@ -13,6 +13,11 @@ use Rattle.pdb.specs.Inlined.{lines_of_site}
 use Rattle.pdb.specs.LineInfo.{LineInfo}
 use Rattle.pdb.specs.LineProgram.{ProgramOf}
 use Rattle.pdb.specs.LineOrder.{lines_for}
+use Rattle.pdb_symbols.specs.Kinds.{is_in}
+use Rattle.pdb_symbols.specs.declared.thunks.TrampolineType.{TrampolineType}
+use Rattle.pdb_records.specs.RecordReading.{further_at}
+use Rattle.pdb_records.specs.RecordSays.{Says}
+use Rattle.pdb_records.specs.RecordSays.Says.{ManagedProcedure}
 use Rattle.pdb_resolve.specs.AsIfEmpty.{items_of, if_read}
 
 -- ---- parts of a module, each as if empty where it is refused; of one with a fault the items before it
@@ -68,31 +73,65 @@ procedure_of s = procedure_of_role s.index (role (record_at s.bytes))
 abbrev pub other_of : Entry → Option Code
 other_of s = other_of_role s.index (role (record_at s.bytes))
 
+-- the code of a symbol that reads as ManagedProcedure, whose kinds are S_GMANPROC, S_LMANPROC and their older forms
+abbrev pub is_managed : ℕ → Bool
+is_managed kind = is_in (0x112a ∷ 0x112b ∷ 0x101a ∷ 0x101b ∷ []) kind
+
+abbrev pub managed_said : ℕ → Result Says Error → Option Code
+managed_said index (Ok (ManagedProcedure s)) = Some (record { index = index; place = s.offset; length = s.len; end = s.end.0 })
+managed_said index r = None
+
+abbrev pub managed_of : Entry → Option Code
+managed_of s = if is_managed (kind_at s.bytes) then managed_said s.index (further_at s.bytes) else None
+
+-- the code of a symbol that parses as Trampoline, whose kind is S_TRAMPOLINE; it has no scope to end
+abbrev pub is_trampoline : ℕ → Bool
+is_trampoline kind = kind == 0x112c
+
+abbrev pub trampoline_said : ℕ → Result Data Error → Option Code
+trampoline_said index (Ok (Trampoline s)) = Some (record { index = index; place = s.thunk; length = s.size; end = index })
+trampoline_said index r = None
+
+abbrev pub trampoline_of : Entry → Option Code
+trampoline_of s = if is_trampoline (kind_at s.bytes) then trampoline_said s.index (record_at s.bytes) else None
+
 -- ---- the function at a place
 
 abbrev pub code_covers : PdbInternalSectionOffset → Code → Bool
 code_covers q c = covers_place q c.place c.length
 
--- the procedures of a module; its thunks and separated code
+-- the procedures of a module; its thunks and separated code; its managed procedures; its trampolines
 abbrev pub procedures_in : ModuleBytes → List Code
 procedures_in m = filter_map procedure_of (symbols_in m)
 
 abbrev pub others_in : ModuleBytes → List Code
 others_in m = filter_map other_of (symbols_in m)
 
--- the first procedure that covers the place; the first thunk or separated code
+abbrev pub managed_in : ModuleBytes → List Code
+managed_in m = filter_map managed_of (symbols_in m)
+
+abbrev pub trampolines_in : ModuleBytes → List Code
+trampolines_in m = filter_map trampoline_of (symbols_in m)
+
+-- the first procedure that covers the place; the first thunk or separated code; the first managed procedure; the first trampoline
 abbrev pub procedure_at : PdbInternalSectionOffset → ModuleBytes → Option Code
 procedure_at q m = find (code_covers q) (procedures_in m)
 
 abbrev pub other_at : PdbInternalSectionOffset → ModuleBytes → Option Code
 other_at q m = find (code_covers q) (others_in m)
 
+abbrev pub managed_at : PdbInternalSectionOffset → ModuleBytes → Option Code
+managed_at q m = find (code_covers q) (managed_in m)
+
+abbrev pub trampoline_at : PdbInternalSectionOffset → ModuleBytes → Option Code
+trampoline_at q m = find (code_covers q) (trampolines_in m)
+
 abbrev pub index_of : Code → ℕ
 index_of c = c.index
 
--- the index of the function's symbol
+-- the index of the function's symbol; a trampoline is told apart, by what it leads to
 abbrev pub function_at : PdbInternalSectionOffset → ModuleBytes → Option ℕ
-function_at q m = option_or (option_map index_of (procedure_at q m)) (option_map index_of (other_at q m))
+function_at q m = option_or (option_map index_of (procedure_at q m)) (option_or (option_map index_of (other_at q m)) (option_map index_of (managed_at q m)))
 
 -- the place is where the piece begins
 abbrev pub begins_at : PdbInternalSectionOffset → Code → Bool
@@ -191,12 +230,74 @@ procedure_name d = None
 abbrev pub procedure_name_at : PdbInternalSectionOffset → ModuleBytes → Option (List ℕ)
 procedure_name_at q m = procedure_name (said_at m (option_map index_of (procedure_at q m)))
 
--- the name of a function: that of separated code is its parent's
-abbrev pub function_name : ModuleBytes → Option Data → Option (List ℕ)
-function_name m (Some (Procedure s)) = Some s.name
-function_name m (Some (Thunk s)) = Some s.name
-function_name m (Some (SeparatedCode s)) = procedure_name_at s.parent_offset m
-function_name m d = None
+-- what names code: a name, and the offset in its section at which the record that has the name begins
+pub record Named : Type 0 where
+  pub name : Option (List ℕ)
+  pub start : Option ℕ
+
+abbrev pub named : List ℕ → PdbInternalSectionOffset → Named
+named name place = record { name = Some name; start = Some place.offset }
+
+abbrev pub unnamed : Named
+unnamed = record { name = None; start = None }
+
+-- what names a function: separated code has its parent's name, and begins elsewhere
+abbrev pub named_by : ModuleBytes → Option Data → Option Named
+named_by m (Some (Procedure s)) = Some (named s.name s.offset)
+named_by m (Some (Thunk s)) = Some (named s.name s.offset)
+named_by m (Some (SeparatedCode s)) = Some (record { name = procedure_name_at s.parent_offset m; start = None })
+named_by m d = None
+
+-- what names a managed procedure
+abbrev pub managed_named : Option (Result Says Error) → Option Named
+managed_named (Some (Ok (ManagedProcedure s))) = Some (named s.name s.offset)
+managed_named r = None
+
+abbrev pub further_if : Option Entry → Option (Result Says Error)
+further_if None = None
+further_if (Some s) = Some (further_at s.bytes)
+
+abbrev pub further_in : ModuleBytes → Option ℕ → Option (Result Says Error)
+further_in m None = None
+further_in m (Some i) = further_if (find (λ s. s.index == i) (symbols_in m))
+
+-- what names the function of an index
+abbrev pub named_in : ModuleBytes → Option ℕ → Option Named
+named_in m index = option_or (named_by m (said_at m index)) (managed_named (further_in m index))
+
+abbrev pub name_of_named : Option Named → Option (List ℕ)
+name_of_named None = None
+name_of_named (Some n) = n.name
 
 abbrev pub name_at : PdbInternalSectionOffset → ModuleBytes → Option (List ℕ)
-name_at q m = function_name m (said_at m (function_at q m))
+name_at q m = name_of_named (named_in m (function_at q m))
+
+-- the name of the first procedure that begins at a place
+abbrev pub begun_name : PdbInternalSectionOffset → ModuleBytes → Option (List ℕ)
+begun_name q m = procedure_name (said_at m (option_map index_of (find (begins_at q) (procedures_in m))))
+
+-- ---- trampolines
+
+-- the least offset of pieces in a section
+abbrev pub lesser : ℕ → Option ℕ → ℕ
+lesser n None = n
+lesser n (Some k) = if nat_lt k n then k else n
+
+abbrev pub least_in : ℕ → List Code → Option ℕ
+least_in section [] = None
+least_in section (c ∷ cs) = if c.place.section == section then Some (lesser c.place.offset (least_in section cs)) else least_in section cs
+
+-- a trampoline: what it is for, the place of its code, how far that is behind the first in its section, and where it leads
+pub record Leading : Type 0 where
+  pub kind : TrampolineType
+  pub place : PdbInternalSectionOffset
+  pub number : ℕ
+  pub target : PdbInternalSectionOffset
+
+abbrev pub leading_by : ModuleBytes → Option Data → Option Leading
+leading_by m (Some (Trampoline s)) = Some (record { kind = s.tramp_type; place = s.thunk; number = s.thunk.offset - unwrap_or (least_in s.thunk.section (trampolines_in m)) 0; target = s.target })
+leading_by m d = None
+
+-- the trampoline at a place
+abbrev pub leading_at : PdbInternalSectionOffset → ModuleBytes → Option Leading
+leading_at q m = leading_by m (said_at m (option_map index_of (trampoline_at q m)))

@@ -1,7 +1,7 @@
 //! The inlined calls of a procedure that cover a place.
 
 ghost use Rattle.std.specs.Prelude.{◌≡◌, ◌++◌, [], ◌∷◌, map, IfOk, IfErr, OnOk};
-ghost use Rattle.std.specs.Option.{option_map, option_to_list};
+ghost use Rattle.std.specs.Option.{is_some, option_map, option_to_list};
 ghost use Rattle.pdb.specs.AnnotationViews.{annotation_bytes};
 ghost use Rattle.pdb.specs.Views.{symbol_of};
 ghost use Rattle.pdb.specs.Forms.{record_at};
@@ -43,6 +43,18 @@ fn site_line<'a>(
         Some(inlinee) => first_inlined_line(inlinee.lines(parent, site), place),
         None => None,
     }
+}
+
+/// Whether a site has a record that covers a place, in a procedure that begins at `parent`.
+pub(crate) fn has_line<'a>(
+    known: &InlineeFinder<'a>,
+    place: PdbInternalSectionOffset,
+    parent: PdbInternalSectionOffset,
+    site: &InlineSiteSymbol<'a>,
+) -> bool
+    ensures { result ≡ is_some (first_line place (lines_of_site parent (annotation_bytes site.now.annotations) (inlinee_with known.now site.now.inlinee.0)).items) }
+{
+    site_line(known, place, parent, site).is_some()
 }
 
 /// How many calls there is room for once the first comes: few procedures have more at one place.

@@ -1,19 +1,20 @@
 //! The frames of a place.
 
-ghost use Rattle.std.specs.Prelude.{◌≡◌, ◌++◌, [], ◌∷◌, map, reverse, Some, None, option_copied, IfOk, IfErr, OnOk};
+ghost use Rattle.std.specs.Prelude.{◌≡◌, ◌-◌, ◌++◌, [], ◌∷◌, map, reverse, Some, None, option_copied, IfOk, IfErr, OnOk};
 ghost use Rattle.std.specs.Option.{option_map};
 ghost use Rattle.pdb.specs.FileViews.{shown_file};
 ghost use Rattle.pdb.specs.Qualified.{shown_qualified};
 ghost use Rattle.pdb.specs.Source.{Continues, MayFail};
 ghost use Rattle.pdb_resolve.specs.AsIfEmpty.{OnlyFails};
 ghost use Rattle.pdb.specs.Text.{name_bytes};
-ghost use Rattle.pdb_resolve.specs.ModuleCode.{program_in, line_at};
-ghost use Rattle.pdb_resolve.specs.Frames.{plain, file_name as file_name_of, frame_of, inlined_frame, named_id};
+ghost use Rattle.pdb_resolve.specs.ModuleCode.{Named, program_in, line_at};
+ghost use Rattle.pdb_resolve.specs.Frames.{file_name as file_name_of, frame_named_by, frame_of, frame_without, inlined_frame, named_id, no_frame, plain};
 ghost use Rattle.pdb_resolve.specs.Kept.{shown_call};
-ghost use Rattle.pdb_resolve.specs.KeptFrames.{shown_frame, names_of, global_of_call, frame_named, IsNamedIn};
+ghost use Rattle.pdb_resolve.specs.KeptFrames.{shown_frame, shown_function_name, names_of, global_of_call, frame_named, IsNamed, IsNamedIn};
 
 use crate::across_modules::imported_id;
 use crate::calls::InlinedCall;
+use crate::function_names::{FunctionName, Naming};
 use crate::module_code::ModuleCode;
 use pdb::{
     DebugInformation, Error, FileIndex, FileInfo, IdIndex, ItemFinder, LineInfo, PDB,
@@ -23,10 +24,13 @@ use pdb::{
 use std::alloc::Global;
 
 /// A function whose code stands at a place, and the line there. Names are bytes as the file has them.
-#[derive(Clone, Copy, Debug, PartialEq)]
+#[derive(Drop)]
 pub struct Frame<'a> {
     /// The function's name; none where the file tells none.
-    pub name: Option<QualifiedName<'a>>,
+    pub name: Option<FunctionName<'a>>,
+    /// How many bytes the place is behind the record that has the name: of the function itself, but for separated code,
+    /// of a jump that the linker made, or of the public symbol. None of an inlined call, and where nothing has the name.
+    pub displacement: Option<u32>,
     /// The name of the source file; none where no line is told, or the name isn't there.
     pub file: Option<RawString<'a>>,
     /// The line, counted from 1; 0 where none is told.
@@ -84,13 +88,15 @@ fn named_file<'a>(
 /// The frame of a line record in a file of this name.
 fn frame_in<'a>(
     file: Option<RawString<'a>>,
-    name: Option<QualifiedName<'a>>,
+    name: Option<FunctionName<'a>>,
+    displacement: Option<u32>,
     line: &LineInfo,
 ) -> Frame<'a>
-    ensures { shown_frame result ≡ frame_named (option_map name_bytes file.entry) (option_map shown_qualified name.entry) line.now }
+    ensures { shown_frame result ≡ frame_named (option_map name_bytes file.entry) (option_map shown_function_name name.entry) displacement line.now }
 {
     Frame {
         name,
+        displacement,
         file,
         line: line.line_start,
         column: line.column_start.unwrap_or(0),
@@ -101,25 +107,49 @@ fn frame_in<'a>(
 fn line_frame<'a>(
     code: &ModuleCode<'a>,
     strings: Option<&'a StringTable<'a>>,
-    name: Option<QualifiedName<'a>>,
+    name: Option<FunctionName<'a>>,
+    displacement: Option<u32>,
     line: &LineInfo,
 ) -> Frame<'a>
-    ensures { shown_frame result ≡ frame_of (option_copied strings.entry) (program_in code.now) (option_map shown_qualified name.entry) (Some line.now) }
+    ensures { shown_frame result ≡ frame_of (option_copied strings.entry) (program_in code.now) (option_map shown_function_name name.entry) displacement (Some line.now) }
 {
     let file = file_name(strings, code.file(line.file_index));
-    frame_in(file, name, line)
+    frame_in(file, name, displacement, line)
 }
 
 /// A frame without a line.
-pub(crate) fn frame_without_line<'a>(name: Option<QualifiedName<'a>>) -> Frame<'a>
-    ensures { shown_frame result ≡ frame_of None None (option_map shown_qualified name.entry) None }
+fn frame_without_line<'a>(name: Option<FunctionName<'a>>, displacement: Option<u32>) -> Frame<'a>
+    ensures { shown_frame result ≡ frame_of None None (option_map shown_function_name name.entry) displacement None }
 {
     Frame {
         name,
+        displacement,
         file: None,
         line: 0,
         column: 0,
     }
+}
+
+/// The frame where no place is.
+pub(crate) fn frame_nowhere<'a>() -> Frame<'a>
+    ensures { shown_frame result ≡ no_frame }
+{
+    frame_without_line(None, None)
+}
+
+/// How far a place is behind what names its code.
+fn displacement_from(place: PdbInternalSectionOffset, start: Option<u32>) -> Option<u32>
+    ensures { result ≡ option_map (λ s. place.offset - s) start }
+{
+    Some(place.offset.saturating_sub(start?))
+}
+
+/// The frame of a place of which no module's code is known, and which this names.
+pub(crate) fn frame_without<'a>(place: PdbInternalSectionOffset, naming: Naming<'a>) -> Frame<'a>
+    ensures { (n : Named) → IsNamed naming.entry n → shown_frame result ≡ frame_without place n }
+{
+    let displacement = displacement_from(place, naming.start);
+    frame_without_line(naming.name, displacement)
 }
 
 /// One more frame.
@@ -172,41 +202,52 @@ pub(crate) fn push_inlined<'a, 's, S: Source<'s>>(
     while let Some((call, before)) = left.split_last() {
         let name = name_of_call(alloc, pdb, code, names, strings, call.id)?;
         let file = named_file(code, strings, last, call.line.file_index);
-        push_frame(frames, frame_in(file.name, name, &call.line))?;
+        push_frame(
+            frames,
+            frame_in(file.name, name_as_read(name), None, &call.line),
+        )?;
         last = Some(file);
         left = before;
     }
     Ok(())
 }
 
-/// The frame of a function that has this name, with the line at a place.
+/// The frame of the function at a place, which this names, with the line there.
 fn outer_frame<'a>(
     code: &ModuleCode<'a>,
     strings: Option<&'a StringTable<'a>>,
-    name: Option<QualifiedName<'a>>,
+    naming: Naming<'a>,
     place: PdbInternalSectionOffset,
 ) -> Frame<'a>
-    ensures { shown_frame result ≡ frame_of (option_copied strings.entry) (program_in code.now) (option_map shown_qualified name.entry) (line_at place code.now) }
+    ensures { (n : Named) → IsNamed naming.entry n → shown_frame result ≡ frame_named_by (option_copied strings.entry) (program_in code.now) place n (line_at place code.now) }
 {
+    let displacement = displacement_from(place, naming.start);
     match code.line(place) {
-        Some(line) => line_frame(code, strings, name, &line),
-        None => frame_without_line(name),
+        Some(line) => line_frame(code, strings, naming.name, displacement, &line),
+        None => frame_without_line(naming.name, displacement),
     }
 }
 
-/// The frame of the function at a place, which has this name.
+/// The frame of the function at a place, which this names.
 pub(crate) fn push_outer<'a>(
     frames: &mut Vec<Frame<'a>>,
     code: &ModuleCode<'a>,
     strings: Option<&'a StringTable<'a>>,
-    name: Option<RawString<'a>>,
+    naming: Naming<'a>,
     place: PdbInternalSectionOffset,
 ) -> Result<()>
-    ensures pushed { OnOk result (map shown_frame frames.new.items ≡ map shown_frame frames.old.items ++ frame_of (option_copied strings.entry) (program_in code.now) (option_map plain (option_map name_bytes name.entry)) (line_at place code.now) ∷ []) }
+    ensures pushed { (n : Named) → IsNamed naming.entry n → OnOk result (map shown_frame frames.new.items ≡ map shown_frame frames.old.items ++ frame_named_by (option_copied strings.entry) (program_in code.now) place n (line_at place code.now) ∷ []) }
     ensures refused { IfErr result (λ e. e ≡ Error.OutOfMemory) }
 {
-    let frame = outer_frame(code, strings, plain_name(name), place);
+    let frame = outer_frame(code, strings, naming, place);
     push_frame(frames, frame)
+}
+
+/// A name as the file has it.
+fn name_as_read<'a>(name: Option<QualifiedName<'a>>) -> Option<FunctionName<'a>>
+    ensures { option_map shown_function_name result ≡ option_map shown_qualified name.entry }
+{
+    Some(FunctionName::Read(name?))
 }
 
 /// A name that isn't qualified.

@@ -3,25 +3,35 @@
 ghost use Rattle.std.specs.Prelude.{◌≡◌, ℕ, List, [], ◌∷◌, is_some, map, option_copied, Some, IfSome, IfOk, IfErr};
 ghost use Rattle.std.specs.Option.{option_map};
 ghost use Rattle.pdb.specs.Text.{name_bytes};
+ghost use Rattle.pdb.specs.ModuleStream.{ModuleBytes};
 ghost use Rattle.pdb.specs.Source.{Continues, MayFail};
 ghost use Rattle.pdb.specs.Answers.{debug_information_in};
 ghost use Rattle.pdb_resolve.specs.AsIfEmpty.{if_read, OnlyFails};
 ghost use Rattle.pdb_resolve.specs.ModulePlaces.{module_number_at};
 ghost use Rattle.pdb_resolve.specs.FileParts.{module_numbered};
-ghost use Rattle.pdb_resolve.specs.Frames.{frame_without};
-ghost use Rattle.pdb_resolve.specs.Resolved.{function_where, procedure_where, procedures_where, public_of_file, frames_of_file};
-ghost use Rattle.pdb_resolve.specs.ModuleCode.{begins};
-ghost use Rattle.pdb_resolve.specs.KeptFrames.{shown_frame};
+ghost use Rattle.pdb_resolve.specs.Frames.{frame_without, plain};
+ghost use Rattle.pdb_resolve.specs.Resolved.{begun_where, frames_of_file, function_where, leading_named, leading_where, module_of_place, named_by_public, other_of_file, procedure_where, procedures_where, public_counted, public_there, spelled_by, target_name, variables_where};
+ghost use Rattle.pdb_resolve.specs.ModuleCode.{Named, begins};
+ghost use Rattle.pdb_resolve.specs.Kept.{shown_leading};
+ghost use Rattle.pdb_resolve.specs.PublicTable.{shown_found};
+ghost use Rattle.pdb_resolve.specs.KeptFrames.{IsNamed, IsNameOf, shown_frame, shown_function_name};
 ghost use Rattle.pdb_resolve.specs.Listed.{shown_procedure};
+ghost use Rattle.pdb_resolve.specs.VariableViews.{shown_variable};
 ghost use Rattle.pdb_resolve.specs.KeptParts.{code_kept, code_where, codes_of};
 
-use crate::frames::{Frame, frame_without_line, plain_name, push_frame};
+use crate::frames::{Frame, frame_without, push_frame};
+use crate::function_names::{
+    FunctionName, Naming, is_x86, leading_name, name_read, naming_at, nothing, spelled_name,
+};
+use crate::leading::Leading;
 use crate::module_code::ModuleCode;
 use crate::module_places::ModulePlaces;
 use crate::modules::Modules;
 use crate::procedures::ListedProcedure;
+use crate::public_names::PublicName;
 use crate::tables::Tables;
-use pdb::{Error, PDB, PdbInternalSectionOffset, RawString, Result, Source};
+use crate::variables::VariableAt;
+use pdb::{Error, ModuleInfo, PDB, PdbInternalSectionOffset, RawString, Result, Source};
 use std::alloc::Global;
 
 /// What is kept of a file: which modules are where, their code, and what names are found by.
@@ -32,13 +42,17 @@ pub(crate) struct KeptFile<'a, 's> {
     pub(crate) tables: Tables<'a, 's>,
 }
 
-/// The frame of a place of which no module's code is known, and the public symbol before it.
-fn bare_frames<'a>(alloc: Global, name: Option<RawString<'a>>) -> Result<Vec<Frame<'a>>>
-    ensures frames { IfOk result (λ fs. map shown_frame fs.items ≡ frame_without (option_map name_bytes name.entry) ∷ []) }
+/// The frame of a place of which no module's code is known, and which this names.
+fn bare_frames<'a>(
+    alloc: Global,
+    place: PdbInternalSectionOffset,
+    naming: Naming<'a>,
+) -> Result<Vec<Frame<'a>>>
+    ensures frames { (n : Named) → IsNamed naming.entry n → IfOk result (λ fs. map shown_frame fs.items ≡ frame_without place n ∷ []) }
     ensures refused { IfErr result (λ e. e ≡ Error.OutOfMemory) }
 {
     let mut frames = Vec::new(alloc);
-    push_frame(&mut frames, frame_without_line(plain_name(name)))?;
+    push_frame(&mut frames, frame_without(place, naming))?;
     Ok(frames)
 }
 
@@ -57,6 +71,7 @@ impl<'a, 's> KeptFile<'a, 's> {
         ensures kept { IsFileKept pdb.old.file self.new }
         ensures number { IfOk result (λ n. n ≡ module_number_at place (if_read (debug_information_in pdb.old.file))) }
         ensures read { IfOk result (λ n. IfSome n (λ k. code_kept self.new.modules k ≡ module_numbered pdb.old.file k)) }
+        ensures stays { (k : ℕ) (m : ModuleBytes) → code_kept self.old.modules k ≡ Some m → code_kept self.new.modules k ≡ Some m }
         ensures refused { IfErr result (λ e. OnlyFails (MayFail pdb.old pdb.new) e) }
     {
         let Some(number) = self.module_places.find(alloc, place)? else {
@@ -110,26 +125,29 @@ impl<'a, 's> KeptFile<'a, 's> {
         }
     }
 
-    /// The name of the public symbol before a place, where it counts and no function is there.
-    fn public<S: Source<'s>>(
+    /// The name that a public symbol's decorated name spells.
+    fn spelled(&self, alloc: Global, name: RawString<'a>) -> Result<FunctionName<'a>>
+        ensures name { (file : List ℕ) → IsFileKept file self.now → IfOk result (λ n. shown_function_name n ≡ plain (spelled_by file (name_bytes name.entry))) }
+        ensures refused { IfErr result (λ e. e ≡ Error.OutOfMemory) }
+    {
+        spelled_name(alloc, name, is_x86(self.tables.names.information))
+    }
+
+    /// The public symbol before a place, where it counts.
+    fn counted_public<S: Source<'s>>(
         &mut self,
         alloc: Global,
         pdb: &mut PDB<'s, S>,
         number: Option<usize>,
-        procedure: Option<ListedProcedure>,
         place: PdbInternalSectionOffset,
-    ) -> Result<Option<RawString<'a>>>
-        requires kept { IsFileKept pdb.old.file self.old }
-        requires procedure { option_map shown_procedure procedure ≡ procedure_where place (code_where self.old.modules number) }
+    ) -> Result<Option<PublicName<'a>>>
+        requires { IsFileKept pdb.old.file self.old }
         ensures continues { Continues pdb.old pdb.new }
         ensures kept { IsFileKept pdb.old.file self.new }
         ensures codes { codes_of self.new.modules ≡ codes_of self.old.modules }
-        ensures name { IfOk result (λ n. option_map name_bytes n ≡ public_of_file pdb.old.file (code_where self.old.modules number) place) }
+        ensures found { IfOk result (λ p. option_map shown_found p ≡ public_counted pdb.old.file (code_where self.old.modules number) place) }
         ensures refused { IfErr result (λ e. OnlyFails (MayFail pdb.old pdb.new) e) }
     {
-        if self.has_function(number, procedure, place) {
-            return Ok(None);
-        }
         let Some(public) = self.tables.globals.find(alloc, pdb, place)? else {
             return Ok(None);
         };
@@ -139,7 +157,152 @@ impl<'a, 's> KeptFile<'a, 's> {
         if self.begins(alloc, number, public.place)? {
             return Ok(None);
         }
-        Ok(Some(public.name))
+        Ok(Some(public))
+    }
+
+    /// What the public symbol before a place names, where it counts.
+    fn public<S: Source<'s>>(
+        &mut self,
+        alloc: Global,
+        pdb: &mut PDB<'s, S>,
+        number: Option<usize>,
+        place: PdbInternalSectionOffset,
+    ) -> Result<Naming<'a>>
+        requires { IsFileKept pdb.old.file self.old }
+        ensures continues { Continues pdb.old pdb.new }
+        ensures kept { IsFileKept pdb.old.file self.new }
+        ensures codes { codes_of self.new.modules ≡ codes_of self.old.modules }
+        ensures named { IfOk result (λ r. IsNamed r (named_by_public pdb.old.file (public_counted pdb.old.file (code_where self.old.modules number) place))) }
+        ensures refused { IfErr result (λ e. OnlyFails (MayFail pdb.old pdb.new) e) }
+    {
+        match self.counted_public(alloc, pdb, number, place)? {
+            Some(public) => Ok(naming_at(self.spelled(alloc, public.name)?, public.place)),
+            None => Ok(nothing()),
+        }
+    }
+
+    /// The name of the first public symbol at a place.
+    fn public_there<S: Source<'s>>(
+        &mut self,
+        alloc: Global,
+        pdb: &mut PDB<'s, S>,
+        place: PdbInternalSectionOffset,
+    ) -> Result<Option<FunctionName<'a>>>
+        requires { IsFileKept pdb.old.file self.old }
+        ensures continues { Continues pdb.old pdb.new }
+        ensures kept { IsFileKept pdb.old.file self.new }
+        ensures codes { codes_of self.new.modules ≡ codes_of self.old.modules }
+        ensures name { IfOk result (λ n. IsNameOf n (public_there pdb.old.file place)) }
+        ensures refused { IfErr result (λ e. OnlyFails (MayFail pdb.old pdb.new) e) }
+    {
+        let Some(public) = self.tables.globals.find(alloc, pdb, place)? else {
+            return Ok(None);
+        };
+        if public.place.section != place.section || public.place.offset != place.offset {
+            return Ok(None);
+        }
+        Ok(Some(self.spelled(alloc, public.name)?))
+    }
+
+    /// The name of the first procedure of the module of a number that begins at a place.
+    fn begun_name(
+        &mut self,
+        alloc: Global,
+        number: Option<usize>,
+        place: PdbInternalSectionOffset,
+    ) -> Result<Option<RawString<'a>>>
+        ensures kept { (file : List ℕ) → IsFileKept file self.old → IsFileKept file self.new }
+        ensures codes { codes_of self.new.modules ≡ codes_of self.old.modules }
+        ensures name { IfOk result (λ n. option_map name_bytes n ≡ begun_where place (code_where self.old.modules number)) }
+        ensures refused { IfErr result (λ e. e ≡ Error.OutOfMemory) }
+    {
+        match number {
+            Some(number) => self.modules.begun_name(alloc, number, place),
+            None => Ok(None),
+        }
+    }
+
+    /// The name of what begins at a place to which a linker's jump leads. The module there is read; what was read stays.
+    fn target_name<S: Source<'s>>(
+        &mut self,
+        alloc: Global,
+        pdb: &mut PDB<'s, S>,
+        place: PdbInternalSectionOffset,
+    ) -> Result<Option<FunctionName<'a>>>
+        requires { IsFileKept pdb.old.file self.old }
+        ensures continues { Continues pdb.old pdb.new }
+        ensures kept { IsFileKept pdb.old.file self.new }
+        ensures stays { (k : ℕ) (m : ModuleBytes) → code_kept self.old.modules k ≡ Some m → code_kept self.new.modules k ≡ Some m }
+        ensures name { IfOk result (λ n. IsNameOf n (target_name pdb.old.file place)) }
+        ensures refused { IfErr result (λ e. OnlyFails (MayFail pdb.old pdb.new) e) }
+    {
+        let number = self.module_at(alloc, pdb, place)?;
+        match self.begun_name(alloc, number, place)? {
+            Some(name) => Ok(Some(name_read(name))),
+            None => self.public_there(alloc, pdb, place),
+        }
+    }
+
+    /// The linker's jump at a place, of the module of a number.
+    fn leading(
+        &self,
+        alloc: Global,
+        number: Option<usize>,
+        place: PdbInternalSectionOffset,
+    ) -> Result<Option<Leading>>
+        ensures leading { IfOk result (λ t. option_map shown_leading t ≡ leading_where place (code_where self.now.modules number)) }
+        ensures refused { IfErr result (λ e. e ≡ Error.OutOfMemory) }
+    {
+        match self.code(number) {
+            Some(code) => code.leading(alloc, place),
+            None => Ok(None),
+        }
+    }
+
+    /// What names a linker's jump.
+    fn leading_naming<S: Source<'s>>(
+        &mut self,
+        alloc: Global,
+        pdb: &mut PDB<'s, S>,
+        leading: Leading,
+    ) -> Result<Naming<'a>>
+        requires { IsFileKept pdb.old.file self.old }
+        ensures continues { Continues pdb.old pdb.new }
+        ensures kept { IsFileKept pdb.old.file self.new }
+        ensures stays { (k : ℕ) (m : ModuleBytes) → code_kept self.old.modules k ≡ Some m → code_kept self.new.modules k ≡ Some m }
+        ensures named { IfOk result (λ r. IsNamed r (leading_named pdb.old.file (shown_leading leading))) }
+        ensures refused { IfErr result (λ e. OnlyFails (MayFail pdb.old pdb.new) e) }
+    {
+        let target = self.target_name(alloc, pdb, leading.target)?;
+        let name = leading_name(alloc, leading.kind, leading.number, target.as_ref())?;
+        Ok(naming_at(name, leading.place))
+    }
+
+    /// What names a place at which the module of a number has no function, where this is the procedure there; nothing
+    /// where it has one.
+    fn other<S: Source<'s>>(
+        &mut self,
+        alloc: Global,
+        pdb: &mut PDB<'s, S>,
+        number: Option<usize>,
+        procedure: Option<ListedProcedure>,
+        place: PdbInternalSectionOffset,
+    ) -> Result<Naming<'a>>
+        requires kept { IsFileKept pdb.old.file self.old }
+        requires procedure { option_map shown_procedure procedure ≡ procedure_where place (code_where self.old.modules number) }
+        ensures continues { Continues pdb.old pdb.new }
+        ensures kept { IsFileKept pdb.old.file self.new }
+        ensures code { code_where self.new.modules number ≡ code_where self.old.modules number }
+        ensures named { IfOk result (λ r. IsNamed r (other_of_file pdb.old.file (code_where self.old.modules number) place)) }
+        ensures refused { IfErr result (λ e. OnlyFails (MayFail pdb.old pdb.new) e) }
+    {
+        if self.has_function(number, procedure, place) {
+            return Ok(nothing());
+        }
+        match self.leading(alloc, number, place)? {
+            Some(leading) => self.leading_naming(alloc, pdb, leading),
+            None => self.public(alloc, pdb, number, place),
+        }
     }
 
     /// Finds what the sites of the procedure at a place cover, unless it is known, and gives the procedure.
@@ -175,15 +338,59 @@ impl<'a, 's> KeptFile<'a, 's> {
     {
         let number = self.module_at(alloc, pdb, place)?;
         let procedure = self.measure(alloc, number, place);
-        let public = self.public(alloc, pdb, number, procedure, place)?;
+        let other = self.other(alloc, pdb, number, procedure, place)?;
         let Some(number) = number else {
-            return bare_frames(alloc, public);
+            return bare_frames(alloc, place, other);
         };
         match self.modules.code(number) {
             Some(code) => self
                 .tables
-                .frames(alloc, pdb, code, procedure, public, place),
-            None => bare_frames(alloc, public),
+                .frames(alloc, pdb, code, procedure, other, place),
+            None => bare_frames(alloc, place, other),
+        }
+    }
+
+    /// The variables that are in scope at a place.
+    pub(crate) fn variables<S: Source<'s>>(
+        &mut self,
+        alloc: Global,
+        pdb: &mut PDB<'s, S>,
+        place: PdbInternalSectionOffset,
+    ) -> Result<Vec<VariableAt<'a>>>
+        requires { IsFileKept pdb.old.file self.old }
+        ensures continues { Continues pdb.old pdb.new }
+        ensures kept { IsFileKept pdb.old.file self.new }
+        ensures variables { IfOk result (λ vs. map shown_variable vs.items ≡ variables_where place (module_of_place pdb.old.file place)) }
+        ensures refused { IfErr result (λ e. OnlyFails (MayFail pdb.old pdb.new) e) }
+    {
+        let Some(number) = self.module_at(alloc, pdb, place)? else {
+            return Ok(Vec::new(alloc));
+        };
+        match self.modules.code(number) {
+            Some(code) => Ok(code.variables_at(alloc, place)?),
+            None => Ok(Vec::new(alloc)),
+        }
+    }
+
+    /// The stream of the module from which the bytes at a place come.
+    pub(crate) fn module_info_at<S: Source<'s>>(
+        &mut self,
+        alloc: Global,
+        pdb: &mut PDB<'s, S>,
+        place: PdbInternalSectionOffset,
+    ) -> Result<Option<&'a ModuleInfo<'a>>>
+        requires { IsFileKept pdb.old.file self.old }
+        ensures continues { Continues pdb.old pdb.new }
+        ensures kept { IsFileKept pdb.old.file self.new }
+        ensures found { IfOk result (λ m. option_copied m ≡ module_of_place pdb.old.file place) }
+        ensures refused { IfErr result (λ e. OnlyFails (MayFail pdb.old pdb.new) e) }
+    {
+        let Some(number) = self.module_at(alloc, pdb, place)? else {
+            return Ok(None);
+        };
+        match self.modules.code(number) {
+            Some(code) => Ok(Some(code.info())),
+            None => Ok(None),
         }
     }
 }

@@ -4,16 +4,22 @@
 mod across_modules;
 mod address_places;
 mod calls;
+mod frame_bases;
 mod frames;
+mod function_names;
 mod global_ids;
 mod global_names;
 mod kept_file;
 pub mod laws;
+mod leading;
 mod lines;
+mod locations;
 mod module_code;
+mod module_parts;
 mod module_places;
 mod modules;
 mod name_tables;
+mod open_scopes;
 mod pairs;
 mod part;
 mod place_addresses;
@@ -33,13 +39,20 @@ mod site;
 mod streams;
 mod tables;
 mod text;
+mod told_again;
+pub mod variable_laws;
+mod variable_records;
+mod variables;
 
 pub use across_modules::imported_id;
 pub use address_places::AddressPlaces;
 pub use calls::InlinedCall;
 pub use frames::{Frame, FunctionNames, plain_name};
+pub use function_names::{FunctionName, is_x86};
 pub use global_ids::{CallNames, GlobalIds};
-pub use module_code::{ModuleCode, read_known};
+pub use locations::{Location, Storage, VariablePart};
+pub use module_code::ModuleCode;
+pub use module_parts::read_known;
 pub use module_places::ModulePlaces;
 pub use name_tables::{ids_of, types_of};
 pub use place_addresses::PlaceAddresses;
@@ -48,4 +61,9 @@ pub use range::CodeRange;
 pub use ranges::Ranges;
 pub use resolver::Resolver;
 pub use streams::Streams;
-pub use text::{put_file, put_frame, put_frames, put_name};
+pub use text::{
+    put_displaced_frame, put_displaced_frames, put_file, put_frame, put_frames, put_function_name,
+    put_name,
+};
+pub use variable_records::VariableKind;
+pub use variables::VariableAt;

@@ -1,32 +1,35 @@
 //! The code of one module.
 
-ghost use Rattle.std.specs.Prelude.{List, ◌≡◌, ◌+◌, ◌≤◌, ◌<◌, ◌^◌, ℕ, length, [], map, filter_map, IfOk, IfErr};
-ghost use Rattle.std.specs.Option.{option_map};
-ghost use Rattle.pdb.specs.PdbInternalSectionOffset.{PdbInternalSectionOffset};
-ghost use Rattle.pdb.specs.ModuleViews.{inlinees_left};
-ghost use Rattle.pdb_resolve.specs.ModuleCode.{Code, begins, symbols_in, inlinees_in, program_in, function_at, line_at, inlined_at, procedure_of, other_of, procedure_at, procedures_in, others_in, AreCodesApart, says_at, procedure_name_at, name_at};
-ghost use Rattle.pdb.specs.Inlinees.{inlinee_with};
+ghost use Rattle.std.specs.Prelude.{◌≡◌, ◌+◌, ◌≤◌, ◌<◌, ◌^◌, ℕ, length, map, find, Some, IfOk, IfErr};
+ghost use Rattle.std.specs.Option.{option_map, option_or, unwrap_or};
 ghost use Rattle.pdb.specs.Data.{shown};
-ghost use Rattle.pdb.specs.Text.{name_bytes};
 ghost use Rattle.pdb.specs.FileViews.{shown_file};
+ghost use Rattle.pdb.specs.Text.{name_bytes};
 ghost use Rattle.pdb_resolve.specs.Frames.{file_in};
-ghost use Rattle.pdb.specs.Views.{symbols_left};
-ghost use Rattle.std.specs.List.{All};
-ghost use Rattle.pdb_resolve.specs.Kept.{shown_call, AreRangesOf, AreStartsOf, IsListed, head_says, site_of, sites_in};
-ghost use Rattle.pdb_resolve.specs.Listed.{shown_procedure, entry_of, IsBounded};
+ghost use Rattle.pdb_resolve.specs.Kept.{shown_call, shown_leading, IsListed};
+ghost use Rattle.pdb_resolve.specs.KeptFrames.{shown_naming};
+ghost use Rattle.pdb_resolve.specs.Listed.{shown_procedure};
+ghost use Rattle.pdb_resolve.specs.Variables.{variables_at};
+ghost use Rattle.pdb_resolve.specs.VariableViews.{shown_variable};
+ghost use Rattle.pdb_resolve.specs.ModuleCode.{AreCodesApart, begins, begins_at, begun_name, function_at, further_in, index_of, inlined_at, leading_at, least_in, line_at, managed_at, managed_in, managed_named, name_at, named_by, named_in, other_at, others_in, procedure_at, procedure_name, procedure_name_at, procedures_in, program_in, says_at, symbols_in, trampolines_in};
 
 use crate::calls::{InlinedCall, calls_of, count_upto};
+use crate::function_names::{NamedCode, named_code};
+use crate::leading::{Leading, least_of};
+use crate::module_parts::{
+    first_managed, first_said, read_known, read_program, read_rows, starts_of,
+};
+use crate::open_scopes::CodePlace;
 use crate::procedures::{ListedProcedure, procedure_with, ranges_of};
-use crate::range::CodeRange;
 use crate::ranges::Ranges;
-use crate::rows::{Rows, rows_of};
 use crate::site::{KeptSite, measure};
+use crate::variables::{VariableAt, variables_of};
 use pdb::{
-    Error, FallibleIterator, FileIndex, FileInfo, Inlinee, InlineeFinder, InlineeIterator,
-    LineInfo, LinePlaces, ModuleInfo, PdbInternalSectionOffset, RawString, Result, Steps,
-    SymbolData, SymbolIndex, SymbolIter,
+    Error, FileIndex, FileInfo, InlineeFinder, LineInfo, LinePlaces, ModuleInfo,
+    PdbInternalSectionOffset, RawString, Result, Steps, SymbolData, SymbolIndex,
 };
 use std::alloc::Global;
+use std::collections::BTreeMap;
 use std::marker::Model;
 
 /// The code of a module, of which what stands at a place is found. A contract sees it as the module's stream.
@@ -35,6 +38,10 @@ pub struct ModuleCode<'a> {
     info: &'a ModuleInfo<'a>,
     procedures: Ranges,
     others: Ranges,
+    managed: Ranges,
+    trampolines: Ranges,
+    // Where the first trampoline of each section begins.
+    least: BTreeMap<u16, u32>,
     // The procedures as they are listed, and where they begin; the latter is made at the first question.
     listed: Vec<ListedProcedure>,
     starts: Option<Ranges>,
@@ -47,112 +54,17 @@ pub struct ModuleCode<'a> {
 impl<'a> Model for ModuleCode<'a> {
     ghost use Rattle.std.specs.Prelude.{◌≡◌};
     ghost use Rattle.pdb.specs.ModuleStream.{ModuleBytes};
-    ghost use Rattle.pdb_resolve.specs.ModuleCode.{procedures_in, others_in, program_in, inlinees_in};
+    ghost use Rattle.pdb_resolve.specs.ModuleCode.{procedures_in, others_in, managed_in, trampolines_in, program_in, inlinees_in};
     ghost use Rattle.pdb.specs.Inlinees.{inlinee_with};
     ghost use Rattle.std.specs.Prelude.{map};
-    ghost use Rattle.pdb_resolve.specs.Kept.{AreStartsIfMade, IsKeptOf, sites_in};
+    ghost use Rattle.pdb_resolve.specs.Kept.{AreLeastIn, AreStartsIfMade, IsKeptOf, sites_in};
     ghost use Rattle.pdb_resolve.specs.Listed.{shown_procedure, entry_of, AreBounded};
 
     ghost Value = { ModuleBytes };
 
     ghost view = { λ x. x.info.now };
 
-    ghost invariant = { λ x. IsKeptOf (procedures_in x.info.now) x.procedures × IsKeptOf (others_in x.info.now) x.others × (x.program ≡ program_in x.info.now) × (inlinee_with x.known ≡ inlinee_with (inlinees_in x.info.now)) × (map entry_of x.sites.items ≡ sites_in x.info.now) × (map shown_procedure x.listed.items ≡ procedures_in x.info.now) × AreStartsIfMade (procedures_in x.info.now) x.starts × AreBounded (inlinee_with x.known) x.sites.items };
-}
-
-/// The procedures, the ranges and the sites of a module's code; none where its symbols are refused.
-#[tactic(auto, unfolding(crate::specs::ModuleCode::symbols_in))]
-fn read_rows<'a>(alloc: Global, info: &'a ModuleInfo<'a>) -> Result<Rows<'a>>
-    ensures procedures { IfOk result (λ rows. map shown_procedure rows.procedures.items ≡ filter_map procedure_of (symbols_in info.entry.now)) }
-    ensures others { IfOk result (λ rows. AreRangesOf (filter_map other_of (symbols_in info.entry.now)) rows.others.items) }
-    ensures sites { IfOk result (λ rows. map entry_of rows.sites.items ≡ filter_map site_of (symbols_in info.entry.now)) }
-    ensures bounded { IfOk result (λ rows. All IsBounded rows.sites.items) }
-    ensures refused { IfErr result (λ e. e ≡ Error.OutOfMemory) }
-{
-    match info.symbols() {
-        Ok(symbols) => rows_of(alloc, symbols),
-        Err(_) => Ok(Rows {
-            procedures: Vec::new(alloc),
-            others: Vec::new(alloc),
-            sites: Vec::new(alloc),
-        }),
-    }
-}
-
-/// A module's line subsections; none where they are refused.
-#[tactic(auto, unfolding(crate::specs::ModuleCode::program_in))]
-fn read_program<'a>(alloc: Global, info: &'a ModuleInfo<'a>) -> Result<Option<LinePlaces<'a>>>
-    ensures program { IfOk result (λ p. p ≡ program_in info.entry.now) }
-    ensures refused { IfErr result (λ e. e ≡ Error.OutOfMemory) }
-{
-    match info.line_places(alloc) {
-        Ok(program) => Ok(Some(program)),
-        Err(Error::OutOfMemory) => Err(Error::OutOfMemory),
-        Err(_) => Ok(None),
-    }
-}
-
-/// The inlined functions that an iterator has left, up to its fault.
-fn listed<'a>(alloc: Global, mut inlinees: InlineeIterator<'a>) -> Result<Vec<Inlinee<'a>>>
-    ensures listed { IfOk result (λ v. v.items ≡ (inlinees_left inlinees.entry).items) }
-    ensures refused { IfErr result (λ e. e ≡ Error.OutOfMemory) }
-{
-    let mut listed = Vec::new(alloc);
-    loop {
-        match inlinees.next() {
-            Ok(Some(inlinee)) => {
-                if listed.push(inlinee).is_err() {
-                    return Err(Error::OutOfMemory);
-                }
-            }
-            Ok(None) => return Ok(listed),
-            Err(_) => return Ok(listed),
-        }
-    }
-}
-
-/// Where the procedures of these ranges begin: one byte of each.
-fn starts_of(alloc: Global, listed: &[CodeRange]) -> Result<Ranges>
-    ensures starts { IfOk result (λ starts. (cs : List Code) → AreRangesOf cs listed.now → AreStartsOf cs starts) }
-    ensures refused { IfErr result (λ e. e ≡ Error.OutOfMemory) }
-{
-    let mut rows = Vec::with_capacity(alloc, listed.len())?;
-    for range in listed {
-        rows.push(CodeRange::new(range.place, 1, range.payload))?;
-    }
-    Ranges::new(alloc, rows.as_slice())
-}
-
-/// What the first symbol says that an iterator has left; none where it can't be read.
-fn first_said<'t>(alloc: Global, mut symbols: SymbolIter<'t>) -> Result<Option<SymbolData<'t>>>
-    ensures says { IfOk result (λ d. option_map shown d ≡ head_says (symbols_left symbols.entry).items) }
-    ensures refused { IfErr result (λ e. e ≡ Error.OutOfMemory) }
-{
-    match symbols.next() {
-        Ok(Some(symbol)) => match symbol.parse(alloc) {
-            Ok(data) => Ok(Some(data)),
-            Err(Error::OutOfMemory) => Err(Error::OutOfMemory),
-            Err(_) => Ok(None),
-        },
-        Ok(None) => Ok(None),
-        Err(_) => Ok(None),
-    }
-}
-
-/// A module's inlined functions by their ids; none where they are refused.
-#[tactic(auto, unfolding(crate::specs::ModuleCode::inlinees_in))]
-pub fn read_known<'a>(alloc: Global, info: &'a ModuleInfo<'a>) -> Result<InlineeFinder<'a>>
-    ensures known { IfOk result (λ known. inlinee_with known ≡ inlinee_with (inlinees_in info.entry.now)) }
-    ensures refused { IfErr result (λ e. e ≡ Error.OutOfMemory) }
-{
-    let inlinees = match info.inlinees() {
-        Ok(inlinees) => listed(alloc, inlinees)?,
-        Err(_) => Vec::new(alloc),
-    };
-    match InlineeFinder::new(inlinees) {
-        Ok(known) => Ok(known),
-        Err(_) => Err(Error::OutOfMemory),
-    }
+    ghost invariant = { λ x. IsKeptOf (procedures_in x.info.now) x.procedures × IsKeptOf (others_in x.info.now) x.others × (x.program ≡ program_in x.info.now) × (inlinee_with x.known ≡ inlinee_with (inlinees_in x.info.now)) × (map entry_of x.sites.items ≡ sites_in x.info.now) × (map shown_procedure x.listed.items ≡ procedures_in x.info.now) × AreStartsIfMade (procedures_in x.info.now) x.starts × AreBounded (inlinee_with x.known) x.sites.items × IsKeptOf (managed_in x.info.now) x.managed × IsKeptOf (trampolines_in x.info.now) x.trampolines × AreLeastIn (trampolines_in x.info.now) x.least };
 }
 
 impl<'a> ModuleCode<'a> {
@@ -166,12 +78,18 @@ impl<'a> ModuleCode<'a> {
         let ranges = ranges_of(alloc, rows.procedures.as_slice())?;
         let procedures = Ranges::new(alloc, ranges.as_slice())?;
         let others = Ranges::new(alloc, rows.others.as_slice())?;
+        let managed = Ranges::new(alloc, rows.managed.as_slice())?;
+        let least = least_of(alloc, rows.trampolines.as_slice())?;
+        let trampolines = Ranges::new(alloc, rows.trampolines.as_slice())?;
         let program = read_program(alloc, info)?;
         let known = read_known(alloc, info)?;
         Ok(ModuleCode {
             info,
             procedures,
             others,
+            managed,
+            trampolines,
+            least,
             listed: rows.procedures,
             starts: None,
             sites: rows.sites,
@@ -181,21 +99,38 @@ impl<'a> ModuleCode<'a> {
     }
 
     /// The symbol of the function at a place, as `function`, with a step for each look at a piece of code. Where the
-    /// procedures don't overlap, nor the thunks and separated code, there are at most as many as the numbers of both
-    /// have binary digits; and never more than both.
+    /// procedures don't overlap, nor the thunks and separated code, nor the managed procedures, there are at most as many
+    /// as the numbers of the three have binary digits; and never more than all three.
     pub fn function_counted(
         &self,
         place: PdbInternalSectionOffset,
         steps: &mut Steps,
     ) -> Option<SymbolIndex>
         ensures found { option_map (λ i. i.0) result ≡ function_at place self.now }
-        ensures halved { AreCodesApart (procedures_in self.now) → AreCodesApart (others_in self.now) → (digits more : ℕ) → length (procedures_in self.now) < 2 ^ digits → length (others_in self.now) < 2 ^ more
-            → steps.new.count ≤ steps.old.count + digits + more }
-        ensures few { steps.new.count ≤ steps.old.count + length (procedures_in self.now) + length (others_in self.now) }
+        ensures halved { AreCodesApart (procedures_in self.now) → AreCodesApart (others_in self.now) → AreCodesApart (managed_in self.now) → (digits more rest : ℕ) → length (procedures_in self.now) < 2 ^ digits → length (others_in self.now) < 2 ^ more → length (managed_in self.now) < 2 ^ rest
+            → steps.new.count ≤ steps.old.count + digits + more + rest }
+        ensures few { steps.new.count ≤ steps.old.count + length (procedures_in self.now) + length (others_in self.now) + length (managed_in self.now) }
     {
         match self.procedures.find_counted(place, steps) {
             Some(index) => Some(SymbolIndex(index)),
-            None => match self.others.find_counted(place, steps) {
+            None => self.other_counted(place, steps),
+        }
+    }
+
+    // The symbol of the thunk, the separated code or the managed procedure at a place, with a step for each look.
+    fn other_counted(
+        &self,
+        place: PdbInternalSectionOffset,
+        steps: &mut Steps,
+    ) -> Option<SymbolIndex>
+        ensures found { option_map (λ i. i.0) result ≡ option_or (option_map index_of (other_at place self.now)) (option_map index_of (managed_at place self.now)) }
+        ensures halved { AreCodesApart (others_in self.now) → AreCodesApart (managed_in self.now) → (more rest : ℕ) → length (others_in self.now) < 2 ^ more → length (managed_in self.now) < 2 ^ rest
+            → steps.new.count ≤ steps.old.count + more + rest }
+        ensures few { steps.new.count ≤ steps.old.count + length (others_in self.now) + length (managed_in self.now) }
+    {
+        match self.others.find_counted(place, steps) {
+            Some(index) => Some(SymbolIndex(index)),
+            None => match self.managed.find_counted(place, steps) {
                 Some(index) => Some(SymbolIndex(index)),
                 None => None,
             },
@@ -203,7 +138,7 @@ impl<'a> ModuleCode<'a> {
     }
 
     /// The symbol of the function at a place: the first procedure that covers it, or else the first thunk or separated
-    /// code. It takes no memory.
+    /// code, or else the first managed procedure. It takes no memory.
     pub fn function(&self, place: PdbInternalSectionOffset) -> Option<SymbolIndex>
         ensures { option_map (λ i. i.0) result ≡ function_at place self.now }
     {
@@ -221,10 +156,7 @@ impl<'a> ModuleCode<'a> {
     {
         match procedure {
             Some(procedure) => Some(SymbolIndex(procedure.index)),
-            None => match self.others.find(place) {
-                Some(index) => Some(SymbolIndex(index)),
-                None => None,
-            },
+            None => self.other_counted(place, &mut Steps::new()),
         }
     }
 
@@ -291,6 +223,28 @@ impl<'a> ModuleCode<'a> {
         calls_of(alloc, &self.known, behind, place, procedure)
     }
 
+    /// The variables that are in scope at a place, in the order of their records. They are those of the function there and
+    /// of the calls that are inlined there. It is refused for want of memory alone.
+    #[tactic(auto, unfolding(crate::specs::Variables::variables_at))]
+    pub fn variables_at(
+        &self,
+        alloc: Global,
+        place: PdbInternalSectionOffset,
+    ) -> Result<Vec<VariableAt<'a>>>
+        ensures variables { IfOk result (λ vs. map shown_variable vs.items ≡ variables_at place self.now) }
+        ensures refused { IfErr result (λ e. e ≡ Error.OutOfMemory) }
+    {
+        let Some(index) = self.function(place) else {
+            return Ok(Vec::new(alloc));
+        };
+        let asked = CodePlace {
+            place,
+            procedure: self.procedure(place),
+            known: &self.known,
+        };
+        variables_of(alloc, self.info, index, asked)
+    }
+
     // Finds what the sites of the procedure at a place cover, unless it is known, and gives the procedure. `inlined`
     // then passes those that have no call there.
     pub(crate) fn measure(
@@ -307,6 +261,22 @@ impl<'a> ModuleCode<'a> {
         Some(procedure)
     }
 
+    // The symbol of the first procedure that begins at a place. At the first question a table is made, and kept.
+    fn begun(&mut self, alloc: Global, place: PdbInternalSectionOffset) -> Result<Option<u32>>
+        ensures stays { self.new ≡ self.old }
+        ensures found { IfOk result (λ o. o ≡ option_map index_of (find (begins_at place) (procedures_in self.old))) }
+        ensures refused { IfErr result (λ e. e ≡ Error.OutOfMemory) }
+    {
+        if let Some(starts) = &self.starts {
+            return Ok(starts.find(place));
+        }
+        let ranges = ranges_of(alloc, self.listed.as_slice())?;
+        let starts = starts_of(alloc, ranges.as_slice())?;
+        let begun = starts.find(place);
+        self.starts = Some(starts);
+        Ok(begun)
+    }
+
     /// Whether a procedure begins at a place. At the first question a table is made, and kept. It is refused for want of
     /// memory alone, and may then be asked again.
     pub fn begins(&mut self, alloc: Global, place: PdbInternalSectionOffset) -> Result<bool>
@@ -314,14 +284,23 @@ impl<'a> ModuleCode<'a> {
         ensures begins { IfOk result (λ b. b ≡ begins place (procedures_in self.old)) }
         ensures refused { IfErr result (λ e. e ≡ Error.OutOfMemory) }
     {
-        if let Some(starts) = &self.starts {
-            return Ok(starts.find(place).is_some());
+        Ok(self.begun(alloc, place)?.is_some())
+    }
+
+    // The name of the first procedure that begins at a place.
+    pub(crate) fn begun_name(
+        &mut self,
+        alloc: Global,
+        place: PdbInternalSectionOffset,
+    ) -> Result<Option<RawString<'a>>>
+        ensures stays { self.new ≡ self.old }
+        ensures name { IfOk result (λ n. option_map name_bytes n ≡ begun_name place self.old) }
+        ensures refused { IfErr result (λ e. e ≡ Error.OutOfMemory) }
+    {
+        match self.begun(alloc, place)? {
+            Some(index) => self.procedure_name_of(alloc, index),
+            None => Ok(None),
         }
-        let ranges = ranges_of(alloc, self.listed.as_slice())?;
-        let starts = starts_of(alloc, ranges.as_slice())?;
-        let begins = starts.find(place).is_some();
-        self.starts = Some(starts);
-        Ok(begins)
     }
 
     // What the symbol of an index says; none where it can't be read.
@@ -336,6 +315,19 @@ impl<'a> ModuleCode<'a> {
         }
     }
 
+    // The name of the procedure whose symbol has an index.
+    fn procedure_name_of(&self, alloc: Global, index: u32) -> Result<Option<RawString<'a>>>
+        requires { IsListed index (symbols_in self.now) }
+        ensures name { IfOk result (λ n. option_map name_bytes n ≡ procedure_name (says_at self.now index)) }
+        ensures refused { IfErr result (λ e. e ≡ Error.OutOfMemory) }
+    {
+        match self.said(alloc, index) {
+            Ok(Some(SymbolData::Procedure(procedure))) => Ok(Some(procedure.name)),
+            Ok(_) => Ok(None),
+            Err(_) => Err(Error::OutOfMemory),
+        }
+    }
+
     // The name of the first procedure that covers a place.
     fn procedure_name(
         &self,
@@ -346,12 +338,56 @@ impl<'a> ModuleCode<'a> {
         ensures refused { IfErr result (λ e. e ≡ Error.OutOfMemory) }
     {
         match self.procedures.find(place) {
-            Some(index) => match self.said(alloc, index) {
-                Ok(Some(SymbolData::Procedure(procedure))) => Ok(Some(procedure.name)),
-                Ok(_) => Ok(None),
-                Err(_) => Err(Error::OutOfMemory),
-            },
+            Some(index) => self.procedure_name_of(alloc, index),
             None => Ok(None),
+        }
+    }
+
+    // What names the managed procedure whose symbol has an index.
+    fn managed_of(&self, index: u32) -> Option<NamedCode<'a>>
+        requires { IsListed index (symbols_in self.now) }
+        ensures { option_map shown_naming result ≡ managed_named (further_in self.now (Some index)) }
+    {
+        match self.info.symbols_at(SymbolIndex(index)) {
+            Ok(symbols) => first_managed(symbols),
+            Err(_) => None,
+        }
+    }
+
+    // What names a function that says this.
+    fn named_by(&self, alloc: Global, said: Option<SymbolData<'a>>) -> Result<Option<NamedCode<'a>>>
+        ensures named { IfOk result (λ n. option_map shown_naming n ≡ named_by self.now (option_map shown said.entry)) }
+        ensures refused { IfErr result (λ e. e ≡ Error.OutOfMemory) }
+    {
+        match said {
+            Some(SymbolData::Procedure(s)) => Ok(Some(named_code(s.name, s.offset))),
+            Some(SymbolData::Thunk(s)) => Ok(Some(named_code(s.name, s.offset))),
+            Some(SymbolData::SeparatedCode(s)) => Ok(Some(NamedCode {
+                name: self.procedure_name(alloc, s.parent_offset)?,
+                start: None,
+            })),
+            _ => Ok(None),
+        }
+    }
+
+    // What names the function at a place, where this is the procedure there.
+    pub(crate) fn naming_in(
+        &self,
+        alloc: Global,
+        place: PdbInternalSectionOffset,
+        procedure: Option<ListedProcedure>,
+    ) -> Result<Option<NamedCode<'a>>>
+        requires { option_map shown_procedure procedure ≡ procedure_at place self.now }
+        ensures named { IfOk result (λ n. option_map shown_naming n ≡ named_in self.now (function_at place self.now)) }
+        ensures refused { IfErr result (λ e. e ≡ Error.OutOfMemory) }
+    {
+        let Some(index) = self.function_in(place, procedure) else {
+            return Ok(None);
+        };
+        let said = self.said(alloc, index.0)?;
+        match self.named_by(alloc, said)? {
+            Some(named) => Ok(Some(named)),
+            None => Ok(self.managed_of(index.0)),
         }
     }
 
@@ -365,31 +401,45 @@ impl<'a> ModuleCode<'a> {
         ensures name { IfOk result (λ n. option_map name_bytes n ≡ name_at place self.now) }
         ensures refused { IfErr result (λ e. e ≡ Error.OutOfMemory) }
     {
-        self.name_in(alloc, place, self.procedure(place))
+        match self.naming_in(alloc, place, self.procedure(place))? {
+            Some(named) => Ok(named.name),
+            None => Ok(None),
+        }
     }
 
-    // The same, where this is the procedure at the place.
-    pub(crate) fn name_in(
+    // The jump that a linker made at a place.
+    pub(crate) fn leading(
         &self,
         alloc: Global,
         place: PdbInternalSectionOffset,
-        procedure: Option<ListedProcedure>,
-    ) -> Result<Option<RawString<'a>>>
-        requires { option_map shown_procedure procedure ≡ procedure_at place self.now }
-        ensures name { IfOk result (λ n. option_map name_bytes n ≡ name_at place self.now) }
+    ) -> Result<Option<Leading>>
+        ensures leading { IfOk result (λ t. option_map shown_leading t ≡ leading_at place self.now) }
         ensures refused { IfErr result (λ e. e ≡ Error.OutOfMemory) }
     {
-        match self.function_in(place, procedure) {
-            Some(index) => match self.said(alloc, index.0) {
-                Ok(Some(SymbolData::Procedure(procedure))) => Ok(Some(procedure.name)),
-                Ok(Some(SymbolData::Thunk(thunk))) => Ok(Some(thunk.name)),
-                Ok(Some(SymbolData::SeparatedCode(code))) => {
-                    self.procedure_name(alloc, code.parent_offset)
-                }
-                Ok(_) => Ok(None),
-                Err(_) => Err(Error::OutOfMemory),
-            },
-            None => Ok(None),
+        let Some(index) = self.trampolines.find(place) else {
+            return Ok(None);
+        };
+        match self.said(alloc, index)? {
+            Some(SymbolData::Trampoline(s)) => Ok(Some(Leading {
+                kind: s.tramp_type,
+                place: s.thunk,
+                number: s
+                    .thunk
+                    .offset
+                    .saturating_sub(self.first_of(s.thunk.section)),
+                target: s.target,
+            })),
+            _ => Ok(None),
+        }
+    }
+
+    // The offset of the first trampoline in a section, 0 where it has none.
+    fn first_of(&self, section: u16) -> u32
+        ensures { result ≡ unwrap_or (least_in section (trampolines_in self.now)) 0 }
+    {
+        match self.least.get(&section) {
+            Some(first) => *first,
+            None => 0,
         }
     }
 }

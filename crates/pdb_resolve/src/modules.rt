@@ -9,9 +9,10 @@ ghost use Rattle.pdb.specs.DbiViews.{modules_left};
 ghost use Rattle.pdb_resolve.specs.AsIfEmpty.{if_found, if_read, OnlyFails};
 ghost use Rattle.pdb_resolve.specs.FileParts.{module_numbered, modules_where};
 ghost use Rattle.pdb_resolve.specs.ModuleCode.{begins};
-ghost use Rattle.pdb_resolve.specs.Resolved.{procedure_where, procedures_where};
+ghost use Rattle.pdb_resolve.specs.Resolved.{begun_where, procedure_where, procedures_where};
 ghost use Rattle.pdb_resolve.specs.Listed.{shown_procedure};
 ghost use Rattle.std.specs.Option.{option_map};
+ghost use Rattle.pdb.specs.Text.{name_bytes};
 ghost use Rattle.pdb_resolve.specs.KeptParts.{AreModulesOf, boxed, code_kept, codes_of, rooms_left, stream_kept, streams_of};
 
 use crate::module_code::ModuleCode;
@@ -19,7 +20,7 @@ use crate::part::put_down;
 use crate::procedures::ListedProcedure;
 use pdb::{
     DebugInformation, Error, FallibleIterator, Module, ModuleInfo, ModuleIter, PDB,
-    PdbInternalSectionOffset, Result, Source,
+    PdbInternalSectionOffset, RawString, Result, Source,
 };
 use std::alloc::Global;
 
@@ -163,6 +164,7 @@ impl<'a, 's> Modules<'a, 's> {
         ensures continues { Continues pdb.old pdb.new }
         ensures kept { AreModulesOf pdb.old.file self.new }
         ensures read { IfOk result (λ _. code_kept self.new number ≡ module_numbered pdb.old.file number) }
+        ensures stays { (k : ℕ) (m : ModuleBytes) → code_kept self.old k ≡ Some m → code_kept self.new k ≡ Some m }
         // A stream that is kept isn't read again.
         ensures once { (m : ModuleBytes) → stream_kept self.old number ≡ Some m → rooms_left self.new ≡ rooms_left self.old }
         ensures refused { IfErr result (λ e. OnlyFails (MayFail pdb.old pdb.new) e) }
@@ -243,6 +245,7 @@ impl<'a, 's> Modules<'a, 's> {
     fn put_and_keep(&mut self, alloc: Global, number: usize, info: ModuleInfo<'s>) -> Result<()>
         ensures kept { (file : List ℕ) → AreModulesOf file self.old → stream_kept self.old number ≡ None → module_numbered file number ≡ Some info.entry → AreModulesOf file self.new }
         ensures read { IfOk result (λ _. code_kept self.new number ≡ Some info.entry) }
+        ensures stays { code_kept self.old number ≡ None → (k : ℕ) (m : ModuleBytes) → code_kept self.old k ≡ Some m → code_kept self.new k ≡ Some m }
         ensures refused { IfErr result (λ e. e ≡ OutOfMemory) }
     {
         let info = self.put(alloc, number, info)?;
@@ -269,6 +272,29 @@ impl<'a, 's> Modules<'a, 's> {
         match &mut self.codes[number] {
             Some(code) => code.begins(alloc, place),
             None => Ok(false),
+        }
+    }
+
+    /// The name of the first procedure of the module of a number that begins at a place; none where its code wasn't read.
+    pub(crate) fn begun_name(
+        &mut self,
+        alloc: Global,
+        number: usize,
+        place: PdbInternalSectionOffset,
+    ) -> Result<Option<RawString<'a>>>
+        ensures listed { self.new.listed ≡ self.old.listed }
+        ensures streams { streams_of self.new ≡ streams_of self.old }
+        ensures rooms { rooms_left self.new ≡ rooms_left self.old }
+        ensures codes { codes_of self.new ≡ codes_of self.old }
+        ensures name { IfOk result (λ n. option_map name_bytes n ≡ begun_where place (code_kept self.old number)) }
+        ensures refused { IfErr result (λ e. e ≡ OutOfMemory) }
+    {
+        if number >= self.codes.len() {
+            return Ok(None);
+        }
+        match &mut self.codes[number] {
+            Some(code) => code.begun_name(alloc, place),
+            None => Ok(None),
         }
     }
 

@@ -4,12 +4,13 @@ ghost use Rattle.std.specs.Prelude.{◌≡◌, ◌++◌, false, map, option_copi
 ghost use Rattle.pdb.specs.Source.{Continues, MayFail};
 ghost use Rattle.pdb.specs.Answers.{address_map_in, debug_information_in};
 ghost use Rattle.pdb_resolve.specs.AsIfEmpty.{if_read, OnlyFails};
-ghost use Rattle.pdb_resolve.specs.Frames.{frames_text};
-ghost use Rattle.pdb_resolve.specs.Resolved.{place_of_file, frames_of_file};
+ghost use Rattle.pdb_resolve.specs.Frames.{displaced_frames, frames_text};
+ghost use Rattle.pdb_resolve.specs.Resolved.{place_of_file, frames_of_file, module_of_place, variables_of_file};
 ghost use Rattle.pdb_resolve.specs.KeptFrames.{shown_frame};
+ghost use Rattle.pdb_resolve.specs.VariableViews.{shown_variable};
 
 use crate::address_places::AddressPlaces;
-use crate::frames::{Frame, frame_without_line, push_frame};
+use crate::frames::{Frame, frame_nowhere, push_frame};
 use crate::global_names::GlobalNames;
 use crate::kept_file::KeptFile;
 use crate::module_places::ModulePlaces;
@@ -18,9 +19,11 @@ use crate::name_tables::NameTables;
 use crate::part::Part;
 use crate::streams::Streams;
 use crate::tables::Tables;
-use crate::text::put_frames;
+use crate::text::{put_displaced_frames, put_frames};
+use crate::variables::VariableAt;
 use pdb::{
-    AddressMap, DebugInformation, Error, Meaning, PDB, PdbInternalSectionOffset, Result, Source,
+    AddressMap, DebugInformation, Error, Meaning, ModuleInfo, PDB, PdbInternalSectionOffset,
+    Result, Source,
 };
 use std::alloc::Global;
 use std::marker::Model;
@@ -141,7 +144,7 @@ impl<'a, 's, S: Source<'s>> Resolver<'a, 's, S> {
             Some(place) => self.kept.frames(self.alloc, &mut self.pdb, place),
             None => {
                 let mut frames = Vec::new(self.alloc);
-                push_frame(&mut frames, frame_without_line(None))?;
+                push_frame(&mut frames, frame_nowhere())?;
                 Ok(frames)
             }
         }
@@ -165,5 +168,61 @@ impl<'a, 's, S: Source<'s>> Resolver<'a, 's, S> {
         put_frames(&mut self.text, frames.as_slice())?;
         out.extend_from_slice(self.text.as_slice())?;
         Ok(())
+    }
+
+    /// The same as `put_text`, where the name of the function itself, or of the public symbol, has behind it `+0x` and how
+    /// far the place is behind what has the name, in hex digits, unless it is there.
+    pub fn put_displaced_text(
+        &mut self,
+        out: &mut Vec<u8>,
+        place: Option<PdbInternalSectionOffset>,
+    ) -> Result<()>
+        ensures continues { Continues self.old self.new }
+        ensures text { OnOk result (out.new.items ≡ out.old.items ++ displaced_frames (frames_of_file self.old.file place)) }
+        ensures unchanged { OnErr result (out.new.items ≡ out.old.items) }
+        ensures refused { IfErr result (λ e. OnlyFails (MayFail self.old self.new) e) }
+    {
+        let frames = self.frames(place)?;
+        self.text.clear();
+        put_displaced_frames(&mut self.text, frames.as_slice())?;
+        out.extend_from_slice(self.text.as_slice())?;
+        Ok(())
+    }
+
+    /// The variables that are in scope at a place, in the order of their records: those of the function there and of the
+    /// calls that are inlined there. Without a place there are none. `OutOfMemory`, and `IoError` where the source
+    /// failed, are passed on; the same call may then be made again.
+    pub fn variables(
+        &mut self,
+        place: Option<PdbInternalSectionOffset>,
+    ) -> Result<Vec<VariableAt<'a>>>
+        ensures continues { Continues self.old self.new }
+        ensures variables { IfOk result (λ vs. map shown_variable vs.items ≡ variables_of_file self.old.file place) }
+        ensures refused { IfErr result (λ e. OnlyFails (MayFail self.old self.new) e) }
+    {
+        match place {
+            Some(place) => self.kept.variables(self.alloc, &mut self.pdb, place),
+            None => Ok(Vec::new(self.alloc)),
+        }
+    }
+
+    /// The stream of the module from which the bytes at a place come; none where no module is there, or where its stream
+    /// can't be read. It is refused as `variables` is.
+    pub fn module_info_at(
+        &mut self,
+        place: PdbInternalSectionOffset,
+    ) -> Result<Option<&'a ModuleInfo<'a>>>
+        ensures continues { Continues self.old self.new }
+        ensures found { IfOk result (λ m. option_copied m ≡ module_of_place self.old.file place) }
+        ensures refused { IfErr result (λ e. OnlyFails (MayFail self.old self.new) e) }
+    {
+        self.kept.module_info_at(self.alloc, &mut self.pdb, place)
+    }
+
+    /// The DBI stream; none where it is refused.
+    pub fn information_read(&self) -> Option<&'a DebugInformation<'a>>
+        ensures { option_copied result ≡ if_read (debug_information_in self.now.file) }
+    {
+        self.kept.tables.names.information
     }
 }

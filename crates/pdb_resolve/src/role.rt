@@ -1,10 +1,10 @@
 //! The role of a symbol record in the code of a module.
 
-ghost use Rattle.std.specs.Prelude.{◌≡◌, ◌≤◌, false, IfOk, IfErr, IsTrue};
+ghost use Rattle.std.specs.Prelude.{◌≡◌, ◌≤◌, false, None, IfOk, IfErr, IsTrue};
 ghost use Rattle.pdb_symbols.specs.Scopes.{starts_of};
-ghost use Rattle.pdb.specs.Forms.{record_at};
+ghost use Rattle.pdb.specs.Forms.{kind_at, record_at};
 ghost use Rattle.pdb.specs.Views.{symbol_of};
-ghost use Rattle.pdb_resolve.specs.ModuleCode.{role};
+ghost use Rattle.pdb_resolve.specs.ModuleCode.{is_managed, is_trampoline, managed_of, role, trampoline_of};
 ghost use Rattle.pdb_resolve.specs.ModuleCode.Role.{passed};
 ghost use Rattle.pdb_resolve.specs.Kept.{shown_role, site_role};
 
@@ -96,12 +96,40 @@ fn is_of_variables(kind: u16) -> bool
 /// Whether a symbol may have a role: all that have one start a scope.
 #[inline(always)]
 pub(crate) fn has_role(symbol: &Symbol<'_>) -> bool
-    ensures { result ≡ false → role (record_at (symbol_of symbol.now).bytes) ≡ passed }
+    ensures role { result ≡ false → role (record_at (symbol_of symbol.now).bytes) ≡ passed }
+    ensures kind { result ≡ false → starts_of (kind_at (symbol_of symbol.now).bytes) ≡ false }
 {
     if is_of_variables(symbol.raw_kind()) {
         return false;
     }
     symbol.starts_scope()
+}
+
+/// Whether a kind is that of managed procedures.
+#[inline]
+pub(crate) fn is_managed(kind: u16) -> bool
+    ensures { result ≡ is_managed kind }
+{
+    kind == 0x112a || kind == 0x112b || kind == 0x101a || kind == 0x101b
+}
+
+/// Whether a kind is that of trampolines.
+#[inline(always)]
+pub(crate) fn is_trampoline(kind: u16) -> bool
+    ensures { result ≡ is_trampoline kind }
+{
+    kind == 0x112c
+}
+
+/// Whether a symbol may be code: all that is but trampolines starts a scope.
+#[inline(always)]
+#[tactic(auto, using(crate::proofs::CodeKinds::managed_none, crate::proofs::CodeKinds::trampoline_none))]
+pub(crate) fn may_be_code(symbol: &Symbol<'_>) -> bool
+    ensures role { result ≡ false → role (record_at (symbol_of symbol.now).bytes) ≡ passed }
+    ensures managed { result ≡ false → managed_of (symbol_of symbol.now) ≡ None }
+    ensures trampoline { result ≡ false → trampoline_of (symbol_of symbol.now) ≡ None }
+{
+    has_role(symbol) || is_trampoline(symbol.raw_kind())
 }
 
 /// The role of a symbol that starts no site; want of memory is passed on. All that have one start a scope.

@@ -2,25 +2,30 @@
 
 ghost use Rattle.std.specs.Prelude.{◌≡◌, ◌++◌, [], ◌∷◌, map, filter_map, IfOk, IfErr, OnOk};
 ghost use Rattle.std.specs.Option.{option_map, option_to_list};
+ghost use Rattle.pdb.specs.Forms.{record_at};
 ghost use Rattle.pdb.specs.Views.{symbol_of, symbols_left};
-ghost use Rattle.pdb_resolve.specs.ModuleCode.{procedure_of, other_of};
+ghost use Rattle.pdb_records.specs.RecordReading.{further_at};
+ghost use Rattle.pdb_resolve.specs.ModuleCode.{procedure_of, other_of, managed_of, managed_said, trampoline_of, trampoline_said};
 ghost use Rattle.std.specs.List.{All};
 ghost use Rattle.pdb_resolve.specs.Kept.{range_parts, code_parts, AreRangesOf, site_of};
 ghost use Rattle.pdb_resolve.specs.Listed.{shown_procedure, entry_of, IsBounded};
 
 use crate::procedures::ListedProcedure;
 use crate::range::CodeRange;
-use crate::role::{Role, Span, has_role, role_of};
+use crate::role::{Role, Span, is_managed, is_trampoline, may_be_code, role_of};
 use crate::site::KeptSite;
-use pdb::{Error, FallibleIterator, Result, Symbol, SymbolIndex, SymbolIter};
+use pdb::{Error, FallibleIterator, Result, Symbol, SymbolData, SymbolIndex, SymbolIter};
+use pdb_records::Record;
 use std::alloc::Global;
 
-/// A module's procedures; the ranges of its thunks and separated code, whose payload is the symbol's index; and the
-/// sites of its inlined functions.
+/// A module's procedures; the ranges of its thunks and separated code, of its managed procedures and of its trampolines,
+/// whose payload is the symbol's index; and the sites of its inlined functions.
 #[derive(Drop)]
 pub(crate) struct Rows<'t> {
     pub(crate) procedures: Vec<ListedProcedure>,
     pub(crate) others: Vec<CodeRange>,
+    pub(crate) managed: Vec<CodeRange>,
+    pub(crate) trampolines: Vec<CodeRange>,
     pub(crate) sites: Vec<KeptSite<'t>>,
 }
 
@@ -69,36 +74,121 @@ fn push_site<'t>(sites: &mut Vec<KeptSite<'t>>, symbol: &Symbol<'t>) -> Result<(
     }
 }
 
-/// One more symbol that starts a scope.
-#[inline(never)]
-fn add_scope<'t>(alloc: Global, rows: &mut Rows<'t>, symbol: Symbol<'t>) -> Result<()>
-    ensures procedures { OnOk result (map shown_procedure rows.new.procedures.items ≡ map shown_procedure rows.old.procedures.items ++ option_to_list (procedure_of (symbol_of symbol.entry))) }
-    ensures others { OnOk result (map range_parts rows.new.others.items ≡ map range_parts rows.old.others.items ++ map code_parts (option_to_list (other_of (symbol_of symbol.entry)))) }
-    ensures sites { OnOk result (map entry_of rows.new.sites.items ≡ map entry_of rows.old.sites.items ++ option_to_list (site_of (symbol_of symbol.entry))) }
+/// The code of a managed procedure.
+fn managed_span(symbol: &Symbol<'_>) -> Option<Span>
+    ensures { option_map (λ s. record { index = (symbol_of symbol.now).index; place = s.place; length = s.length; end = s.end.0 }) result ≡ managed_said (symbol_of symbol.now).index (further_at (symbol_of symbol.now).bytes) }
+{
+    match Record::parse(symbol) {
+        Ok(Record::ManagedProcedure(s)) => Some(Span {
+            place: s.offset,
+            length: s.len,
+            end: s.end,
+        }),
+        Ok(_) => None,
+        Err(_) => None,
+    }
+}
+
+/// The code of a trampoline; want of memory is passed on.
+fn trampoline_span(alloc: Global, symbol: &Symbol<'_>) -> Result<Option<Span>>
+    ensures is { IfOk result (λ o. option_map (λ s. record { index = (symbol_of symbol.now).index; place = s.place; length = s.length; end = s.end.0 }) o ≡ trampoline_said (symbol_of symbol.now).index (record_at (symbol_of symbol.now).bytes)) }
+    ensures refused { IfErr result (λ e. e ≡ Error.OutOfMemory) }
+{
+    match symbol.parse(alloc) {
+        Ok(SymbolData::Trampoline(s)) => Ok(Some(Span {
+            place: s.thunk,
+            length: u32::from(s.size),
+            end: symbol.index(),
+        })),
+        Ok(_) => Ok(None),
+        Err(Error::OutOfMemory) => Err(Error::OutOfMemory),
+        Err(_) => Ok(None),
+    }
+}
+
+/// One more range, if it is there.
+fn push_if(rows: &mut Vec<CodeRange>, span: Option<Span>, index: SymbolIndex) -> Result<()>
+    ensures pushed { OnOk result (map range_parts rows.new.items ≡ map range_parts rows.old.items ++ map code_parts (option_to_list (option_map (λ s. record { index = index.0; place = s.place; length = s.length; end = s.end.0 }) span))) }
+    ensures refused { IfErr result (λ e. e ≡ Error.OutOfMemory) }
+{
+    match span {
+        Some(span) => push(rows, span, index),
+        None => Ok(()),
+    }
+}
+
+/// One more symbol, where it is a trampoline.
+fn add_trampoline(alloc: Global, rows: &mut Vec<CodeRange>, symbol: &Symbol<'_>) -> Result<()>
+    ensures pushed { OnOk result (map range_parts rows.new.items ≡ map range_parts rows.old.items ++ map code_parts (option_to_list (trampoline_of (symbol_of symbol.now)))) }
+    ensures refused { IfErr result (λ e. e ≡ Error.OutOfMemory) }
+{
+    if !is_trampoline(symbol.raw_kind()) {
+        return Ok(());
+    }
+    let span = trampoline_span(alloc, symbol)?;
+    push_if(rows, span, symbol.index())
+}
+
+/// One more symbol, where it is a managed procedure.
+fn add_managed(rows: &mut Vec<CodeRange>, symbol: &Symbol<'_>) -> Result<()>
+    ensures pushed { OnOk result (map range_parts rows.new.items ≡ map range_parts rows.old.items ++ map code_parts (option_to_list (managed_of (symbol_of symbol.now)))) }
+    ensures refused { IfErr result (λ e. e ≡ Error.OutOfMemory) }
+{
+    if !is_managed(symbol.raw_kind()) {
+        return Ok(());
+    }
+    push_if(rows, managed_span(symbol), symbol.index())
+}
+
+/// One more symbol that starts a scope, or has a role.
+fn add_scope<'t>(alloc: Global, rows: &mut Rows<'t>, symbol: &Symbol<'t>) -> Result<()>
+    ensures procedures { OnOk result (map shown_procedure rows.new.procedures.items ≡ map shown_procedure rows.old.procedures.items ++ option_to_list (procedure_of (symbol_of symbol.now))) }
+    ensures others { OnOk result (map range_parts rows.new.others.items ≡ map range_parts rows.old.others.items ++ map code_parts (option_to_list (other_of (symbol_of symbol.now)))) }
+    ensures sites { OnOk result (map entry_of rows.new.sites.items ≡ map entry_of rows.old.sites.items ++ option_to_list (site_of (symbol_of symbol.now))) }
     ensures bounded { All IsBounded rows.old.sites.items → OnOk result (All IsBounded rows.new.sites.items) }
+    ensures managed { rows.new.managed ≡ rows.old.managed }
+    ensures trampolines { rows.new.trampolines ≡ rows.old.trampolines }
     ensures refused { IfErr result (λ e. e ≡ Error.OutOfMemory) }
 {
     let index = symbol.index();
-    match role_of(alloc, &symbol) {
+    match role_of(alloc, symbol) {
         Ok(Role::Procedure(span)) => push_procedure(&mut rows.procedures, span, index),
         Ok(Role::Other(span)) => push(&mut rows.others, span, index),
-        Ok(Role::Site(_)) => push_site(&mut rows.sites, &symbol),
+        Ok(Role::Site(_)) => push_site(&mut rows.sites, symbol),
         Ok(Role::Passed) => Ok(()),
         Err(_) => Err(Error::OutOfMemory),
     }
 }
 
-/// One more symbol. Most start no scope; only where one does is it handed on, so that the others are never stored.
-#[inline(always)]
-fn add<'t>(alloc: Global, rows: &mut Rows<'t>, symbol: Symbol<'t>) -> Result<()>
+/// One more symbol that may be code.
+#[inline(never)]
+fn add_code<'t>(alloc: Global, rows: &mut Rows<'t>, symbol: Symbol<'t>) -> Result<()>
     ensures procedures { OnOk result (map shown_procedure rows.new.procedures.items ≡ map shown_procedure rows.old.procedures.items ++ option_to_list (procedure_of (symbol_of symbol.entry))) }
     ensures others { OnOk result (map range_parts rows.new.others.items ≡ map range_parts rows.old.others.items ++ map code_parts (option_to_list (other_of (symbol_of symbol.entry)))) }
+    ensures managed { OnOk result (map range_parts rows.new.managed.items ≡ map range_parts rows.old.managed.items ++ map code_parts (option_to_list (managed_of (symbol_of symbol.entry)))) }
+    ensures trampolines { OnOk result (map range_parts rows.new.trampolines.items ≡ map range_parts rows.old.trampolines.items ++ map code_parts (option_to_list (trampoline_of (symbol_of symbol.entry)))) }
     ensures sites { OnOk result (map entry_of rows.new.sites.items ≡ map entry_of rows.old.sites.items ++ option_to_list (site_of (symbol_of symbol.entry))) }
     ensures bounded { All IsBounded rows.old.sites.items → OnOk result (All IsBounded rows.new.sites.items) }
     ensures refused { IfErr result (λ e. e ≡ Error.OutOfMemory) }
 {
-    if has_role(&symbol) {
-        return add_scope(alloc, rows, symbol);
+    add_scope(alloc, rows, &symbol)?;
+    add_managed(&mut rows.managed, &symbol)?;
+    add_trampoline(alloc, &mut rows.trampolines, &symbol)
+}
+
+/// One more symbol. Most are no code; only where one may be is it handed on, so that the others are never stored.
+#[inline(always)]
+fn add<'t>(alloc: Global, rows: &mut Rows<'t>, symbol: Symbol<'t>) -> Result<()>
+    ensures procedures { OnOk result (map shown_procedure rows.new.procedures.items ≡ map shown_procedure rows.old.procedures.items ++ option_to_list (procedure_of (symbol_of symbol.entry))) }
+    ensures others { OnOk result (map range_parts rows.new.others.items ≡ map range_parts rows.old.others.items ++ map code_parts (option_to_list (other_of (symbol_of symbol.entry)))) }
+    ensures managed { OnOk result (map range_parts rows.new.managed.items ≡ map range_parts rows.old.managed.items ++ map code_parts (option_to_list (managed_of (symbol_of symbol.entry)))) }
+    ensures trampolines { OnOk result (map range_parts rows.new.trampolines.items ≡ map range_parts rows.old.trampolines.items ++ map code_parts (option_to_list (trampoline_of (symbol_of symbol.entry)))) }
+    ensures sites { OnOk result (map entry_of rows.new.sites.items ≡ map entry_of rows.old.sites.items ++ option_to_list (site_of (symbol_of symbol.entry))) }
+    ensures bounded { All IsBounded rows.old.sites.items → OnOk result (All IsBounded rows.new.sites.items) }
+    ensures refused { IfErr result (λ e. e ≡ Error.OutOfMemory) }
+{
+    if may_be_code(&symbol) {
+        return add_code(alloc, rows, symbol);
     }
     Ok(())
 }
@@ -109,6 +199,8 @@ fn add<'t>(alloc: Global, rows: &mut Rows<'t>, symbol: Symbol<'t>) -> Result<()>
 pub(crate) fn rows_of<'t>(alloc: Global, mut symbols: SymbolIter<'t>) -> Result<Rows<'t>>
     ensures procedures { IfOk result (λ rows. map shown_procedure rows.procedures.items ≡ filter_map procedure_of (symbols_left symbols.entry).items) }
     ensures others { IfOk result (λ rows. AreRangesOf (filter_map other_of (symbols_left symbols.entry).items) rows.others.items) }
+    ensures managed { IfOk result (λ rows. AreRangesOf (filter_map managed_of (symbols_left symbols.entry).items) rows.managed.items) }
+    ensures trampolines { IfOk result (λ rows. AreRangesOf (filter_map trampoline_of (symbols_left symbols.entry).items) rows.trampolines.items) }
     ensures sites { IfOk result (λ rows. map entry_of rows.sites.items ≡ filter_map site_of (symbols_left symbols.entry).items) }
     ensures bounded { IfOk result (λ rows. All IsBounded rows.sites.items) }
     ensures refused { IfErr result (λ e. e ≡ Error.OutOfMemory) }
@@ -116,6 +208,8 @@ pub(crate) fn rows_of<'t>(alloc: Global, mut symbols: SymbolIter<'t>) -> Result<
     let mut rows = Rows {
         procedures: Vec::new(alloc),
         others: Vec::new(alloc),
+        managed: Vec::new(alloc),
+        trampolines: Vec::new(alloc),
         sites: Vec::new(alloc),
     };
     loop {

@@ -2,25 +2,25 @@
 
 ghost use Rattle.std.specs.Prelude.{◌≡◌, ◌++◌, [], ◌∷◌, map, reverse, option_copied, IfOk, IfErr, IsSome, None};
 ghost use Rattle.std.specs.Option.{option_map};
-ghost use Rattle.pdb.specs.Text.{name_bytes};
 ghost use Rattle.pdb.specs.Source.{Continues, MayFail};
 ghost use Rattle.pdb.specs.Answers.{string_table_in};
 ghost use Rattle.pdb_resolve.specs.AsIfEmpty.{if_read, OnlyFails};
 ghost use Rattle.pdb_resolve.specs.FileParts.{names_in};
 ghost use Rattle.pdb_resolve.specs.AcrossModules.{global_id_in};
-ghost use Rattle.pdb_resolve.specs.Frames.{frames_in, inlined_frame, outer_name};
-ghost use Rattle.pdb_resolve.specs.ModuleCode.{program_in, inlined_at, procedure_at};
+ghost use Rattle.pdb_resolve.specs.Frames.{frames_in, inlined_frame, outer_named};
+ghost use Rattle.pdb_resolve.specs.ModuleCode.{Named, program_in, inlined_at, procedure_at};
 ghost use Rattle.pdb_resolve.specs.Listed.{shown_procedure};
-ghost use Rattle.pdb_resolve.specs.KeptFrames.{shown_frame};
+ghost use Rattle.pdb_resolve.specs.KeptFrames.{shown_frame, IsNamed};
 ghost use Rattle.pdb_resolve.specs.KeptParts.{IsAskedOf, AreTablesOf};
 
 use crate::frames::{Frame, push_inlined, push_outer};
+use crate::function_names::{Naming, nothing};
 use crate::global_names::GlobalNames;
 use crate::module_code::ModuleCode;
 use crate::name_tables::NameTables;
 use crate::part::Part;
 use crate::procedures::ListedProcedure;
-use pdb::{Error, PDB, PdbInternalSectionOffset, RawString, Result, Source, StringTable};
+use pdb::{Error, PDB, PdbInternalSectionOffset, Result, Source, StringTable};
 use std::alloc::Global;
 
 /// The string table, the names of functions, and the public symbols.
@@ -91,31 +91,31 @@ fn inlined_frames<'a, 's, S: Source<'s>>(
     Ok(frames)
 }
 
-/// The name of the function at a place, or of the public symbol before it where no function is there.
-fn outer_name<'a>(
+/// What names the function at a place; where no function is there, what else does.
+fn outer_naming<'a>(
     alloc: Global,
     code: &ModuleCode<'a>,
     procedure: Option<ListedProcedure>,
-    public: Option<RawString<'a>>,
+    other: Naming<'a>,
     place: PdbInternalSectionOffset,
-) -> Result<Option<RawString<'a>>>
+) -> Result<Naming<'a>>
     requires { option_map shown_procedure procedure ≡ procedure_at place code.now }
-    ensures name { IfOk result (λ n. option_map name_bytes n ≡ outer_name (option_map name_bytes public.entry) place code.now) }
+    ensures named { (n : Named) → IsNamed other.entry n → IfOk result (λ r. IsNamed r (outer_named n place code.now)) }
     ensures refused { IfErr result (λ e. e ≡ Error.OutOfMemory) }
 {
-    if let Some(name) = code.name_in(alloc, place, procedure)? {
-        return Ok(Some(name));
+    if code.function_in(place, procedure).is_none() {
+        return Ok(other);
     }
-    match code.function_in(place, procedure) {
-        Some(_) => Ok(None),
-        None => Ok(public),
+    match code.naming_in(alloc, place, procedure)? {
+        Some(named) => Ok(Naming::from(named)),
+        None => Ok(nothing()),
     }
 }
 
 impl<'a, 's> Tables<'a, 's> {
     ghost use Rattle.pdb_resolve.specs.KeptNames.{AreNamesOf};
 
-    /// The frames of a place in a module, whose procedure there and the public symbol before it are these.
+    /// The frames of a place in a module, whose procedure there is this, and which this names where no function is there.
     #[tactic(auto, unfolding(crate::specs::Frames::frames_in, crate::specs::FileParts::names_in))]
     pub(crate) fn frames<S: Source<'s>>(
         &mut self,
@@ -123,14 +123,14 @@ impl<'a, 's> Tables<'a, 's> {
         pdb: &mut PDB<'s, S>,
         code: &ModuleCode<'a>,
         procedure: Option<ListedProcedure>,
-        public: Option<RawString<'a>>,
+        other: Naming<'a>,
         place: PdbInternalSectionOffset,
     ) -> Result<Vec<Frame<'a>>>
         requires names { AreNamesOf pdb.old.file self.old }
         requires procedure { option_map shown_procedure procedure ≡ procedure_at place code.now }
         ensures continues { Continues pdb.old pdb.new }
         ensures kept { AreNamesOf pdb.old.file self.new }
-        ensures frames { IfOk result (λ fs. map shown_frame fs.items ≡ frames_in (names_in pdb.old.file) (global_id_in pdb.old.file code.now) (option_map name_bytes public.entry) place code.now) }
+        ensures frames { (n : Named) → IsNamed other.entry n → IfOk result (λ fs. map shown_frame fs.items ≡ frames_in (names_in pdb.old.file) (global_id_in pdb.old.file code.now) n place code.now) }
         ensures refused { IfErr result (λ e. OnlyFails (MayFail pdb.old pdb.new) e) }
     {
         let strings = strings_asked(pdb, &mut self.strings)?;
@@ -143,8 +143,8 @@ impl<'a, 's> Tables<'a, 's> {
             procedure,
             place,
         )?;
-        let name = outer_name(alloc, code, procedure, public, place)?;
-        push_outer(&mut frames, code, strings, name, place)?;
+        let naming = outer_naming(alloc, code, procedure, other, place)?;
+        push_outer(&mut frames, code, strings, naming, place)?;
         Ok(frames)
     }
 }

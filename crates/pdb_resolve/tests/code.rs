@@ -33,7 +33,7 @@ impl Symbols {
     }
 
     /// One more record: its kind, and numbers of four bytes with others behind them.
-    fn push(&mut self, kind: u16, numbers: &[u32], rest: &[u8]) -> Result<u32> {
+    pub fn push(&mut self, kind: u16, numbers: &[u32], rest: &[u8]) -> Result<u32> {
         let index = self.next();
         let size = 2 + 4 * numbers.len().min(100) as u16 + rest.len().min(100) as u16;
         self.bytes.extend_from_slice(&size.to_le_bytes())?;

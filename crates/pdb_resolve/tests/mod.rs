@@ -10,6 +10,8 @@ mod names;
 mod publics;
 mod resolver;
 mod text;
+mod trampolines;
+mod variables;
 
 use crate::{CodeRange, Ranges};
 use pdb::{PdbInternalSectionOffset, Steps};

@@ -27,11 +27,13 @@ fn dbi(alloc: Global, symbols: u32, rows: &[(u32, u32, u16)]) -> Result<Vec<u8>>
     Ok(bytes)
 }
 
-/// Public symbols at these offsets in section 1, each with a name of three letters.
+/// Public symbols at these offsets in section 1.
 fn publics(alloc: Global, rows: &[(u32, &str)]) -> Result<Vec<u8>> {
     let mut bytes = Vec::new(alloc);
     for (offset, name) in rows {
-        bytes.extend_from_slice(b"\x10\0\x0e\x11\x02\0\0\0")?;
+        let size = 13 + name.len().min(100) as u16;
+        bytes.extend_from_slice(&size.to_le_bytes())?;
+        bytes.extend_from_slice(b"\x0e\x11\x02\0\0\0")?;
         bytes.extend_from_slice(&offset.to_le_bytes())?;
         bytes.extend_from_slice(&[1, 0])?;
         bytes.extend_from_slice(name.as_bytes())?;
@@ -51,6 +53,16 @@ fn file(
     symbols.procedure(0x100, 0x10, END, b"\x01\0\0main\0")?;
     symbols.procedure(0x120, 0, END, b"\x01\0\0zero\0")?;
     symbols.procedure(0x170, 0x10, END, b"\x01\0\0\0")?;
+    file_with(alloc, &symbols, contributions, names)
+}
+
+/// A file of one module with these symbols, contributions and public symbols.
+pub fn file_with(
+    alloc: Global,
+    symbols: &Symbols,
+    contributions: &[(u32, u32, u16)],
+    names: &[(u32, &str)],
+) -> Result<Vec<u8>> {
     let dbi = dbi(alloc, symbols.next(), contributions)?;
     let publics = publics(alloc, names)?;
     let streams: [&[u8]; 9] = [

@@ -14,6 +14,7 @@ pub mod TypeLists
 pub mod FirstTexts
 pub mod Patterns
 pub mod PublicNames
+pub mod PlacedRecords
 pub mod SomeWord
 pub mod Colons
 pub mod SameSizes
@@ -26,6 +27,8 @@ pub mod ReadBack
 pub mod FoundReadBack
 pub mod ListReadBack
 pub mod OpenScopes
+pub mod OwnedLines
+pub mod HeaderMachines
 pub mod GlobalKinds
 pub mod ScopeLines
 pub mod KeptLemmas

@@ -1,5 +1,5 @@
 -- What code a word asks for, and the text that answers it.
-use Rattle.std.specs.Prelude.{◌≡◌, ℕ, ◌+◌, ◌-◌, ◌*◌, List, [], ◌∷◌, ◌++◌, length, take, drop, get_or, codes, Bool, ◌&&◌, ◌||◌, ◌==◌, nat_lt, nat_le, if◌then◌else◌, Option, Some, None, option_and_then, flat_map}
+use Rattle.std.specs.Prelude.{◌≡◌, ℕ, ◌+◌, ◌-◌, ◌*◌, List, [], ◌∷◌, ◌++◌, length, take, drop, get_or, codes, Bool, true, false, ◌&&◌, ◌||◌, ◌==◌, nat_lt, nat_le, if◌then◌else◌, Option, Some, None, option_and_then, flat_map}
 use Rattle.std.specs.Char.{is_ascii_hexdigit, is_ascii_whitespace}
 use Rattle.std.specs.List.{list_all, position, prefix_len, suffix_len}
 use Rattle.std.specs.Io.BufRead.{first_piece}
@@ -7,11 +7,14 @@ use Rattle.std.specs.Io.KnownBytes.{Appends}
 use Rattle.std.specs.Str.{bytes_eq}
 use Rattle.std.specs.Str.Parse.{digits_value}
 use Rattle.pdb.specs.PdbInternalSectionOffset.{PdbInternalSectionOffset}
-use Rattle.pdb_resolve.specs.Frames.{frames_text}
+use Rattle.pdb_resolve.specs.Frames.{displaced_frames, frames_text}
 use Rattle.pdb_resolve.specs.Resolved.{place_of_file, frames_of_file}
 use Rattle.pdb_text.specs.Written.{WroteFront}
+use Rattle.pdb_tool.specs.VariableTexts.{variables_text}
 use Rattle.pdb_tool.specs.declared.asked.Asked.{Asked}
 use Rattle.pdb_tool.specs.declared.asked.Asked.TheVariants.{Address, Place, Nowhere}
+use Rattle.pdb_tool.specs.declared.options.Detail.{Detail}
+use Rattle.pdb_tool.specs.declared.options.Detail.TheVariants.{Plain, Offsets, Variables}
 
 -- ---- numbers
 
@@ -89,8 +92,14 @@ asked_place file (Address address) = place_of_file file address
 asked_place file (Place place) = Some place
 asked_place file Nowhere = None
 
-unfoldable pub asked_text : List ℕ → Asked → List ℕ
-asked_text file asked = frames_text (frames_of_file file (asked_place file asked))
+-- the frames of a place, with displacements or variables, or neither
+abbrev pub text_with : List ℕ → Detail → Option PdbInternalSectionOffset → List ℕ
+text_with file Plain place = frames_text (frames_of_file file place)
+text_with file Offsets place = displaced_frames (frames_of_file file place)
+text_with file Variables place = variables_text file place
+
+unfoldable pub asked_text : List ℕ → Detail → Asked → List ℕ
+asked_text file detail asked = text_with file detail (asked_place file asked)
 
 -- ---- lines
 

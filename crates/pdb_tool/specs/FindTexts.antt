@@ -18,8 +18,7 @@ use Rattle.pdb.specs.ModuleStream.{ModuleBytes, symbols_of}
 use Rattle.pdb.specs.Qualified.{Qualified}
 use Rattle.pdb.specs.Tables.{Addresses}
 use Rattle.pdb.specs.Answers.{address_map_in, debug_information_in, global_symbols_in}
-use Rattle.pdb.specs.Header.{header_of}
-use Rattle.pdb.specs.DBIHeader.{DBIHeader}
+use Rattle.pdb_resolve.specs.Machines.{x86_by}
 use Rattle.pdb_names.specs.Spelling.{spelled, text_of}
 use Rattle.pdb_text.specs.OneLine.{one_line}
 use Rattle.pdb_resolve.specs.AsIfEmpty.{if_read}
@@ -28,7 +27,6 @@ use Rattle.pdb_resolve.specs.AcrossModules.{call_name}
 use Rattle.pdb_resolve.specs.Frames.{qualified_text}
 use Rattle.pdb_resolve.specs.ModuleCode.{inlinees_in}
 use Rattle.pdb_resolve.specs.PlaceAddresses.{address_for}
-use Rattle.pdb.specs.Refusal.{◌>>=◌}
 use Rattle.pdb_tool.specs.ErrorObjects.{fault_in, fault_of, told_in, told_of}
 use Rattle.pdb_tool.specs.FoundObjects.{found_value}
 use Rattle.pdb_tool.specs.Objects.{json_line}
@@ -157,12 +155,8 @@ abbrev pub finding_in : Form → List ℕ → List (List ℕ) → Finding
 finding_in form file words = record { form = form; words = words; ids = items_listed file 4; types = items_listed file 2; addresses = if_read (address_map_in file) }
 
 -- the image is for x86, by the header of the DBI stream
-abbrev pub is_x86 : Result DBIHeader Error → Bool
-is_x86 (Ok header) = header.machine_type == 0x14c
-is_x86 (Err e) = false
-
 abbrev pub x86_in : List ℕ → Bool
-x86_in file = is_x86 (debug_information_in file >>= header_of)
+x86_in file = x86_by (if_read (debug_information_in file))
 
 -- those of the global symbols
 abbrev pub globals_found : List ℕ → Finding → List ℕ

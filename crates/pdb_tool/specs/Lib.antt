@@ -33,6 +33,8 @@ pub mod ScopeFrames
 pub mod VariablePlaces
 pub mod VariableViews
 pub mod ScopeTexts
+pub mod VariableTexts
+pub mod OwnedLines
 pub mod TypeKinds
 pub mod TypeLines
 pub mod TypeViews
@@ -45,6 +47,7 @@ pub mod ModuleLists
 pub mod Wildcards
 pub mod FoundObjects
 pub mod FindTexts
+pub mod PlacedRecords
 pub mod Finders
 pub mod SourcesAsked
 pub mod SourceViews

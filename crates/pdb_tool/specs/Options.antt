@@ -6,8 +6,10 @@ use Rattle.std.specs.Option.{is_some, unwrap_or}
 use Rattle.std.specs.Str.{bytes_eq}
 use Rattle.pdb_tool.specs.Asked.{address_number}
 use Rattle.pdb_tool.specs.declared.words.Topic.{Topic}
-use Rattle.pdb_tool.specs.declared.words.Topic.TheVariants.{Resolve, Symbols, Find, Where, Sources, Modules, Sections, Streams, Key as KeyOf, Check}
+use Rattle.pdb_tool.specs.declared.words.Topic.TheVariants.{Resolve, Symbols, Find, Where, Sources, Modules, Sections, Streams, Key as KeyOf, Check, Variables}
 use Rattle.pdb_tool.specs.declared.options.Options.{Options}
+use Rattle.pdb_tool.specs.declared.options.Detail.{Detail}
+use Rattle.pdb_tool.specs.declared.options.Detail.TheVariants as detail
 use Rattle.pdb_tool.specs.declared.options.Form.{Form}
 use Rattle.pdb_tool.specs.declared.options.Form.TheVariants.{Text, Json}
 use Rattle.pdb_tool.specs.declared.options.Given.{Given}
@@ -55,13 +57,19 @@ with_wanted_option g p word =
     else if bytes_eq (take 6 word) (codes "--key=") then (if is_key (drop 6 word) then with_wanted g (Key p) else None)
     else None
 
--- with an option of `resolve` at p
-unfoldable pub with_resolve_option : Given → ℕ → List ℕ → Option Given
-with_resolve_option g p word =
+-- with an option at p of the commands that take addresses
+unfoldable pub with_address_option : Given → ℕ → List ℕ → Option Given
+with_address_option g p word =
     if is_base word then wanting_base g
     else if bytes_eq (take 7 word) (codes "--base=") then with_base g (address_number (drop 7 word))
     else if bytes_eq word (codes "--addresses") then Some (record g { options = record g.options { addresses = true } })
     else with_wanted_option g p word
+
+-- with one of `resolve`
+unfoldable pub with_resolve_option : Given → ℕ → List ℕ → Option Given
+with_resolve_option g p word =
+    if bytes_eq word (codes "--offsets") then Some (record g { options = record g.options { detail = detail.Offsets } })
+    else with_address_option g p word
 
 -- with one of `symbols`
 abbrev pub with_symbols_option : Given → List ℕ → Option Given
@@ -91,6 +99,7 @@ with_json g = json_after g g.options.form
 -- with an option that not every command has
 abbrev pub with_own_option : Topic → Given → ℕ → List ℕ → Option Given
 with_own_option Resolve g p word = with_resolve_option g p word
+with_own_option Variables g p word = with_address_option g p word
 with_own_option Symbols g p word = with_symbols_option g word
 with_own_option topic g p word = None
 
@@ -111,11 +120,15 @@ with_word topic g Value p word = with_base g (address_number word)
 with_word topic g Operand p word = Some (record g { has_file = true })
 
 abbrev pub no_options : Options
-no_options = record { base = None; wanted = None; addresses = false; all = false; form = Text }
+no_options = record { base = None; wanted = None; addresses = false; detail = detail.Plain; all = false; form = Text }
 
 -- with the load address of an image as the base, where no other is given
 abbrev pub with_base_of : Options → ℕ → Options
 with_base_of o own = record o { base = Some (unwrap_or o.base own) }
+
+-- with the variables of each frame
+abbrev pub with_variables : Options → Options
+with_variables o = record o { detail = detail.Variables }
 
 -- what is given before the first argument
 abbrev pub nothing_given : Given

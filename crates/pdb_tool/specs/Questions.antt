@@ -5,6 +5,7 @@ use Rattle.pdb_tool.specs.Asked.{asked_in, asked_place, asked_text, without_blan
 use Rattle.pdb_tool.specs.FrameObjects.{asked_value, unasked_value}
 use Rattle.pdb_tool.specs.Objects.{json_line}
 use Rattle.pdb_tool.specs.declared.asked.Asked.{Asked}
+use Rattle.pdb_tool.specs.declared.options.Detail.{Detail}
 use Rattle.pdb_tool.specs.declared.options.Form.{Form}
 use Rattle.pdb_tool.specs.declared.options.Form.TheVariants.{Text, Json}
 use Rattle.pdb_tool.specs.declared.options.Options.{Options}
@@ -18,9 +19,10 @@ pub data Style : Type 0 where
   headed : List ℕ → Style
   object_of : List ℕ → Style
 
--- an address, and how its code is written
+-- an address, how its code is written, and what its text has beside the frames
 pub record Ask : Type 0 where
   pub style : Style
+  pub detail : Detail
   pub asked : Asked
 
 abbrev pub answer_view : Answer → Style
@@ -29,7 +31,7 @@ answer_view (written.Headed word) = headed word.now
 answer_view (written.Object word) = object_of word.now
 
 abbrev pub question_view : Question → Ask
-question_view q = record { style = answer_view q.answer; asked = q.asked }
+question_view q = record { style = answer_view q.answer; detail = q.detail; asked = q.asked }
 
 -- how the code of an argument is written, by the form of the output, and whether addresses stand before texts
 abbrev pub style_of : Form → Bool → List ℕ → Style
@@ -38,20 +40,20 @@ style_of Json addresses word = object_of word
 
 -- the address that an argument is, and how its code is written; none where it is no address
 unfoldable pub question_of : Options → List ℕ → Option Ask
-question_of options word = option_map (λ a. record { style = style_of options.form options.addresses word; asked = a }) (asked_in options.base word)
+question_of options word = option_map (λ a. record { style = style_of options.form options.addresses word; detail = options.detail; asked = a }) (asked_in options.base word)
 
 -- the object of an argument, and of the frames of its address
 unfoldable pub asked_line : List ℕ → List ℕ → Asked → List ℕ
 asked_line file word asked = json_line (asked_value word (frames_of_file file (asked_place file asked)))
 
 -- the argument is a line
-abbrev pub styled_text : List ℕ → Style → Asked → List ℕ
-styled_text file frames asked = asked_text file asked
-styled_text file (headed word) asked = word ++ codes "\n" ++ asked_text file asked
-styled_text file (object_of word) asked = asked_line file word asked
+abbrev pub styled_text : List ℕ → Detail → Style → Asked → List ℕ
+styled_text file detail frames asked = asked_text file detail asked
+styled_text file detail (headed word) asked = word ++ codes "\n" ++ asked_text file detail asked
+styled_text file detail (object_of word) asked = asked_line file word asked
 
 unfoldable pub question_text : List ℕ → Ask → List ℕ
-question_text file q = styled_text file q.style q.asked
+question_text file q = styled_text file q.detail q.style q.asked
 
 abbrev pub asks_text : List ℕ → Question → List ℕ
 asks_text file q = question_text file (question_view q)

@@ -4,7 +4,7 @@ use Rattle.std.specs.Str.{bytes_eq}
 use Rattle.pdb_tool.specs.Options.{is_dashes, options_of, nothing_given}
 use Rattle.pdb_tool.specs.declared.options.Options.{Options}
 use Rattle.pdb_tool.specs.declared.words.Topic.{Topic}
-use Rattle.pdb_tool.specs.declared.words.Topic.TheVariants.{Resolve, Lines, Scopes, Symbols, Key, Check, Find, Where, Sources, Modules, Sections, Streams, Types}
+use Rattle.pdb_tool.specs.declared.words.Topic.TheVariants.{Resolve, Lines, Scopes, Symbols, Key, Check, Find, Where, Sources, Modules, Sections, Streams, Types, Variables}
 use Rattle.pdb_tool.specs.declared.words.Request.{Request}
 use Rattle.pdb_tool.specs.declared.words.Request.TheVariants.{Help, ListHelp, Version, Run}
 use Rattle.pdb_tool.specs.declared.words.WordsError.{WordsError}
@@ -20,6 +20,7 @@ lookup_in word =
     else if bytes_eq word (codes "sections") then Some Sections
     else if bytes_eq word (codes "streams") then Some Streams
     else if bytes_eq word (codes "types") then Some Types
+    else if bytes_eq word (codes "variables") then Some Variables
     else None
 
 -- the command of a name

@@ -2,7 +2,7 @@
 use Rattle.std.specs.Prelude.{ℕ, List, [], ◌∷◌, drop, length, map, Option, Some, None, Result, Ok, Err, if◌then◌else◌}
 use Rattle.pdb_text.specs.Numbers.{number_in}
 use Rattle.pdb_tool.specs.Operands.{WordAt, all_in, first_empty, operand_view, operands_of, type_index_in}
-use Rattle.pdb_tool.specs.Options.{with_base_of}
+use Rattle.pdb_tool.specs.Options.{with_base_of, with_variables}
 use Rattle.pdb_tool.specs.Questions.{question_of}
 use Rattle.pdb_tool.specs.SourcesAsked.{SourceOf, source_of}
 use Rattle.pdb_tool.specs.SourceViews.{source_view}
@@ -82,6 +82,9 @@ abbrev pub judged : {A : Type 0} → Task → Result (List A) ℕ → Result Tas
 judged t (Ok xs) = Ok t
 judged t (Err p) = Err p
 
+abbrev pub addressed : Options → WordAt → List WordAt → Result Task ℕ
+addressed o f rest = judged (resolve o f rest) (all_in (question_of (judging o)) rest)
+
 -- names, of which none may be empty; n is where one is missing
 abbrev pub unless_empty : Task → Option ℕ → Result Task ℕ
 unless_empty t None = Ok t
@@ -97,7 +100,8 @@ sourced form f (w ∷ ws) n = given (wheres form f) (all_in source_of (w ∷ ws)
 
 -- a command of a file and further operands; n is the number of arguments
 abbrev pub over_file : Topic → Options → WordAt → List WordAt → ℕ → Result Task ℕ
-over_file topic.Resolve o f rest n = judged (resolve o f rest) (all_in (question_of (judging o)) rest)
+over_file topic.Resolve o f rest n = addressed o f rest
+over_file topic.Variables o f rest n = addressed (with_variables o) f rest
 over_file topic.Lines o f rest n = given (lines f) (all_in number_in rest)
 over_file topic.Scopes o f rest n = given (scopes f) (all_in number_in rest)
 over_file topic.Symbols o f rest n = if o.all then ending (all_symbols f) rest else given (symbols f) (all_in number_in rest)

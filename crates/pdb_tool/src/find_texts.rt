@@ -1,6 +1,6 @@
 //! The text of `find`.
 
-ghost use Rattle.std.specs.Prelude.{◌≡◌, ◌++◌, ◌<◌, OnOk, Ok, Some, None, [], codes, find};
+ghost use Rattle.std.specs.Prelude.{◌≡◌, ◌++◌, ◌<◌, OnOk, Ok, Some, None, [], find};
 ghost use Rattle.std.specs.Option.{option_map, option_or, unwrap_or};
 ghost use Rattle.pdb.specs.Data.{shown};
 ghost use Rattle.pdb.specs.Forms.{record_at};
@@ -12,62 +12,21 @@ ghost use Rattle.pdb.specs.Text.{name_bytes};
 ghost use Rattle.pdb.specs.Views.{symbol_of, symbols_left};
 ghost use Rattle.pdb_resolve.specs.CallViews.{names_of_calls};
 ghost use Rattle.pdb_symbols.specs.Kinds.{is_in};
-ghost use Rattle.pdb_names.specs.Spelling.{spelled, text_of};
-ghost use Rattle.pdb_tool.specs.FindTexts.{find_text, found_in, global_kinds, global_line, global_lines, has_bytes, inlined_at, more_than_none, parent_said, public_line, public_name, site_records, symbol_line, symbols_left_text};
+ghost use Rattle.pdb_tool.specs.FindTexts.{find_text, global_kinds, global_line, global_lines, has_bytes, inlined_at, more_than_none, parent_said, site_records, symbol_line, symbols_left_text};
 ghost use Rattle.pdb_tool.specs.Finders.{parent_view};
+ghost use Rattle.pdb_tool.specs.PlacedRecords.{data_placed, placed_at, public_placed};
 
 use crate::error_objects::put_error_in;
 use crate::finder::{Finder, put_qualified};
 use crate::module_errors::{put_error_of, put_refusal_of};
+use crate::placed_records::placed_in;
+use crate::public_texts::put_public;
 use pdb::{
     Error, FallibleIterator, InlineSiteSymbol, InlineeFinder, InlineeLineIterator, LineInfo,
     ModuleInfo, PdbInternalSectionOffset, Symbol, SymbolData, SymbolIter, SymbolTable,
 };
-use pdb_names::put_name;
 use pdb_resolve::{CallNames, read_known};
 use std::alloc::{AllocError, Global};
-
-/// The line of a public symbol that was found. `spells` has the name that its name spells.
-fn put_public_found(
-    out: &mut Vec<u8>,
-    finder: &Finder<'_, '_>,
-    place: PdbInternalSectionOffset,
-    name: &[u8],
-    spells: &mut Vec<u8>,
-) -> Result<(), AllocError>
-    ensures { OnOk result (out.new.items ≡ out.old.items ++ found_in finder.now.form (codes "public") finder.now.addresses place None (public_name name.now spells.old.items)) }
-{
-    if spells.as_slice() == name {
-        return finder.put_found(out, b"public", place, None, name);
-    }
-    spells.extend_from_slice(b" (")?;
-    spells.extend_from_slice(name)?;
-    spells.extend_from_slice(b")")?;
-    finder.put_found(out, b"public", place, None, spells)
-}
-
-/// The line of a public symbol, where one of its names is asked for.
-#[tactic(auto, unfolding(crate::specs::FindTexts::public_line), using(crate::proofs::PublicNames::as_it_is))]
-fn put_public(
-    out: &mut Vec<u8>,
-    finder: &Finder<'_, '_>,
-    x86: bool,
-    place: PdbInternalSectionOffset,
-    name: &[u8],
-    spells: &mut Vec<u8>,
-) -> Result<(), AllocError>
-    ensures { OnOk result (out.new.items ≡ out.old.items ++ public_line finder.now place name.now (text_of name.now (spelled name.now x86))) }
-{
-    spells.clear();
-    if !put_name(spells, name, x86)? {
-        return finder.put_if_asked(out, b"public", place, None, name);
-    }
-    if finder.is_asked(spells) || finder.is_asked(name) {
-        put_public_found(out, finder, place, name, spells)
-    } else {
-        Ok(())
-    }
-}
 
 /// The line of what a global symbol says, where it has one.
 fn put_global_says(
@@ -95,6 +54,7 @@ fn put_global_says(
 
 /// Whether records of a kind may be global symbols that have a line. A program has as many constants, types and
 /// references beside them, whose records needn't be read.
+#[inline(always)]
 fn may_have_line(kind: u16) -> bool
     ensures { result ≡ is_in global_kinds kind }
 {
@@ -117,8 +77,61 @@ fn may_have_line(kind: u16) -> bool
     )
 }
 
-/// The line of a global symbol, where it has one; out of memory is passed on.
-#[tactic(auto, using(crate::proofs::GlobalKinds::other_kind))]
+/// The line of a global symbol by all that its record says, where it has one; out of memory is passed on.
+#[inline(never)]
+fn put_global_parsed(
+    alloc: Global,
+    out: &mut Vec<u8>,
+    finder: &Finder<'_, '_>,
+    x86: bool,
+    symbol: &Symbol<'_>,
+    spells: &mut Vec<u8>,
+) -> Result<(), AllocError>
+    ensures { OnOk result (out.new.items ≡ out.old.items ++ global_line x86 finder.now (record_at (symbol_of symbol.now).bytes)) }
+{
+    match symbol.parse(alloc) {
+        Ok(parsed) => put_global_says(out, finder, x86, &parsed, spells),
+        Err(Error::OutOfMemory) => Err(AllocError),
+        Err(_) => Ok(()),
+    }
+}
+
+/// The line of a record of a public symbol (kind 0x110e), where it has one.
+#[inline(always)]
+fn put_public_record(
+    out: &mut Vec<u8>,
+    finder: &Finder<'_, '_>,
+    x86: bool,
+    bytes: &[u8],
+    spells: &mut Vec<u8>,
+) -> Result<(), AllocError>
+    ensures { OnOk result (out.new.items ≡ out.old.items ++ public_placed x86 finder.now (placed_at bytes.now)) }
+{
+    match placed_in(bytes) {
+        Some((place, name)) => put_public(out, finder, x86, place, name, spells),
+        None => Ok(()),
+    }
+}
+
+/// The line of a record of global data (kind 0x110d, or 0x1113 of a thread), where it has one.
+#[inline(always)]
+fn put_data_record(
+    out: &mut Vec<u8>,
+    finder: &Finder<'_, '_>,
+    kind: &[u8],
+    bytes: &[u8],
+) -> Result<(), AllocError>
+    ensures { OnOk result (out.new.items ≡ out.old.items ++ data_placed kind.now finder.now (placed_at bytes.now)) }
+{
+    match placed_in(bytes) {
+        Some((place, name)) => finder.put_if_asked(out, kind, place, None, name),
+        None => Ok(()),
+    }
+}
+
+/// The line of a global symbol, where it has one; out of memory is passed on. Most that have one are of three kinds, of
+/// which no more is read than the line has.
+#[inline(always)]
 fn put_global(
     alloc: Global,
     out: &mut Vec<u8>,
@@ -129,13 +142,15 @@ fn put_global(
 ) -> Result<(), AllocError>
     ensures { OnOk result (out.new.items ≡ out.old.items ++ global_line x86 finder.now (record_at (symbol_of symbol.now).bytes)) }
 {
-    if !may_have_line(symbol.raw_kind()) {
+    let kind = symbol.raw_kind();
+    if !may_have_line(kind) {
         return Ok(());
     }
-    match symbol.parse(alloc) {
-        Ok(parsed) => put_global_says(out, finder, x86, &parsed, spells),
-        Err(Error::OutOfMemory) => Err(AllocError),
-        Err(_) => Ok(()),
+    match kind {
+        0x110e => put_public_record(out, finder, x86, symbol.raw_bytes(), spells),
+        0x110d => put_data_record(out, finder, b"data", symbol.raw_bytes()),
+        0x1113 => put_data_record(out, finder, b"thread", symbol.raw_bytes()),
+        _ => put_global_parsed(alloc, out, finder, x86, symbol, spells),
     }
 }
 

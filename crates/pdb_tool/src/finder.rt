@@ -5,7 +5,9 @@ ghost use Rattle.std.specs.List.{list_any};
 ghost use Rattle.pdb.specs.Qualified.{shown_qualified};
 ghost use Rattle.pdb.specs.Text.{name_bytes};
 ghost use Rattle.pdb_resolve.specs.Frames.{qualified_text};
+ghost use Rattle.pdb_text.specs.OneLine.{one_line};
 ghost use Rattle.pdb_tool.specs.Operands.{word_of};
+ghost use Rattle.pdb_tool.specs.Values.{address_text, optional_text, place_text};
 ghost use Rattle.pdb_tool.specs.FindTexts.{found_in, found_line, is_asked, line_if_asked, stretch_text};
 ghost use Rattle.pdb_tool.specs.Wildcards.{matches as matches_of};
 ghost use Rattle.std.specs.Prelude.{Some};
@@ -13,11 +15,11 @@ ghost use Rattle.std.specs.Prelude.{Some};
 use crate::found_objects::put_found_object;
 use crate::operands::Operand;
 use crate::options::Form;
-use crate::values::{put_address, put_optional, put_place};
+use crate::values::{bare_place_field, place_field, put_address, put_optional, put_place};
 use crate::wildcards::matches;
 use pdb::{ItemFinder, PdbInternalSectionOffset, QualifiedName};
 use pdb_resolve::PlaceAddresses;
-use pdb_text::{put_line_end, put_one_line};
+use pdb_text::{put_decimal, put_line_end, put_one_line};
 use std::alloc::AllocError;
 use std::marker::Model;
 
@@ -65,6 +67,7 @@ impl<'w, 'a> Finder<'w, 'a> {
     }
 
     /// Whether a name is asked for. An empty one is not.
+    #[inline(always)]
     pub fn is_asked(&self, name: &[u8]) -> bool
         ensures { result ≡ is_asked self.now.words name.now }
     {
@@ -74,7 +77,24 @@ impl<'w, 'a> Finder<'w, 'a> {
         is_any(self.words, name)
     }
 
+    // What stands behind the kind on the line of what was found.
+    #[inline(never)]
+    fn put_behind_kind(
+        &self,
+        out: &mut Vec<u8>,
+        place: PdbInternalSectionOffset,
+        length: Option<u32>,
+        name: &[u8],
+    ) -> Result<(), AllocError>
+        ensures { OnOk result (out.new.items ≡ out.old.items ++ (codes " " ++ stretch_text self.now.addresses place length ++ codes " " ++ one_line name.now ++ codes "\n")) }
+    {
+        put_stretch_field(out, place, self.addresses.address(place), length)?;
+        put_one_line(out, name)?;
+        put_line_end(out)
+    }
+
     /// The line of what was found: its kind, where it stands, how many bytes it has, and its name.
+    #[inline(always)]
     #[tactic(auto, unfolding(crate::specs::FindTexts::found_line))]
     fn put_found_line(
         &self,
@@ -87,14 +107,11 @@ impl<'w, 'a> Finder<'w, 'a> {
         ensures { OnOk result (out.new.items ≡ out.old.items ++ found_line kind.now self.now.addresses place length name.now) }
     {
         out.extend_from_slice(kind)?;
-        out.push(b' ')?;
-        put_stretch(out, &self.addresses, place, length)?;
-        out.push(b' ')?;
-        put_one_line(out, name)?;
-        put_line_end(out)
+        self.put_behind_kind(out, place, length, name)
     }
 
     /// The same in the form of the lines.
+    #[inline(always)]
     pub fn put_found(
         &self,
         out: &mut Vec<u8>,
@@ -112,6 +129,7 @@ impl<'w, 'a> Finder<'w, 'a> {
     }
 
     /// The line, where the name is asked for.
+    #[inline(always)]
     pub fn put_if_asked(
         &self,
         out: &mut Vec<u8>,
@@ -142,6 +160,7 @@ pub fn put_qualified(out: &mut Vec<u8>, name: QualifiedName<'_>) -> Result<(), A
 }
 
 /// Whether one of the patterns matches a name.
+#[inline(always)]
 #[tactic(auto, using(crate::proofs::SomeWord::any_here, crate::proofs::SomeWord::any_next, crate::proofs::SomeWord::any_none))]
 fn is_any(words: &[Operand<'_>], name: &[u8]) -> bool
     ensures { result ≡ list_any (λ word. matches_of word name.now) (map word_of words.now) }
@@ -152,6 +171,42 @@ fn is_any(words: &[Operand<'_>], name: &[u8]) -> bool
         }
     }
     false
+}
+
+/// A place, its address, and how many bytes are there, between blanks. Where there are neither, as in a file without
+/// section headers, that is one append.
+#[inline(always)]
+fn put_stretch_field(
+    out: &mut Vec<u8>,
+    place: PdbInternalSectionOffset,
+    address: Option<u32>,
+    length: Option<u32>,
+) -> Result<(), AllocError>
+    ensures { OnOk result (out.new.items ≡ out.old.items ++ (codes " " ++ (place_text place ++ codes " " ++ address_text address ++ codes " " ++ optional_text length) ++ codes " ")) }
+{
+    match (address, length) {
+        (None, None) => out.extend_from_slice(&bare_place_field(place)),
+        (address, length) => {
+            out.extend_from_slice(&place_field(place))?;
+            put_address(out, address)?;
+            put_length_field(out, length)
+        }
+    }
+}
+
+/// How many bytes are there, between blanks.
+#[inline(always)]
+fn put_length_field(out: &mut Vec<u8>, length: Option<u32>) -> Result<(), AllocError>
+    ensures { OnOk result (out.new.items ≡ out.old.items ++ (codes " " ++ optional_text length ++ codes " ")) }
+{
+    match length {
+        None => out.extend_from_slice(b" - "),
+        Some(length) => {
+            out.push(b' ')?;
+            put_decimal(out, u64::from(length))?;
+            Ok(out.push(b' ')?)
+        }
+    }
 }
 
 /// A place, its address, and how many bytes are there.

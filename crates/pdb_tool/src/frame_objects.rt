@@ -1,13 +1,14 @@
 //! The JSON object of an address: the argument, and the frames of its code.
 
-ghost use Rattle.std.specs.Prelude.{◌≡◌, ◌∷◌, ◌++◌, [], codes, flat_map, map, OnOk};
+ghost use Rattle.std.specs.Prelude.{◌≡◌, ◌∷◌, ◌++◌, [], codes, flat_map, map, option_copied, Some, OnOk};
 ghost use Rattle.std.specs.Option.{option_map};
 ghost use Rattle.json.specs.Json.{array, member, no_members, null};
 ghost use Rattle.json.specs.Token.{begin_object, key};
 ghost use Rattle.json.specs.Tree.{json_tokens, members_tokens};
 ghost use Rattle.pdb.specs.Qualified.{shown_qualified};
 ghost use Rattle.pdb.specs.Text.{name_bytes};
-ghost use Rattle.pdb_resolve.specs.KeptFrames.{shown_frame};
+ghost use Rattle.pdb_resolve.specs.Frames.{qualified_text};
+ghost use Rattle.pdb_resolve.specs.KeptFrames.{shown_frame, shown_function_name};
 ghost use Rattle.pdb_tool.specs.FrameObjects.{asked_value, file_value, frame_items, frame_value, frames_member, line_members, name_value, unasked_value};
 ghost use Rattle.pdb_tool.specs.Objects.{Adds, json_line, text_value};
 
@@ -15,7 +16,7 @@ use crate::finder::put_qualified;
 use crate::objects::{end_line, put_known, put_null, put_number, put_text, value_behind};
 use json::Writer;
 use pdb::{QualifiedName, RawString};
-use pdb_resolve::Frame;
+use pdb_resolve::{Frame, FunctionName};
 use std::alloc::{AllocError, Global};
 
 /// A function's name, as a member. It is composed in `room`.
@@ -31,6 +32,34 @@ pub fn put_name(
     };
     room.clear();
     put_qualified(room, name)?;
+    writer.key("name")?;
+    put_known(*room.allocator(), writer, room)
+}
+
+/// A function's name, with the one before it.
+fn put_whole_name(out: &mut Vec<u8>, name: &FunctionName<'_>) -> Result<(), AllocError>
+    ensures { OnOk result (out.new.items ≡ out.old.items ++ qualified_text (Some (shown_function_name name.now))) }
+{
+    if let Some(scope) = name.qualifier() {
+        out.extend_from_slice(scope.as_bytes())?;
+        out.extend_from_slice(b"::")?;
+    }
+    out.extend_from_slice(name.unqualified())
+}
+
+/// The name of a frame's function, as a member. It is composed in `room`.
+fn put_function_name(
+    writer: &mut Writer,
+    room: &mut Vec<u8>,
+    name: Option<&FunctionName<'_>>,
+) -> Result<(), AllocError>
+    ensures { Adds result writer.old writer.new (key (codes "name") ∷ json_tokens (name_value (option_map shown_function_name (option_copied name.entry)))) }
+{
+    let Some(name) = name else {
+        return put_null(writer, "name");
+    };
+    room.clear();
+    put_whole_name(room, name)?;
     writer.key("name")?;
     put_known(*room.allocator(), writer, room)
 }
@@ -64,7 +93,7 @@ fn put_frame(writer: &mut Writer, room: &mut Vec<u8>, frame: &Frame<'_>) -> Resu
     ensures { Adds result writer.old writer.new (json_tokens (frame_value (shown_frame frame.now))) }
 {
     writer.begin_object()?;
-    put_name(writer, room, frame.name)?;
+    put_function_name(writer, room, frame.name.as_ref())?;
     put_file(*room.allocator(), writer, frame.file)?;
     put_line(writer, frame.line, frame.column)
 }

@@ -6,15 +6,31 @@ use crate::words::Topic;
 pub const VERSION: &str = "pdb_tool 0.1.0\n";
 
 /// The commands, in the order of help.
-pub const COMMANDS: [&str; 15] = [
-    "resolve", "find", "where", "lines", "scopes", "symbols", "types", "sources", "modules",
-    "sections", "streams", "key", "check", "help", "version",
+pub const COMMANDS: [&str; 16] = [
+    "resolve",
+    "variables",
+    "find",
+    "where",
+    "lines",
+    "scopes",
+    "symbols",
+    "types",
+    "sources",
+    "modules",
+    "sections",
+    "streams",
+    "key",
+    "check",
+    "help",
+    "version",
 ];
 
 const OVERVIEW: &str = "\
 pdb_tool prints what Microsoft symbol files (PDB) say about a program.
 
   pdb_tool resolve [--base=HEX] FILE [ADDRESS..]  functions, files and lines at addresses
+  pdb_tool variables [--base=HEX] FILE [ADDRESS..]
+                                                  the same, with the variables in scope
   pdb_tool find FILE NAME..                       addresses of functions and data
   pdb_tool where FILE SOURCE[:LINE[-LINE]]..      addresses of source lines
   pdb_tool lines FILE [K..]                       line records of modules
@@ -34,7 +50,8 @@ pdb_tool prints what Microsoft symbol files (PDB) say about a program.
 
 K is the index of a module, counted from 0: modules lists them.
 
-With --json each command but lines, scopes, symbols and types prints a JSON object on each line.
+With --json each command but variables, lines, scopes, symbols and types prints a JSON object on
+each line.
 
 Exit status: 0, success; 1, a file of several could not be read, a file is damaged, or nothing
 was found; 2, a wrong argument; 3, a file can't be read; 4, it is no symbol file; 5, out of memory;
@@ -42,13 +59,14 @@ was found; 2, a wrong argument; 3, a file can't be read; 4, it is no symbol file
 ";
 
 const RESOLVE: &str = "\
-pdb_tool resolve [--base=HEX] [--key=KEY | --image=IMAGE] [--addresses] [--json] FILE [ADDRESS..]
+pdb_tool resolve [--base=HEX] [--key=KEY | --image=IMAGE] [--addresses] [--offsets] [--json] FILE [ADDRESS..]
 
 Prints the code at each ADDRESS, innermost function first: the inlined functions, and then the
 function that contains them. Each function is its name on one line, and FILE:LINE:COLUMN on the
 next. An empty line ends each address. An unknown name is ??, an unknown line or column 0. Where
-no function is known, the name is that of the public symbol before the address, if that belongs to
-the same object file and no function that begins at it has ended.
+no function is known, the name is what that of the public symbol before the address spells, if that
+belongs to the same object file and no function that begins at it has ended. A jump which the
+linker made for incremental linking is ILT+N(NAME): it leads to NAME.
 
   ADDRESS     an address relative to the image's load address, of 1 to 16 hex digits: HEX, 0xHEX,
               HEXh, or HEX with a ` before its last eight digits;
@@ -60,6 +78,9 @@ the same object file and no function that begins at it has ended.
               an EXE or DLL. FILE has to have the key of the PDB that it names. Its load address
               is the base where --base isn't given
   --addresses prints each ADDRESS on a line before its text
+  --offsets   prints +0x and a number in hex behind the last name of an ADDRESS: how many bytes the
+              address is behind the start of that function, jump or public symbol, unless it is 0.
+              It changes no JSON
   --json      prints each ADDRESS and its frames as a JSON object on one line. An unknown name or
               file is null. A line of standard input that is no address has null for its frames
 
@@ -80,6 +101,33 @@ read. A line that is no address is printed as it is.
   $ pdb_tool resolve --key=00112233445566778899AABBCCDDEEFF2 app.pdb 1108
   $ pdb_tool resolve --json app.pdb 1:10c
   {\"asked\":\"1:10c\",\"frames\":[{\"name\":\"main\",\"file\":\"a.c\",\"line\":2,\"column\":0}]}
+";
+
+const VARIABLES: &str = "\
+pdb_tool variables [--base=HEX] [--key=KEY | --image=IMAGE] [--addresses] FILE [ADDRESS..]
+
+Prints the code at each ADDRESS as resolve does. Behind the two lines of each function is a line for
+each of its variables that is in scope at ADDRESS: two blanks, a word, where the variable is while
+the code there runs, and its name. The variables of an inlined call stand behind that call.
+
+The word is param, local, static, thread or constant. Where a variable is, is one of these:
+
+  rcx            in this register
+  [rsp+40]       in memory: the value of this register and an offset, in decimal
+  [frame+8]      in memory: the same, where the register of the frame isn't known
+  0003:00000010  in memory: SECTION:OFFSET in hex; of thread, in the storage of each thread
+  +0:ecx,+4:edx  in parts: the offset of each part in the variable, and where the part is
+  program:7      as the program of this number computes it
+  7              a constant has its value
+  -              nowhere: the code at ADDRESS doesn't keep it
+
+ADDRESS, the options and standard input are those of resolve.
+
+  $ pdb_tool variables app.pdb 1:100
+  main
+  a.c:1:0
+    param ecx argc
+    local [rsp+16] i
 ";
 
 const FIND: &str = "\
@@ -287,7 +335,10 @@ the part and the error of a FILE without damage are null.
 ";
 
 const RESOLVE_USAGE: &str =
-    "usage: pdb_tool resolve [--base=HEX] [--key=KEY | --image=IMAGE] [--addresses] [--json] FILE [ADDRESS..]\n";
+    "usage: pdb_tool resolve [--base=HEX] [--key=KEY | --image=IMAGE] [--addresses] [--offsets] [--json] FILE [ADDRESS..]\n";
+
+const VARIABLES_USAGE: &str =
+    "usage: pdb_tool variables [--base=HEX] [--key=KEY | --image=IMAGE] [--addresses] FILE [ADDRESS..]\n";
 
 const FIND_USAGE: &str = "usage: pdb_tool find [--json] FILE NAME..\n";
 
@@ -333,6 +384,7 @@ pub fn help_of(topic: Option<Topic>) -> &'static str {
         Some(Topic::Sections) => SECTIONS,
         Some(Topic::Streams) => STREAMS,
         Some(Topic::Types) => TYPES,
+        Some(Topic::Variables) => VARIABLES,
     }
 }
 
@@ -353,5 +405,6 @@ pub fn usage_of(topic: Option<Topic>) -> &'static str {
         Some(Topic::Sections) => SECTIONS_USAGE,
         Some(Topic::Streams) => STREAMS_USAGE,
         Some(Topic::Types) => TYPES_USAGE,
+        Some(Topic::Variables) => VARIABLES_USAGE,
     }
 }

@@ -10,7 +10,7 @@ ghost use Rattle.pdb.specs.Source.{Continues};
 ghost use Rattle.pdb_resolve.specs.AsIfEmpty.{if_read};
 ghost use Rattle.pdb_resolve.specs.FileParts.{items_where};
 ghost use Rattle.pdb_text.specs.Written.{WroteFront};
-ghost use Rattle.pdb_tool.specs.FindTexts.{globals_found, is_x86, x86_in};
+ghost use Rattle.pdb_tool.specs.FindTexts.{globals_found, x86_in};
 ghost use Rattle.pdb_tool.specs.SourceTexts.{sources_text};
 ghost use Rattle.pdb_tool.specs.ModuleTexts.{find_command, found_by, plain_text, sources_command, where_command};
 ghost use Rattle.pdb_tool.specs.Operands.{word_of};
@@ -33,7 +33,7 @@ use crate::where_texts::put_where;
 use pdb::{
     AddressMap, Error, IdInformation, ModuleInfo, PDB, Source, StringTable, TypeInformation,
 };
-use pdb_resolve::{CallNames, GlobalIds, PlaceAddresses, ids_of, types_of};
+use pdb_resolve::{CallNames, GlobalIds, PlaceAddresses, ids_of, is_x86, types_of};
 use pdb_text::write_out;
 use std::alloc::{AllocError, Global};
 use std::io::Write;
@@ -127,17 +127,14 @@ fn address_map<'s, S: Source<'s>>(pdb: &mut PDB<'s, S>) -> Result<Option<Address
     }
 }
 
-/// The number of x86 in the header of a DBI stream.
-const X86: u16 = 0x14c;
-
 /// Whether the image is for x86, by the header of the DBI stream.
-fn is_x86<'s, S: Source<'s>>(pdb: &mut PDB<'s, S>) -> Result<bool, Stop>
+fn image_is_x86<'s, S: Source<'s>>(pdb: &mut PDB<'s, S>) -> Result<bool, Stop>
     ensures continues { Continues pdb.old pdb.new }
     ensures is { IfOk result (λ b. b ≡ x86_in pdb.old.file) }
     ensures unwritten { IfErr result (λ e. (e ≡ Stop.Memory) ⊎ (e ≡ Stop.Read)) }
 {
     match pdb.debug_information() {
-        Ok(information) => Ok(information.header().machine_type == X86),
+        Ok(information) => Ok(is_x86(Some(&information))),
         Err(Error::OutOfMemory) => Err(Stop::Memory),
         Err(Error::IoError) => Err(Stop::Read),
         Err(_) => Ok(false),
@@ -172,7 +169,7 @@ fn put_globals<'s, S: Source<'s>>(
     ensures text { OnOk result (out.new.items ≡ out.old.items ++ globals_found pdb.old.file finder.now) }
     ensures unwritten { IfErr result (λ e. (e ≡ Stop.Memory) ⊎ (e ≡ Stop.Read)) }
 {
-    let x86 = is_x86(pdb)?;
+    let x86 = image_is_x86(pdb)?;
     match pdb.global_symbols() {
         Ok(symbols) => Ok(put_found_globals(alloc, out, finder, x86, &symbols)?),
         Err(e) => put_refused_in(out, finder.form, e),

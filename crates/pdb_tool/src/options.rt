@@ -1,7 +1,7 @@
 //! What the options of a command say.
 
 ghost use Rattle.std.specs.Prelude.{◌≡◌, ◌+◌, ◌<◌, ◌^◌, map, string_bytes, length};
-ghost use Rattle.pdb_tool.specs.Options.{is_base, is_dashes, is_option, is_key, is_value, nothing_given, options_of, takes_json, wanting_base, with_base, with_base_of, with_json, with_option, with_plain, with_resolve_option, with_symbols_option, with_wanted, with_wanted_option, with_word};
+ghost use Rattle.pdb_tool.specs.Options.{is_base, is_dashes, is_option, is_key, is_value, nothing_given, options_of, takes_json, wanting_base, with_address_option, with_base, with_base_of, with_json, with_option, with_plain, with_resolve_option, with_symbols_option, with_variables, with_wanted, with_wanted_option, with_word};
 ghost use Rattle.std.specs.Char.{is_ascii_hexdigit};
 ghost use Rattle.pdb_tool.specs.Words.{Tells};
 
@@ -27,6 +27,18 @@ pub enum Form {
     Json,
 }
 
+/// What the text of an address has beside its frames.
+#[derive(Clone, Copy, Debug, Default, PartialEq, Eq)]
+pub enum Detail {
+    /// Nothing.
+    #[default]
+    Plain,
+    /// Behind a function's name, how far the address is behind its start.
+    Offsets,
+    /// Behind each frame, the variables that are in scope there.
+    Variables,
+}
+
 /// What the options of a command say.
 #[derive(Clone, Copy, Debug, Default, PartialEq, Eq)]
 pub struct Options {
@@ -36,6 +48,8 @@ pub struct Options {
     pub wanted: Option<Wanted>,
     /// Whether each text stands behind its address.
     pub addresses: bool,
+    /// What the text of an address has beside its frames.
+    pub detail: Detail,
     /// Whether the symbols of all modules are meant.
     pub all: bool,
     /// How the output is written.
@@ -49,6 +63,16 @@ impl Options {
     {
         Options {
             base: Some(self.base.unwrap_or(own)),
+            ..self
+        }
+    }
+
+    /// With the variables of each frame.
+    pub fn with_variables(self) -> Options
+        ensures { result ≡ with_variables self }
+    {
+        Options {
+            detail: Detail::Variables,
             ..self
         }
     }
@@ -163,10 +187,10 @@ fn with_wanted_option(given: Given, place: usize, word: &[u8]) -> Option<Given>
     with_wanted(given, Wanted::Key(place))
 }
 
-/// With an option of `resolve`.
-#[tactic(auto, unfolding(crate::specs::Options::with_resolve_option))]
-fn with_resolve_option(given: Given, place: usize, word: &[u8]) -> Option<Given>
-    ensures { result ≡ with_resolve_option given place word.now }
+/// With an option of the commands that take addresses.
+#[tactic(auto, unfolding(crate::specs::Options::with_address_option))]
+fn with_address_option(given: Given, place: usize, word: &[u8]) -> Option<Given>
+    ensures { result ≡ with_address_option given place word.now }
 {
     if is_base(word) {
         return wanting_base(given);
@@ -179,6 +203,21 @@ fn with_resolve_option(given: Given, place: usize, word: &[u8]) -> Option<Given>
     }
     let options = Options {
         addresses: true,
+        ..given.options
+    };
+    Some(Given { options, ..given })
+}
+
+/// With an option of `resolve`.
+#[tactic(auto, unfolding(crate::specs::Options::with_resolve_option))]
+fn with_resolve_option(given: Given, place: usize, word: &[u8]) -> Option<Given>
+    ensures { result ≡ with_resolve_option given place word.now }
+{
+    if word != b"--offsets".as_slice() {
+        return with_address_option(given, place, word);
+    }
+    let options = Options {
+        detail: Detail::Offsets,
         ..given.options
     };
     Some(Given { options, ..given })
@@ -234,6 +273,7 @@ fn with_option(topic: Topic, given: Given, place: usize, word: &[u8]) -> Option<
     }
     match topic {
         Topic::Resolve => with_resolve_option(given, place, word),
+        Topic::Variables => with_address_option(given, place, word),
         Topic::Symbols => with_symbols_option(given, word),
         _ => None,
     }

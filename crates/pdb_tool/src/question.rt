@@ -4,7 +4,7 @@ ghost use Rattle.std.specs.Prelude.{◌≡◌, option_map};
 ghost use Rattle.pdb_tool.specs.Questions.{answer_view, question_of, question_view, style_of};
 
 use crate::asked::{Asked, asked_in};
-use crate::options::{Form, Options};
+use crate::options::{Detail, Form, Options};
 
 /// How the code at an address is written.
 #[derive(Clone, Copy, Debug)]
@@ -22,6 +22,8 @@ pub enum Answer<'w> {
 pub struct Question<'w> {
     /// How it is written.
     pub answer: Answer<'w>,
+    /// What its text has beside the frames.
+    pub detail: Detail,
     /// The address.
     pub asked: Asked,
 }
@@ -45,6 +47,7 @@ pub fn question_of(options: Options, word: &[u8]) -> Option<Question<'_>>
     let asked = asked_in(options.base, word)?;
     Some(Question {
         answer: answer_of(options, word),
+        detail: options.detail,
         asked,
     })
 }

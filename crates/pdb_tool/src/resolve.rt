@@ -14,9 +14,10 @@ ghost use Rattle.pdb_tool.specs.declared.stop.Stop.{Stop};
 use crate::asked::Asked;
 use crate::frame_objects::{put_asked_line, put_unasked_line};
 use crate::opening::opened;
-use crate::options::{Form, Options};
+use crate::options::{Detail, Form, Options};
 use crate::question::{Answer, Question, question_of};
 use crate::stop::{Stop, stop_of};
+use crate::variable_texts::put_variables;
 use pdb::{PdbInternalSectionOffset, Source};
 use pdb_resolve::{Resolver, Streams};
 use pdb_text::{put_line_end, write_out};
@@ -43,14 +44,19 @@ fn place_of<'s, S: Source<'s>>(
 pub fn put_asked<'s, S: Source<'s>>(
     resolver: &mut Resolver<'_, 's, S>,
     out: &mut Vec<u8>,
+    detail: Detail,
     asked: Asked,
 ) -> Result<(), Stop>
     ensures continues { Continues resolver.old resolver.new }
-    ensures text { OnOk result (out.new.items ≡ out.old.items ++ asked_text resolver.old.file asked) }
+    ensures text { OnOk result (out.new.items ≡ out.old.items ++ asked_text resolver.old.file detail asked) }
     ensures unwritten { IfErr result (λ e. (e ≡ Stop.Memory) ⊎ (e ≡ Stop.Read)) }
 {
     let place = place_of(resolver, asked);
-    resolver.put_text(out, place).map_err(stop_of)
+    match detail {
+        Detail::Plain => resolver.put_text(out, place).map_err(stop_of),
+        Detail::Offsets => resolver.put_displaced_text(out, place).map_err(stop_of),
+        Detail::Variables => put_variables(resolver, out, place),
+    }
 }
 // end
 
@@ -59,15 +65,16 @@ fn put_headed<'s, S: Source<'s>>(
     resolver: &mut Resolver<'_, 's, S>,
     out: &mut Vec<u8>,
     word: &[u8],
+    detail: Detail,
     asked: Asked,
 ) -> Result<(), Stop>
     ensures continues { Continues resolver.old resolver.new }
-    ensures text { OnOk result (out.new.items ≡ out.old.items ++ (word.now ++ codes "\n" ++ asked_text resolver.old.file asked)) }
+    ensures text { OnOk result (out.new.items ≡ out.old.items ++ (word.now ++ codes "\n" ++ asked_text resolver.old.file detail asked)) }
     ensures unwritten { IfErr result (λ e. (e ≡ Stop.Memory) ⊎ (e ≡ Stop.Read)) }
 {
     out.extend_from_slice(word)?;
     put_line_end(out)?;
-    put_asked(resolver, out, asked)
+    put_asked(resolver, out, detail, asked)
 }
 
 /// The JSON object of an argument, and of the frames of what it asks for.
@@ -100,8 +107,8 @@ pub fn put_question<'s, S: Source<'s>>(
     ensures unwritten { IfErr result (λ e. (e ≡ Stop.Memory) ⊎ (e ≡ Stop.Read)) }
 {
     match question.answer {
-        Answer::Frames => put_asked(resolver, out, question.asked),
-        Answer::Headed(word) => put_headed(resolver, out, word, question.asked),
+        Answer::Frames => put_asked(resolver, out, question.detail, question.asked),
+        Answer::Headed(word) => put_headed(resolver, out, word, question.detail, question.asked),
         Answer::Object(word) => put_object(resolver, out, word, question.asked),
     }
 }

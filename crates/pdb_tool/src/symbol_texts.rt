@@ -18,6 +18,7 @@ ghost use Rattle.pdb.specs.Left.{Left};
 ghost use Rattle.pdb.specs.ModuleStream.{symbols_of};
 ghost use Rattle.pdb.specs.SymbolList.{Entry};
 ghost use Rattle.pdb_records.specs.RecordReading.{further_at};
+ghost use Rattle.pdb_resolve.specs.ModuleCode.{symbols_in};
 ghost use Rattle.pdb_tool.specs.Values.{behind_blank};
 ghost use Rattle.pdb_tool.specs.ValueTexts.{kind_text};
 
@@ -265,12 +266,14 @@ fn put_symbol_list(
 }
 
 /// The machine of a module's symbols; the header's where they have an error.
+#[tactic(auto, unfolding(pdb_resolve::specs::ModuleCode::symbols_in))]
 pub fn machine_in(
     alloc: Global,
     header: Option<Machine>,
     info: &ModuleInfo<'_>,
 ) -> Result<Option<Machine>, AllocError>
-    ensures { IfOk result (λ m. (left : Left Entry) → symbols_of info.now ≡ Ok left → m ≡ module_machine header left.items) }
+    ensures listed { IfOk result (λ m. (left : Left Entry) → symbols_of info.now ≡ Ok left → m ≡ module_machine header left.items) }
+    ensures is { IfOk result (λ m. m ≡ module_machine header (symbols_in info.now)) }
 {
     match info.symbols() {
         Ok(symbols) => machine_of_module(alloc, header, symbols),

@@ -21,6 +21,31 @@ fn place_digits(place: PdbInternalSectionOffset) -> [u8; 13]
     ]
 }
 
+/// The same between blanks.
+#[inline(always)]
+#[tactic(auto, unfolding(pdb_text::specs::Digits::hex))]
+pub fn place_field(place: PdbInternalSectionOffset) -> [u8; 15]
+    ensures { result ≡ codes " " ++ place_text place ++ codes " " }
+{
+    let d = place_digits(place);
+    [
+        b' ', d[0], d[1], d[2], d[3], d[4], d[5], d[6], d[7], d[8], d[9], d[10], d[11], d[12], b' ',
+    ]
+}
+
+/// The same, with a `-` for each of an address and a length that aren't there.
+#[inline(always)]
+#[tactic(auto, unfolding(pdb_text::specs::Digits::hex))]
+pub fn bare_place_field(place: PdbInternalSectionOffset) -> [u8; 19]
+    ensures { result ≡ codes " " ++ place_text place ++ codes " - - " }
+{
+    let d = place_digits(place);
+    [
+        b' ', d[0], d[1], d[2], d[3], d[4], d[5], d[6], d[7], d[8], d[9], d[10], d[11], d[12],
+        b' ', b'-', b' ', b'-', b' ',
+    ]
+}
+
 /// Appends a section, `:` and an offset in it, in hex digits.
 pub fn put_place(out: &mut Vec<u8>, place: PdbInternalSectionOffset) -> Result<(), AllocError>
     ensures { OnOk result (out.new.items ≡ out.old.items ++ place_text place) }

@@ -89,7 +89,7 @@ pub fn put_at_register(
 }
 
 /// A place at an offset from the register of a frame; `frame` where it is not known.
-fn put_in_frame(
+pub fn put_in_frame(
     out: &mut Vec<u8>,
     machine: Option<Machine>,
     base: u8,
@@ -104,7 +104,7 @@ fn put_in_frame(
 }
 
 /// The offset of a part in its variable.
-fn put_part(out: &mut Vec<u8>, offset: u32) -> Result<(), AllocError>
+pub fn put_part(out: &mut Vec<u8>, offset: u32) -> Result<(), AllocError>
     ensures { OnOk result (out.new.items ≡ out.old.items ++ part_text offset) }
 {
     out.push(b'+')?;
@@ -123,7 +123,7 @@ fn put_part_if(out: &mut Vec<u8>, subfield: Option<u16>) -> Result<(), AllocErro
 }
 
 /// The number of a program that computes a variable.
-fn put_program(out: &mut Vec<u8>, program: u32) -> Result<(), AllocError>
+pub fn put_program(out: &mut Vec<u8>, program: u32) -> Result<(), AllocError>
     ensures { OnOk result (out.new.items ≡ out.old.items ++ program_text program) }
 {
     out.extend_from_slice(b"program:")?;

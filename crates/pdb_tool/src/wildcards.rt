@@ -24,19 +24,18 @@ fn matches_somewhere(pattern: &[u8], name: &[u8]) -> bool
 }
 
 /// Whether a pattern is a star alone: every name matches it, so that no byte needs to be read.
+#[inline(always)]
 fn is_star(pattern: &[u8]) -> bool
     ensures { result ≡ bytes_eq pattern.now (codes "*") }
 {
     pattern == b"*".as_slice()
 }
 
-/// Whether a name matches a pattern: `*` stands for any bytes, also none, and each other byte for itself.
-pub fn matches(pattern: &[u8], name: &[u8]) -> bool
+/// Whether a name matches a pattern, read from its start on.
+#[inline(never)]
+fn matches_from_start(pattern: &[u8], name: &[u8]) -> bool
     ensures { result ≡ matches pattern.now name.now }
 {
-    if is_star(pattern) {
-        return true;
-    }
     match pattern.find_byte(STAR) {
         None => name == pattern,
         Some(star) => {
@@ -44,4 +43,12 @@ pub fn matches(pattern: &[u8], name: &[u8]) -> bool
                 && matches_somewhere(&pattern[star + 1..], &name[star..])
         }
     }
+}
+
+/// Whether a name matches a pattern: `*` stands for any bytes, also none, and each other byte for itself.
+#[inline(always)]
+pub fn matches(pattern: &[u8], name: &[u8]) -> bool
+    ensures { result ≡ matches pattern.now name.now }
+{
+    is_star(pattern) || matches_from_start(pattern, name)
 }

@@ -35,6 +35,8 @@ pub enum Topic {
     Streams,
     /// Types, with their sizes and members.
     Types,
+    /// What code stands at addresses, and which variables are in scope there.
+    Variables,
 }
 
 /// The request that arguments are.
@@ -92,6 +94,7 @@ fn lookup_in(word: &str) -> Option<Topic>
         "sections" => Some(Topic::Sections),
         "streams" => Some(Topic::Streams),
         "types" => Some(Topic::Types),
+        "variables" => Some(Topic::Variables),
         _ => None,
     }
 }

@@ -64,7 +64,7 @@ fn judging(options: Options) -> Options
     }
 }
 
-/// `resolve`, where each operand behind the file is an address.
+/// `resolve` and `variables`, where each operand behind the file is an address.
 fn resolve_work<'w>(
     alloc: Global,
     options: Options,
@@ -161,6 +161,7 @@ fn over_file<'w>(
 {
     match topic {
         Topic::Resolve => resolve_work(alloc, options, file, rest),
+        Topic::Variables => resolve_work(alloc, options.with_variables(), file, rest),
         Topic::Lines => Ok(Work::Lines(file, all_numbers(alloc, &rest)?)),
         Topic::Scopes => Ok(Work::Scopes(file, all_numbers(alloc, &rest)?)),
         Topic::Symbols => symbols_work(alloc, options, file, &rest),

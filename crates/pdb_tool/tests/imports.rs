@@ -5,7 +5,7 @@ use super::parts::both;
 use crate::asked::Asked;
 use crate::file_texts::FileText;
 use crate::operands::Operand;
-use crate::options::Form;
+use crate::options::{Detail, Form};
 use crate::question::{Answer, Question};
 use crate::sources_asked::source_of;
 use pdb::PdbInternalSectionOffset;
@@ -135,6 +135,7 @@ fn texts_are(
     };
     let asked = [Question {
         answer: Answer::Frames,
+        detail: Detail::Plain,
         asked: Asked::Place(place),
     }];
     both(rt, &bytes, FileText::Code(&asked), wanted.0);

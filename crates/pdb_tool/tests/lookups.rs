@@ -1,10 +1,10 @@
 //! What is found by names, and where lines of source files are.
 
 use super::files::{debug_stream, file_of, module_record};
-use super::streams::{Sizes, module_of, symbols_of};
+use super::streams::{Sizes, module_of, put_record, symbols_of};
 use crate::asking::Asking;
 use crate::error_objects::put_error_in;
-use crate::find_texts::put_found_symbols;
+use crate::find_texts::{put_found_globals, put_found_symbols};
 use crate::finder::Finder;
 use crate::lookups::{write_find, write_sources, write_where};
 use crate::module_lists::write_modules;
@@ -19,7 +19,7 @@ use crate::tests::fakes::is;
 use crate::where_texts::put_where;
 use crate::wildcards::matches;
 use crate::words::WordsError;
-use pdb::{Error, ItemFinder, MemorySource, Stream, StringTable};
+use pdb::{Error, ItemFinder, MemorySource, Stream, StringTable, SymbolTable};
 use pdb_resolve::{CallNames, GlobalIds, PlaceAddresses};
 use std::alloc::{AllocError, Global};
 use std::process::Abort;
@@ -204,6 +204,52 @@ fn symbols_of_a_module_by_name(rt: HostRuntime) -> Result<(), Fail> {
         thread 0004:00000020 - - tab\n";
     is(&rt, "out", &out.as_slice(), &wanted);
     Ok(())
+}
+
+/// Global symbols whose places and names are read at their offsets: a public symbol and data of a thread; an empty name;
+/// a name without its zero byte, and a place without its last byte. Then local data, and a public symbol, `_ab` on x86,
+/// whose name stands behind its length.
+static GLOBALS: [&[u8]; 8] = [
+    b"\x0e\x11\x02\x00\x00\x00\x44\x33\x22\x11\x66\x55pab\x00",
+    b"\x13\x11\x74\x00\x00\x00\x20\x00\x00\x00\x04\x00ta\nb\x00\xf1",
+    b"\x0d\x11\x74\x00\x00\x00\x30\x00\x00\x00\x04\x00\x00",
+    b"\x0d\x11\x74\x00\x00\x00\x40\x00\x00\x00\x04\x00gab",
+    b"\x0e\x11\x02\x00\x00\x00\x40\x00\x00\x00\x04",
+    b"\x0c\x11\x74\x00\x00\x00\x10\x00\x00\x00\x03\x00lab\x00",
+    b"\x12\x11\x74\x00\x00\x00\x20\x00\x00\x00\x04\x00lab\x00",
+    b"\x09\x10\x02\x00\x00\x00\x50\x00\x00\x00\x01\x00\x03_ab",
+];
+
+/// The lines of these, of all names, in an image for x86 or not.
+fn global_lines(rt: &(impl Abort + AllocGlobal), x86: bool, wanted: &[u8]) -> Result<(), Fail> {
+    let mut list = Vec::new(rt.alloc());
+    for record in &GLOBALS {
+        put_record(rt, &mut list, record)?;
+    }
+    let table = SymbolTable::new(Stream::new(&list).expect(rt, "a short stream"));
+    let words = [Operand {
+        place: 2,
+        word: "*",
+    }];
+    let ids = ItemFinder::empty(rt.alloc());
+    let types = ItemFinder::empty(rt.alloc());
+    let finder = Finder::new(Form::Text, &words, ids, types, PlaceAddresses::new(None));
+    let mut out = Vec::new(rt.alloc());
+    put_found_globals(rt.alloc(), &mut out, &finder, x86, &table)?;
+    is(rt, "global lines", &out.as_slice(), &wanted);
+    Ok(())
+}
+
+#[test]
+fn global_symbols_at_offsets(rt: HostRuntime) -> Result<(), Fail> {
+    let wanted: &[u8] = b"public 5566:11223344 - - pab\n\
+        thread 0004:00000020 - - ta b\n\
+        public 0001:00000050 - - _ab\n";
+    global_lines(&rt, false, wanted)?;
+    let wanted: &[u8] = b"public 5566:11223344 - - pab\n\
+        thread 0004:00000020 - - ta b\n\
+        public 0001:00000050 - - ab (_ab)\n";
+    global_lines(&rt, true, wanted)
 }
 
 #[test]

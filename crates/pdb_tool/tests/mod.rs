@@ -20,5 +20,6 @@ mod records;
 mod records_code;
 mod streams;
 mod types;
+mod variables;
 mod wanted;
 mod work;

@@ -4,12 +4,12 @@ use super::parts::{both, small};
 use crate::asked::Asked;
 use crate::file_texts::FileText;
 use crate::frame_objects::{put_asked_line, put_unasked_line};
-use crate::options::{Form, Options};
+use crate::options::{Detail, Form, Options};
 use crate::question::{Answer, Question};
 use crate::resolve::resolve_lines;
 use crate::tests::fakes::{Narrow, is};
 use pdb::{MemorySource, PdbInternalSectionOffset, QualifiedName, RawString};
-use pdb_resolve::Frame;
+use pdb_resolve::{Frame, FunctionName};
 use std::alloc::AllocError;
 use std::test::Fail;
 
@@ -23,10 +23,12 @@ fn objects_of_addresses(rt: HostRuntime) -> Result<(), Fail> {
     let asked = [
         Question {
             answer: Answer::Object(b"1:5\xff\xc3\xa9"),
+            detail: Detail::Plain,
             asked: Asked::Place(place),
         },
         Question {
             answer: Answer::Object(b"\"17\t\\"),
+            detail: Detail::Plain,
             asked: Asked::Nowhere,
         },
     ];
@@ -42,19 +44,21 @@ fn objects_of_frames(rt: HostRuntime) -> Result<(), AllocError> {
     let alloc = rt.alloc();
     let frames = [
         Frame {
-            name: Some(QualifiedName {
+            name: Some(FunctionName::Read(QualifiedName {
                 scope: Some(RawString::from("n")),
                 name: RawString::from(""),
-            }),
+            })),
+            displacement: None,
             file: Some(RawString::from("a\\b\n.c")),
             line: 4_294_967_295,
             column: 7,
         },
         Frame {
-            name: Some(QualifiedName {
+            name: Some(FunctionName::Read(QualifiedName {
                 scope: None,
                 name: RawString::from(""),
-            }),
+            })),
+            displacement: Some(4),
             file: Some(RawString::from("")),
             line: 1,
             column: 0,

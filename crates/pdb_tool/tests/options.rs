@@ -2,7 +2,7 @@
 
 use crate::asked::Asked;
 use crate::operands::{Operand, all_numbers, all_questions, operands_in};
-use crate::options::{Form, Options, Wanted};
+use crate::options::{Detail, Form, Options, Wanted};
 use crate::question::Answer;
 use crate::tests::fakes::is;
 use crate::words::{Request, Topic, WordsError, request_in};
@@ -31,9 +31,19 @@ fn run(topic: Topic, base: Option<u64>, addresses: bool, all: bool) -> Result<Re
         wanted: None,
         addresses,
         all,
-        form: Form::Text,
+        ..Options::default()
     };
     Ok(Request::Run(topic, options))
+}
+
+/// `resolve` with displacements.
+fn run_offsets(base: Option<u64>) -> Result<Request, WordsError> {
+    let options = Options {
+        base,
+        detail: Detail::Offsets,
+        ..Options::default()
+    };
+    Ok(Request::Run(Topic::Resolve, options))
 }
 
 /// A command whose output is JSON.
@@ -116,6 +126,9 @@ fn options_stand_before_and_behind_the_file(rt: HostRuntime) {
             "resolve --addresses --base 7 a",
             run(resolve, Some(7), true, false),
         ),
+        ("resolve a --offsets", run_offsets(None)),
+        ("resolve --offsets --base 7 a 1", run_offsets(Some(7))),
+        ("symbols a --offsets", Err(WordsError::BadWord(2))),
         ("symbols a --all", run(Topic::Symbols, None, false, true)),
         ("symbols --all a", run(Topic::Symbols, None, false, true)),
         ("key a b", run(Topic::Key, None, false, false)),

@@ -4,6 +4,7 @@ use super::files::{debug_stream, file_of, module_record};
 use crate::asked::Asked;
 use crate::file_texts::{FileText, write_text};
 use crate::in_parts::write_in_parts;
+use crate::options::Detail;
 use crate::question::{Answer, Question};
 use crate::stop::Stop;
 use crate::tests::fakes::{Narrow, is};
@@ -60,6 +61,7 @@ fn texts_of_a_file(rt: HostRuntime) -> Result<(), Fail> {
     let asked = [
         Question {
             answer: Answer::Frames,
+            detail: Detail::Plain,
             asked: Asked::Place(PdbInternalSectionOffset {
                 section: 1,
                 offset: 0x5f,
@@ -67,6 +69,7 @@ fn texts_of_a_file(rt: HostRuntime) -> Result<(), Fail> {
         },
         Question {
             answer: Answer::Headed(b"17"),
+            detail: Detail::Variables,
             asked: Asked::Nowhere,
         },
     ];

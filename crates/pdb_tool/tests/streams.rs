@@ -51,7 +51,7 @@ pub fn module_of<'s>(
 }
 
 /// The record behind its length.
-fn put_record(rt: &impl Abort, list: &mut Vec<u8>, record: &[u8]) -> Result<(), AllocError> {
+pub fn put_record(rt: &impl Abort, list: &mut Vec<u8>, record: &[u8]) -> Result<(), AllocError> {
     let len = u16::try_from(record.len()).expect(rt, "a short record");
     list.extend_from_slice(&len.to_le_bytes())?;
     list.extend_from_slice(record)

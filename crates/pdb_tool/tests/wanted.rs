@@ -4,7 +4,7 @@ use super::files::{debug_stream, file_of};
 use crate::asked::Asked;
 use crate::file_texts::FileText;
 use crate::key_line::{key_line, line_in_parts};
-use crate::options::{Form, Options};
+use crate::options::{Detail, Form, Options};
 use crate::question::{Answer, Question};
 use crate::stop::Stop;
 use crate::tests::fakes::{Narrow, is};
@@ -222,6 +222,7 @@ fn nothing_is_told_of_another_file(rt: HostRuntime) -> Result<(), Fail> {
     let alloc = rt.alloc();
     let asked = [Question {
         answer: Answer::Frames,
+        detail: Detail::Plain,
         asked: Asked::Nowhere,
     }];
     let text = FileText::Code(&asked);

@@ -21,11 +21,11 @@ passed_over (Ok (SeparatedCode s)) none = let e = none (SeparatedCode s) refl tt
 passed_over (Ok (InlineSite s)) none = let e = none (InlineSite s) refl tt in absurd cc
 passed_over (Ok d) none = refl
 
-pub returns-then-is_of_variables : goal.returns-then-is_of_variables
-returns-then-is_of_variables c = λ no.
+pub returns-then-is_of_variables-clause-role : goal.returns-then-is_of_variables-clause-role
+returns-then-is_of_variables-clause-role c = λ no.
     let b = (symbol_of c.args.symbol.now).bytes in
     let none : starts_of (kind_at b) ≡ false = ap starts_of (sym c.raw_kind.ensures) ∙ c.is_of_variables.ensures c.if-is_of_variables.true in
     sym (passed_over (record_at b) (λ d e h. sym (record_starts b d e h) ∙ none))
 
-pub returns : goal.returns
-returns c = λ no. sym (passed_over (record_at (symbol_of c.args.symbol.now).bytes) (λ d e h. sym (c.starts_scope.ensures.says d e h) ∙ no))
+pub returns-clause-role : goal.returns-clause-role
+returns-clause-role c = λ no. sym (passed_over (record_at (symbol_of c.args.symbol.now).bytes) (λ d e h. sym (c.starts_scope.ensures.says d e h) ∙ no))

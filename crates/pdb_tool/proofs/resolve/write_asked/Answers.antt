@@ -1,5 +1,6 @@
 use Rattle.pdb_text.proofs.Written.{texts_front, texts_more}
 use Rattle.pdb_tool.specs.declared.asked.Asked.TheVariants.{Address}
+use Rattle.pdb_tool.specs.declared.options.Detail.TheVariants.{Plain}
 use Rattle.pdb_tool.specs.declared.question.Answer.TheVariants.{Frames}
 use Rattle.pdb_tool.specs.declared.question.Question.{Question}
 use Rattle.pdb_tool.specs.Questions.{asks_text}
@@ -8,7 +9,7 @@ use Rattle.pdb_tool.proofs.resolve.write_asked.Goals as goal
 
 -- what stands for a question where none is
 abbrev none_asked : Question
-none_asked = record { answer = Frames; asked = Address 0 }
+none_asked = record { answer = Frames; detail = Plain; asked = Address 0 }
 
 pub returns-in_err-write_out-clause-write : goal.returns-in_err-write_out-clause-write
 returns-in_err-write_out-clause-write g c = λ told.

@@ -1,6 +1,7 @@
 use Rattle.std.proofs.Common.{◌≡◌, None, Some, sym, ap, ◌∙◌}
 use Rattle.std.specs.Prelude.{option_copied}
-use Rattle.pdb_resolve.proofs.Kepts.{none_numbered, one_numbered, none_copied, numbered_then}
+use Rattle.pdb_resolve.proofs.Kepts.{none_numbered, one_numbered, none_copied, numbered_then, stays_then}
+use Rattle.pdb_resolve.specs.KeptParts.{codes_of}
 use Rattle.pdb_resolve.proofs.modules.Modules.read.Goals as goal
 
 pub returns-in_default-module_at-clause-read : goal.returns-in_default-module_at-clause-read
@@ -28,3 +29,10 @@ returns-in-Some-2-clause-once g c = λ m e.
     let none = sym c.stream.ensures ∙ ap option_copied c.in_default.is in
     let both : None ≡ Some m = sym none ∙ e in
     absurd cc
+
+pub returns-in-Some-clause-stays : goal.returns-in-Some-clause-stays
+returns-in-Some-clause-stays g c =
+    stays_then (codes_of c.args.self.now) (codes_of c.keep.new.self) c.args.number _ c.keep.result c.keep.ensures.kept c.keep.ensures.refused (sym c.code.ensures ∙ none_copied c.code.result c.if-is_some.ensures)
+
+pub returns-in-Some-2-clause-stays : goal.returns-in-Some-2-clause-stays
+returns-in-Some-2-clause-stays g c = c.put_and_keep.ensures.stays (sym c.code.ensures ∙ none_copied c.code.result c.if-is_some.ensures)
