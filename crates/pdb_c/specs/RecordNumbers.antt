@@ -1,6 +1,6 @@
 -- Further records in numbers. What a record doesn't have is 0 or empty.
 use Rattle.std.specs.Prelude.{◌≡◌, ℕ, ◌+◌, pos, nat_le, nat_lt, List, [], length, Option, Some, None, is_some, Result, Ok, Err, if◌then◌else◌}
-use Rattle.std.specs.Option.{unwrap_or, option_map}
+use Rattle.std.specs.Option.{unwrap_or}
 use Rattle.pdb.specs.Error.{Error}
 use Rattle.pdb.specs.Error.TheVariants.{SymbolTooShort}
 use Rattle.pdb.specs.Fields.{number}

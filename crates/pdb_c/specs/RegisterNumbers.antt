@@ -1,8 +1,7 @@
 -- Registers by the number of a machine in the PE format.
-use Rattle.std.specs.Prelude.{ℕ, nat_lt, List, [], Option, Some, None, if◌then◌else◌}
-use Rattle.std.specs.Option.{option_and_then, unwrap_or}
+use Rattle.std.specs.Prelude.{ℕ, List, Option, Some, None}
 use Rattle.pdb_base.specs.declared.index.Register.{Register}
-use Rattle.pdb_records.specs.Machines.{frame_register_of, machine_of_image, register_name_of}
+use Rattle.pdb_records.specs.Machines.{frame_register_of, register_name_of}
 use Rattle.pdb_records.specs.declared.machine.Machine.{Machine}
 
 abbrev pub name_on : Option Machine → ℕ → Option (List ℕ)

@@ -1,8 +1,7 @@
 -- Where a variable is, in numbers.
-use Rattle.std.specs.Prelude.{ℕ, ℤ, pos, Option, Some, None}
-use Rattle.pdb.specs.PdbInternalSectionOffset.{PdbInternalSectionOffset}
+use Rattle.std.specs.Prelude.{ℕ, ℤ, pos}
 use Rattle.pdb_resolve.specs.VariableRecords.{Place}
-use Rattle.pdb_resolve.specs.VariableRecords.Place.{Nowhere, Whole, Parts, At, Value}
+use Rattle.pdb_resolve.specs.VariableRecords.Place.{Whole, At, Value}
 use Rattle.pdb_resolve.specs.declared.locations.Storage.{Storage}
 use Rattle.pdb_resolve.specs.declared.locations.Storage.TheVariants.{Register, RegisterRelative, BasePointerRelative, FrameRelative, Program}
 use Rattle.pdb_types.specs.TypeRows.{value_of}

@@ -3,7 +3,7 @@ use Rattle.std.specs.Prelude.{◌≡◌, ℕ, ◌+◌, List, [], ◌∷◌, ◌+
 use Rattle.std.specs.Option.{unwrap_or}
 use Rattle.pdb_resolve.specs.Resolved.{variables_of_file}
 use Rattle.pdb_resolve.specs.VariableRecords.{Place}
-use Rattle.pdb_resolve.specs.VariableRecords.Place.{Nowhere, Whole, Parts, At, Value}
+use Rattle.pdb_resolve.specs.VariableRecords.Place.{Parts}
 use Rattle.pdb_resolve.specs.Variables.{Variable}
 use Rattle.pdb_resolve.specs.declared.locations.VariablePart.{VariablePart}
 use Rattle.pdb_resolve.specs.declared.variable_records.VariableKind.{VariableKind}
