@@ -16,7 +16,7 @@
  *         uint8_t, in bytes. Where a capacity is too small the call writes what fits, returns PDB_ROOM, and sets how much
  *         there is: call with capacity 0 to get the size first. A list with an error behind its items returns that error,
  *         whether or not the items fit: compare *count with the capacity.
- * Borrow  pdb_module, pdb_symbol, pdb_file, pdb_import, pdb_member, pdb_image_t and a name of pdb_name point into the bytes that were
+ * Borrow  pdb_module, pdb_symbol, pdb_file, pdb_import, pdb_member, pdb_record_t, pdb_image_t and a name of pdb_name point into the bytes that were
  *         passed in that call. They are valid as long as these stay where they are, unchanged. No zero byte ends a name: use sizes.
  * Memory  Calls that may take memory say so. All of it is freed before they return. Where malloc fails, they return
  *         PDB_OUT_OF_MEMORY; nothing aborts, and the same call may be made again. What a buffer then holds is unspecified,
@@ -441,6 +441,98 @@ typedef struct pdb_frame {
  * first one; the frames that fit are whole. */
 pdb_code pdb_frames(const uint8_t *file, size_t file_size, const pdb_address *addresses, size_t addresses_count,
                     pdb_frame *frames, size_t room, size_t *count, uint8_t *names, size_t names_room, size_t *size);
+
+/* ---- Variables of addresses. */
+
+typedef struct pdb_variable {
+    uint64_t value, value_high; /* of a constant: bits 0 to 63 and 64 to 127 of its value, in two's complement */
+    size_t address;             /* which address it is of, from 0 */
+    size_t call;                /* where is_inlined is 1: which inlined call it belongs to, from the outermost one, 0 */
+    size_t name_at, name_size;  /* its name in names */
+    size_t parts;               /* 0, or how many rows it has, one behind the other: one for each of its parts */
+    uint32_t type_index;
+    uint32_t kind;              /* PDB_VARIABLE_PARAMETER, .. */
+    uint32_t location;          /* PDB_STORED_NOWHERE, ..: where it is while the code at the address runs */
+    uint32_t number;            /* of a register, of a frame's register or of a program */
+    int32_t displacement;       /* bytes behind the value of the register, the base pointer or the frame's register */
+    uint32_t offset, section;   /* of PDB_STORED_IN_SECTION */
+    uint32_t part;              /* the offset of the part in the variable, in bytes */
+    uint32_t is_part;           /* 1 or 0: whether this row is of a part of the variable */
+    uint32_t is_inlined;        /* 1 or 0: whether it belongs to an inlined call, or to the function itself */
+} pdb_variable;
+
+enum {
+    PDB_VARIABLE_PARAMETER = 1, PDB_VARIABLE_LOCAL, PDB_VARIABLE_STATIC, PDB_VARIABLE_THREAD, PDB_VARIABLE_CONSTANT
+};
+
+enum {
+    PDB_STORED_NOWHERE = 0,
+    PDB_STORED_IN_REGISTER,     /* number is the register's: pdb_register_name */
+    PDB_STORED_BY_REGISTER,     /* in memory, at the value of a register and the displacement */
+    PDB_STORED_BY_BASE_POINTER, /* the same of ebp, on x86-64 of rbp */
+    PDB_STORED_BY_FRAME,        /* the same of a frame's register: pdb_frame_register has it by number */
+    PDB_STORED_BY_PROGRAM,      /* a program computes it, of which the file has no more than the number */
+    PDB_STORED_IN_SECTION,      /* in memory, at an offset in a section; of PDB_VARIABLE_THREAD in a thread's storage */
+    PDB_STORED_AS_VALUE         /* it is a constant */
+};
+
+/* The variables in scope at addresses: of each address a row for each variable, in the order of their records, or one for
+ * each of its parts. *count is how many rows there are, and *size how many bytes the names have. Of the
+ * frames that pdb_frames gives for an address, the last one is the function's; before it stands that of call 0, before that one
+ * that of call 1, and so on. The buffers, the errors and the memory are those of pdb_frames. */
+pdb_code pdb_variables(const uint8_t *file, size_t file_size, const pdb_address *addresses, size_t addresses_count,
+                       pdb_variable *variables, size_t room, size_t *count, uint8_t *names, size_t names_room, size_t *size);
+
+/* The name of a register, as "rcx", by the machine of pdb_debug_information and the number in a record; empty where there is
+ * none. It is valid as long as the library is loaded. Takes no memory, and doesn't fail. */
+void pdb_register_name(uint16_t machine, uint16_t number, pdb_bytes *out);
+
+/* The number of the register that a frame's register is, 1 to 3; 0 where it is none. Takes no memory, and doesn't fail. */
+uint32_t pdb_frame_register(uint16_t machine, uint8_t number);
+
+/* ---- Further records: of the kinds that pdb_symbols refuses with PDB_UNIMPLEMENTED_SYMBOL_KIND. */
+
+/* What a record doesn't have is 0 or empty. */
+typedef struct pdb_record_t {
+    pdb_bytes name;           /* borrows record */
+    uint32_t form;            /* the record layout: 1 to 40, in the order below */
+    uint32_t type_index;
+    uint32_t flags;           /* as the record has them: of a variable CV_LVARFLAGS of cvinfo.h, of PDB_FRAME_PROCEDURE with the
+                               * frame's registers, and of PDB_COFF_GROUP and PDB_SECTION the characteristics */
+    uint32_t location;        /* of a variable, a range or a cookie: PDB_STORED_IN_REGISTER, .. */
+    uint32_t number;          /* of a register or of a program; of PDB_STORED_BY_FRAME 0: PDB_FRAME_PROCEDURE has the register */
+    int32_t displacement;
+    uint32_t offset, section; /* its place in the image: of a range its start, of PDB_FRAME_PROCEDURE the exception handler */
+    uint32_t size;            /* bytes: of a range, of code, of a frame, of an instruction, of a section */
+    uint32_t part;            /* the offset of the part in the variable, in bytes */
+    uint32_t has_place;       /* 1 or 0 */
+    uint32_t is_part;         /* 1 or 0 */
+} pdb_record_t;
+
+enum {
+    PDB_FRAME_PROCEDURE = 1, PDB_BASE_POINTER_RELATIVE, PDB_DEF_RANGE, PDB_DEF_RANGE_SUBFIELD, PDB_DEF_RANGE_REGISTER,
+    PDB_DEF_RANGE_FRAME_POINTER_RELATIVE, PDB_DEF_RANGE_SUBFIELD_REGISTER, PDB_DEF_RANGE_FRAME_POINTER_RELATIVE_FULL_SCOPE,
+    PDB_DEF_RANGE_REGISTER_RELATIVE, PDB_FILE_STATIC, PDB_FRAME_COOKIE, PDB_CALL_SITE_INFO, PDB_HEAP_ALLOCATION_SITE,
+    PDB_FUNCTION_LIST, PDB_JUMP_TABLE, PDB_COFF_GROUP, PDB_SECTION, PDB_ENVIRONMENT_BLOCK, PDB_ANNOTATION, PDB_POGO_DATA,
+    PDB_HOT_PATCH_FUNCTION, PDB_MANAGED_PROCEDURE, PDB_TOKEN_REFERENCE, PDB_OEM, PDB_LOCAL_GROUP_SHARED,
+    PDB_POINTER_TAG_MAP, PDB_REGISTER_RELATIVE_OLD, PDB_WITH, PDB_VIRTUAL_TABLE_PATH, PDB_MODULE_TYPE_REFERENCE,
+    PDB_MINI_REFERENCE, PDB_DISCARDED, PDB_COMPILE, PDB_START_SEARCH, PDB_END_OF_ARGUMENTS, PDB_SLOT, PDB_MANAGED_SLOT,
+    PDB_MANAGED_FRAME_RELATIVE, PDB_MANAGED_REGISTER, PDB_MANAGED_REGISTER_RELATIVE
+};
+
+/* What a record says, by record of pdb_symbol. PDB_SYMBOL_TOO_SHORT where it is shorter than a kind,
+ * PDB_UNIMPLEMENTED_SYMBOL_KIND where its kind is read by pdb_symbols or by nothing here, PDB_UNEXPECTED_EOF where a field isn't
+ * present; then *out is unchanged. Takes no memory. */
+pdb_code pdb_record(const uint8_t *record, size_t record_size, pdb_record_t *out);
+
+typedef struct pdb_gap {
+    uint32_t start; /* counted in bytes from the start of the range */
+    uint32_t size;  /* bytes */
+} pdb_gap;
+
+/* The gaps of a range, in which it doesn't hold; other records have none. *count is how many there are. The errors are those of
+ * pdb_record. Takes no memory. */
+pdb_code pdb_gaps(const uint8_t *record, size_t record_size, pdb_gap *gaps, size_t room, size_t *count);
 
 /* ---- Images: an EXE or a DLL in the PE format. */
 

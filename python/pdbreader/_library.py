@@ -103,6 +103,29 @@ class Frame(c.Structure):
     ]
 
 
+class Variable(c.Structure):
+    _fields_ = [
+        *_all(u64, "value", "value_high"),
+        *_all(size_t, "address", "call", "name_at", "name_size", "parts"),
+        *_all(u32, "type_index", "kind", "location", "number"),
+        ("displacement", c.c_int32),
+        *_all(u32, "offset", "section", "part", "is_part", "is_inlined"),
+    ]
+
+
+class Record(c.Structure):
+    _fields_ = [
+        ("name", Bytes),
+        *_all(u32, "form", "type_index", "flags", "location", "number"),
+        ("displacement", c.c_int32),
+        *_all(u32, "offset", "section", "size", "part", "has_place", "is_part"),
+    ]
+
+
+class Gap(c.Structure):
+    _fields_ = _all(u32, "start", "size")
+
+
 class TypeName(c.Structure):
     _fields_ = _all(size_t, "at", "size")
 
@@ -183,6 +206,11 @@ _CALLS: Any = {
     "pdb_type_size": [*_DATA, *_INDICES, c.POINTER(TypeSize), size_t],
     "pdb_members": [*_DATA, *_INDICES, *_rows(Member)],
     "pdb_frames": [*_DATA, c.POINTER(Address), size_t, *_rows(Frame), c.c_char_p, size_t, _SIZE],
+    "pdb_variables": [*_DATA, c.POINTER(Address), size_t, *_rows(Variable), c.c_char_p, size_t, _SIZE],
+    "pdb_register_name": [u16, u16, c.POINTER(Bytes)],
+    "pdb_frame_register": [u16, u8],
+    "pdb_record": [*_DATA, c.POINTER(Record)],
+    "pdb_gaps": [*_DATA, *_rows(Gap)],
     "pdb_image": [*_DATA, c.POINTER(Image)],
 }
 
@@ -190,5 +218,6 @@ for _name, _types in _CALLS.items():
     _call = getattr(LIBRARY, _name)
     _call.argtypes, _call.restype = _types, u32
 
-# The one call that returns nothing.
-LIBRARY.pdb_message.restype = None
+# The calls that return nothing.
+for _name in ("pdb_message", "pdb_register_name"):
+    getattr(LIBRARY, _name).restype = None

@@ -5,7 +5,7 @@ import os
 from functools import cached_property
 from typing import Iterable, Iterator, List, Tuple, Union
 
-from . import functions
+from . import functions, storage
 from .errors import GlobalSymbolsNotFound, PdbError
 from .records import (
     Address,
@@ -25,6 +25,7 @@ from .records import (
     Symbol,
     TypeSize,
 )
+from .storage import Variable
 
 _TYPES_STREAM = 2
 _DBI_STREAM = 3
@@ -169,3 +170,7 @@ class PdbFile:
     def frames(self, addresses: Iterable[Address]) -> List[List[Frame]]:
         """The functions and lines at each address, from the innermost inlined function outwards."""
         return functions.frames(self.data, addresses)
+
+    def variables(self, addresses: Iterable[Address]) -> List[List[Variable]]:
+        """The variables in scope at each address, and where each is while the code there runs."""
+        return storage.variables(self.data, addresses)

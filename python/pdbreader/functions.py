@@ -325,20 +325,24 @@ def name(names: bytes, offset: int) -> bytes:
     return out.copy()
 
 
+def _addresses(addresses: Iterable[Address]) -> Any:
+    wanted = [raw.Address(_fits(32, it.offset), _fits(16, it.section or 0), int(it.section is not None)) for it in addresses]
+    return (raw.Address * len(wanted))(*wanted)
+
+
 def frames(file: bytes, addresses: Iterable[Address]) -> List[List[Frame]]:
     """The frames of each address, from the innermost inlined function to the function itself. The file is opened once."""
-    wanted = [raw.Address(_fits(32, it.offset), _fits(16, it.section or 0), int(it.section is not None)) for it in addresses]
-    asked = (raw.Address * len(wanted))(*wanted)
+    asked = _addresses(addresses)
     count, size, names = raw.size_t(), raw.size_t(), c.create_string_buffer(1)
-    code = raw.LIBRARY.pdb_frames(file, len(file), asked, len(wanted), (raw.Frame * 0)(), 0, count, names, 0, size)
+    code = raw.LIBRARY.pdb_frames(file, len(file), asked, len(asked), (raw.Frame * 0)(), 0, count, names, 0, size)
     rows = (raw.Frame * count.value)()
     if code == _ROOM:
         names = c.create_string_buffer(max(1, size.value))
         code = raw.LIBRARY.pdb_frames(
-            file, len(file), asked, len(wanted), rows, len(rows), count, names, size.value, size
+            file, len(file), asked, len(asked), rows, len(rows), count, names, size.value, size
         )
     _check_file(code, file)
-    found: List[List[Frame]] = [[] for _ in wanted]
+    found: List[List[Frame]] = [[] for _ in asked]
     data = names.raw
     for it in rows:
         function = data[it.name_at : it.name_at + it.name_size] if it.has_name else None

@@ -61,3 +61,5 @@ def tried(note, run, files, lister, tool):
             note("a number that doesn't fit", True)
     frames = it.frames([pdbreader.Address(0x1010), pdbreader.Address(0, 9)])
     note("frames", len(frames) == 2 and frames[1] == [pdbreader.Frame(None, None, 0, 0)], frames)
+    variables = it.variables([pdbreader.Address(0x10, 1), pdbreader.Address(0, 9)])
+    note("variables", len(variables) == 2 and variables[1] == [], variables)

@@ -414,6 +414,28 @@ static uint64_t frames(size_t n, size_t room, size_t names_room) {
     return sum;
 }
 
+/* The same of variables, whose rows are written whole. */
+static void variables(size_t n, size_t room, size_t names_room) {
+    pdb_address *asked = filled(n * sizeof *asked);
+    for (size_t k = 0; k < n; k++) asked[k] = (pdb_address){(uint32_t)(0x1000 + 7 * k), 0, PDB_ADDRESS};
+    size_t needed, needed_names, count, size;
+    pdb_variables(file, file_size, asked, n, filled(1), 0, &needed, filled(1), 0, &needed_names);
+    pdb_variable *all = filled((needed + 1) * sizeof *all), *rows = filled((room + 1) * sizeof *rows);
+    uint8_t *all_names = filled(needed_names + 1), *names = filled(names_room + 1);
+    want(pdb_variables(file, file_size, asked, n, all, needed, &count, all_names, needed_names, &size) == 0, "all variables", n);
+    pdb_code code = pdb_variables(file, file_size, asked, n, rows, room, &count, names, names_room, &size);
+    want(count == needed && size == needed_names, "counts of variables", room);
+    want(code == (room < count || names_room < size ? PDB_ROOM : PDB_DONE), "variables", room);
+    want(!memcmp(rows, all, (room < count ? room : count) * sizeof *rows), "rows of variables", room);
+    want(!memcmp(names, all_names, names_room < size ? names_room : size), "names of variables", room);
+    want(names[names_room] == 0xff && ((uint8_t *)(rows + room))[0] == 0xff, "behind variables", room);
+    free(all);
+    free(rows);
+    free(all_names);
+    free(names);
+    free(asked);
+}
+
 static void *ask(void *wanted) {
     for (int k = 0; k < 4; k++)
         if (frames(60, 4000, 400000) != *(uint64_t *)wanted) failed++;
@@ -446,6 +468,7 @@ int main(int count, char **words) {
     files_in_error();
     guids();
     for (size_t room = 0; room < 24; room++) frames(8, room, 5 * room);
+    for (size_t room = 0; room < 40; room++) variables(8, room, 3 * room);
     uint64_t sum = frames(60, 4000, 400000);
     pthread_t threads[8];
     for (int k = 0; k < 8; k++) pthread_create(&threads[k], 0, ask, &sum);

@@ -15,7 +15,7 @@ BUILT = ("pdb.wasm", "pdb-types.wasm", "index.html", "pdb.mjs", "errors.mjs", "m
 MODULES = 3
 LIMITS = 60
 TYPES = 300
-OF_TYPES = {"pdb_type_name", "pdb_type_size", "pdb_members"}
+OF_TYPES = {"pdb_type_name", "pdb_type_size", "pdb_members", "pdb_variables", "pdb_register_name", "pdb_frame_register", "pdb_record", "pdb_gaps"}
 MOST_BYTES = {"index.html": 500_000, "pdb.wasm": 80_000}
 
 

@@ -11,3 +11,4 @@ pub mod FileSteps
 pub mod SymbolSteps
 pub mod FrameSteps
 pub mod FewFrames
+pub mod VariableSteps

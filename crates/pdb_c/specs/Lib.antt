@@ -19,3 +19,7 @@ pub mod Messages
 pub mod Opened
 pub mod TypeRows
 pub mod MemberRows
+pub mod StorageNumbers
+pub mod VariableRows
+pub mod RecordNumbers
+pub mod RegisterNumbers

@@ -56,7 +56,7 @@ pub struct PdbFrame {
 
 /// Puts bytes behind those that are there.
 #[tactic(auto, using(crate::proofs::Putting::put_length))]
-fn add(names: &mut [u8], size: &mut usize, bytes: &[u8]) -> Result<()>
+pub fn add(names: &mut [u8], size: &mut usize, bytes: &[u8]) -> Result<()>
     ensures names { OnOk result (names.new ≡ put size.old bytes.now names.old) }
     ensures size { OnOk result (size.new ≡ size.old + length bytes.now) }
     ensures refused { IfErr result (λ e. e ≡ Error.OutOfMemory) }
@@ -148,7 +148,8 @@ fn put_frame(
     Ok(())
 }
 
-fn told_of(there: bool) -> u32
+/// 1 where something is there.
+pub fn told_of(there: bool) -> u32
     ensures { result ≡ told_of there }
 {
     if there { 1 } else { 0 }
@@ -176,7 +177,7 @@ fn put_frames(
 }
 
 /// The place that is asked for.
-fn place_asked<'s>(
+pub fn place_asked<'s>(
     resolver: &Resolver<'_, 's, MemorySource<'s>>,
     asked: &PdbAddress,
 ) -> Option<PdbInternalSectionOffset>

@@ -4,6 +4,7 @@ use crate::contributions::PdbContribution;
 use crate::exports::PdbExport;
 use crate::files::PdbFile;
 use crate::frames::{PdbAddress, PdbFrame};
+use crate::gaps::PdbGap;
 use crate::image::PdbImage;
 use crate::imports::PdbImport;
 use crate::information::{PdbDebugInformation, PdbInformation};
@@ -12,12 +13,14 @@ use crate::lines::PdbLine;
 use crate::members::PdbMember;
 use crate::modules::PdbModule;
 use crate::names::PdbName;
+use crate::further_records::PdbRecord;
 use crate::sections::PdbSection;
 use crate::stream_names::PdbStreamName;
 use crate::streams::PdbStream;
 use crate::symbols::PdbSymbol;
 use crate::type_names::PdbTypeName;
 use crate::type_sizes::PdbTypeSize;
+use crate::variables::PdbVariable;
 
 const _: () = prove!(size_of::<PdbInformation>() == 44);
 
@@ -58,3 +61,9 @@ const _: () = prove!(size_of::<PdbTypeName>() == 16);
 const _: () = prove!(size_of::<PdbTypeSize>() == 16);
 
 const _: () = prove!(size_of::<PdbMember<'_>>() == 64);
+
+const _: () = prove!(size_of::<PdbVariable>() == 96);
+
+const _: () = prove!(size_of::<PdbRecord<'_>>() == 64);
+
+const _: () = prove!(size_of::<PdbGap>() == 8);

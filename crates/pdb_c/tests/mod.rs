@@ -3,6 +3,7 @@
 mod files;
 mod images;
 mod messages;
+mod records;
 mod types;
 
 use std::fmt::Debug;
