@@ -109,7 +109,9 @@ static void all(const struct found *frames, const struct found *variables, size_
 /* The variables of addresses: how much room they need is asked first. */
 static pdb_code variables_of(const uint8_t *file, size_t size, const pdb_address *addresses, size_t n, struct found *found) {
     size_t bytes;
-    pdb_code code = pdb_variables(file, size, addresses, n, room(0), 0, &found->count, room(0), 0, &bytes);
+    pdb_variable row;
+    uint8_t byte;
+    pdb_code code = pdb_variables(file, size, addresses, n, &row, 0, &found->count, &byte, 0, &bytes);
     if (code && code != PDB_ROOM) return code;
     found->rows = room(found->count * sizeof(pdb_variable));
     found->names = room(bytes);
@@ -129,9 +131,11 @@ int main(int words_count, char **words) {
     uint8_t *file = read_file("variables", words[1], &size);
     if (!file) return 3;
     pdb_debug_information_t information;
-    if (!pdb_debug_information(file, size, &information)) machine = (uint16_t)information.machine;
+    pdb_code code = pdb_debug_information(file, size, &information);
+    if (code == PDB_OUT_OF_MEMORY) return status_of(code);
+    if (!code) machine = (uint16_t)information.machine;
     struct found frames, variables;
-    pdb_code code = frames_of(file, size, addresses, n, &frames);
+    code = frames_of(file, size, addresses, n, &frames);
     if (!code) code = variables_of(file, size, addresses, n, &variables);
     if (code) return status_of(code);
     begin_text();

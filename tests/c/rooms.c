@@ -419,7 +419,9 @@ static void variables(size_t n, size_t room, size_t names_room) {
     pdb_address *asked = filled(n * sizeof *asked);
     for (size_t k = 0; k < n; k++) asked[k] = (pdb_address){(uint32_t)(0x1000 + 7 * k), 0, PDB_ADDRESS};
     size_t needed, needed_names, count, size;
-    pdb_variables(file, file_size, asked, n, filled(1), 0, &needed, filled(1), 0, &needed_names);
+    pdb_variable none;
+    uint8_t nothing;
+    pdb_variables(file, file_size, asked, n, &none, 0, &needed, &nothing, 0, &needed_names);
     pdb_variable *all = filled((needed + 1) * sizeof *all), *rows = filled((room + 1) * sizeof *rows);
     uint8_t *all_names = filled(needed_names + 1), *names = filled(names_room + 1);
     want(pdb_variables(file, file_size, asked, n, all, needed, &count, all_names, needed_names, &size) == 0, "all variables", n);
