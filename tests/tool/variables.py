@@ -20,12 +20,13 @@ MANY = {
 SUMS = "variables.sums"
 
 
-def framed(frames, found):
-    """The lines of frames, each with those of its variables behind it. The last frame is the function's own."""
-    pairs = list(zip(frames[0::2], frames[1::2]))
-    text = []
-    for k, pair in enumerate(pairs):
-        owner = len(pairs) - 2 - k if k < len(pairs) - 1 else None
+def framed(frames, calls, found):
+    """The lines of frames, each with those of its variables behind it: from the last of so many calls to the first, and then
+    the function. None where there are more frames, or fewer."""
+    pairs, text = list(zip(frames[0::2], frames[1::2])), []
+    if len(pairs) != calls + 1:
+        return None
+    for pair, owner in zip(pairs, [*reversed(range(calls)), None]):
         text += [*pair, *(b"  " + named(f"{word} {there}", name) for of, word, there, name in found if of == owner)]
     return text
 
@@ -45,7 +46,7 @@ def compare_places(what, path, module, places):
     words = [f"{section:x}:{offset:x}" for section, offset in places]
     frames, given = texts_of("resolve", path, words), texts_of("variables", path, words)
     tell(len(frames) == len(given) == len(places) > 0, f"texts of {what}", (len(frames), len(given), len(places)))
-    wanted = [framed(lines, module.variables_at(place) if module else []) for lines, place in zip(frames, places)]
+    wanted = [framed(lines, *(module.variables_at(place) if module else (0, []))) for lines, place in zip(frames, places)]
     other = next((it for it in zip(words, given, wanted) if it[1] != it[2]), None)
     tell(other is None, f"variables of {what}", other)
     return sum(a != b for a, b in zip(frames, given)), given

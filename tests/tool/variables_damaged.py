@@ -7,11 +7,11 @@ import re
 from struct import unpack_from
 
 from program import FILES, REAL, ran, tell
-from scopes import random_file
+from scopes import SITES, random_file
 from streams import File, u16
 from variables import compare_places
 from variables_made import MADE, file_with
-from variables_read import module_list, module_of, pieces_of_code
+from variables_read import RANGE_AT, module_list, module_of, pieces_of_code
 
 IN_A_MODULE = 300
 RANDOM = 40
@@ -94,23 +94,62 @@ def sizes(it, chance):
     it.put(at, chance.choice((*ENDS, *(size - 4 * chance.randrange(size // 4 + 2) for _ in range(20)), size + 4)), 4, it.entry)
 
 
-def some_lines(it, chance):
-    """The lines, which have the inlined functions."""
-    for _ in range(chance.randint(1, 3)):
-        at = it.symbols + chance.randrange(it.lines)
-        it.put(at, chance.choice((0, 1, 0xFF, chance.randrange(256))), 1)
+def a_cut_record(it, chance):
+    """A record is cut off, and what is left of it is passed over."""
+    at = chance.choice(it.records)
+    size = it.read(at, 2)
+    if size >= 6:
+        left = 2 + 4 * chance.randrange((size - 2) // 4)
+        it.put(at, left, 2)
+        it.put(at + 2 + left, size - left - 2, 2)
+        it.put(at + 4 + left, 7, 2)
 
 
-DAMAGE = (some_bytes, a_number, a_number, a_kind, a_kind, a_length, swapped_records, sizes, some_lines)
+def a_site(it, chance):
+    """The annotations of a site."""
+    sites = [at for at in it.records if it.read(at + 2, 2) in SITES]
+    for _ in range(chance.randint(1, 3) if sites else 0):
+        at = chance.choice(sites)
+        behind = range(at + 16, at + 2 + it.read(at, 2))
+        if behind:
+            it.put(chance.choice(behind), chance.choice((*range(15), 0x80, 0xC0, 0xE0, 0xFF, chance.randrange(256))), 1)
+
+
+def inlined_functions(it, chance):
+    """The functions that are inlined, or the front of a part of the lines."""
+    parts, at = [], 0
+    while at < it.lines:
+        parts.append(at)
+        at += 8 + it.read(it.symbols + at + 4, 4)
+    ids = [at for at in parts if it.read(it.symbols + at, 4) == 0xF6]
+    for _ in range(chance.randint(1, 2)):
+        at, most = (chance.choice(parts), 8) if chance.randrange(3) or not ids else (ids[0] + 8, it.read(it.symbols + ids[0] + 4, 4))
+        it.put(it.symbols + at + chance.randrange(most), chance.choice((0, 1, 4, 0x80, 0xF4, 0xF6, 0xFF, chance.randrange(256))), 1)
+
+
+DAMAGE = (some_bytes, a_number, a_number, a_kind, a_kind, a_length, a_cut_record, a_cut_record, swapped_records, sizes, a_site, a_site, a_site, inlined_functions)
+
+
+def edges(module):
+    """Where something of a module begins or ends, and the bytes before."""
+    ends = [(it.code[0], at) for it in module.nodes if it.code for at in (it.code[1], it.code[1] + it.code[2])]
+    for data in (it for node in module.nodes for it in node.ranges):
+        at = RANGE_AT.get(u16(data, 0))
+        if at and len(data) >= at + 8:
+            offset, section, length = unpack_from("<IHH", data, at)
+            gaps = (unpack_from("<HH", data, k) for k in range(at + 8, len(data) - 3, 4))
+            ends += [(section, offset + by) for by in (0, length, *(by for start, size in gaps for by in (start, start + size)))]
+    for procedure in module.procedures:
+        ends += [(procedure.code[0], by) for site in module.sites for at, size in module.pieces_of(site, procedure) for by in (at, at + size)]
+    return {(section, at - before) for section, at in ends for before in (0, 1)}
 
 
 def places_of(file, module, number, chance):
     """Places of the code of a module, among them where something of it begins or ends."""
-    pieces = [(section, offset, length) for section, offset, length, its in pieces_of_code(file) if its == number and length]
+    pieces = [(section, offset, length) for section, offset, length, its in pieces_of_code(file) if its == number]
     everywhere = [(section, at) for section, offset, length in pieces for at in range(offset, offset + length)]
-    edges = {(section, at + by) for it in module.procedures + module.others for section, at in (it.code[:2], (it.code[0], sum(it.code[1:]))) for by in (-1, 0)}
-    edges = sorted(edges & set(everywhere))
-    return [*chance.sample(edges, min(PLACES // 2, len(edges))), *chance.sample(everywhere, min(PLACES, len(everywhere)))]
+    near = sorted(edges(module) & set(everywhere))
+    return [place for them in (near, everywhere) for place in chance.sample(them, min(PLACES, len(them)))]
 
 
 def damaged_module(what, path, data, number, chance):
@@ -130,8 +169,8 @@ def bases():
     for name in REAL:
         with open(f"{FILES}/{name}.pdb", "rb") as it:
             yield name, it.read()
-    for what, (symbols, _) in MADE.items():
-        yield what, file_with(symbols)
+    for what, (symbols, _, *lines) in MADE.items():
+        yield what, file_with(symbols, *lines)
 
 
 def damaged_modules(room):

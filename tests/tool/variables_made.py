@@ -166,7 +166,8 @@ RANGES_WITHOUT_A_VARIABLE = (
     + block(0x100, 0x40) + local(b"c") + END + in_register(RCX, 0x100, 0x40)
     + local(b"a") + record(0x9999, b"") + in_register(RCX, 0x100, 0x40)
     # Records of ranges that aren't read end nothing, nor do those that are cut off.
-    + local(b"b") + record(0x1150, b"") + record(0x1157, bytes(40)) + record(0x1141, b"\x11\0") + in_register(RCX, 0x100, 0x40) + END,
+    # Neither does what fills a gap, which is no record.
+    + local(b"b") + record(0x1150, b"") + record(0x1157, bytes(40)) + record(0x1141, b"\x11\0") + record(0x0007, bytes(8)) + record(0x0402, b"") + in_register(RCX, 0x100, 0x40) + END,
     rows([b"local rdx r", b"local - c", b"local - a", b"local rcx b"], "1:100", "1:13f"),
 )
 
@@ -177,6 +178,8 @@ TOLD_TWICE = (
     # Variables with ranges of a block count in all of the function, those of a call don't.
     + relative(b"b", 32) + block(0x110, 0x10) + local(b"b") + in_frame(40) + register(b"a", RDX) + register(b"c", RDX) + END
     + site(0x1000, 0x20, 8) + local(b"c") + in_frame(48) + SITE_END + relative(b"c", 56)
+    # A site whose record is cut off is none: so those in it count, and yet it is never entered.
+    + record(0x114D, numbers(0)) + local(b"e") + in_frame(64) + SITE_END + relative(b"e", 72)
     # Data and constants are told, whatever they are called.
     + record(0x110C, numbers(INT, 0x2000) + pack("<H", 3) + b"a\0") + record(0x1107, numbers(INT) + pack("<H", 7) + b"a\0")
     + local(b"a") + END,
@@ -203,6 +206,47 @@ SITES = (
         "1:110": b"two\n??:20:0\n" + text(b"f", b"local ecx a"),
     },
 )
+
+def annotated(number, spelled, name):
+    """A call with these annotations, and a variable of it."""
+    return record(0x114D, numbers(0, 0, number) + bytes.fromhex(spelled)) + register(name, RCX) + SITE_END
+
+
+ANNOTATIONS = (
+    procedure(b"f", 0x100, 0x100)
+    # Of a statement at 110 an expression says no length. Then 4 bytes at 11c, and 2 bytes at 130, a statement again: 5 is no kind.
+    + annotated(0x1000, "0310 0800 0408 0304 0404 0801 0805 0310 0402", b"a")
+    # The base 40, 4 bytes at 140. Then the offset 20 and the base 100, 3 bytes at 128.
+    + annotated(0x1001, "0240 0300 0404 0120 028100 0308 0403 00", b"b")
+    # 8 bytes at 150, up to the next one. Before an unknown annotation the last one is missing.
+    + annotated(0x1002, "0350 0c0408 0e0e0e", b"c")
+    # Likewise before a number that is spelled wrongly, and before one that is cut off.
+    + annotated(0x1000, "0360 0404 0308 0404 e0000000", b"d")
+    + annotated(0x1001, "0370 0404 0308 0404 0705 0780", b"e")
+    # A number of two bytes, and one of four, which is the end of the list.
+    + annotated(0x1002, "038080 0404 c0000000 0e0e0e", b"g") + END,
+    {
+        **{word: text(b"f") for word in ("1:110", "1:118", "1:120", "1:12b", "1:132", "1:144", "1:158", "1:15b", "1:164", "1:16c", "1:17c", "1:184")},
+        **{word: b"one\n??:10:0\n  local rcx a\n" + text(b"f") for word in ("1:11c", "1:11f", "1:130", "1:131")},
+        **{word: b"two\n??:20:0\n  local rcx b\n" + text(b"f") for word in ("1:140", "1:143", "1:128", "1:12a")},
+        **{word: b"three\n??:30:0\n  local rcx c\n" + text(b"f") for word in ("1:150", "1:157")},
+        **{word: b"one\n??:10:0\n  local rcx d\n" + text(b"f") for word in ("1:160", "1:163")},
+        **{word: b"two\n??:20:0\n  local rcx e\n" + text(b"f") for word in ("1:170", "1:173")},
+        **{word: b"three\n??:30:0\n  local rcx g\n" + text(b"f") for word in ("1:180", "1:183")},
+    },
+)
+
+# Calls of one, two and three, at 100, 110 and 120.
+CALLS = procedure(b"f") + site(0x1000, 0, 4) + register(b"a", RCX) + SITE_END + site(0x1001, 0x10, 4) + register(b"b", RCX) + SITE_END + site(0x1002, 0x20, 4) + register(b"c", RCX) + SITE_END + END
+LISTED_FUNCTIONS = (
+    CALLS,
+    {"1:100": b"one\n??:1:0\n  local rcx a\n" + text(b"f"), "1:110": b"two\n??:2:0\n  local rcx b\n" + text(b"f"), "1:120": text(b"f")},
+    # A part that is marked to be ignored, one of 5 bytes, and functions with further files, of which the last is cut off. A second
+    # list of functions doesn't count.
+    subsection(0x800000F6, numbers(0, 0x1002, 0, 3)) + pack("<II5s", 0xF5, 5, b"") + subsection(0xF6, numbers(1, 0x1000, 0, 1, 0, 0x1001, 0, 2, 2, 7, 8, 0x1002, 0, 3, 1))
+    + subsection(0xF6, numbers(0, 0x1002, 0, 3)),
+)
+UNREAD_FUNCTIONS = (CALLS, rows([], "1:100", "1:110", "1:120"), subsection(0x01, b"") + INLINED)
 
 OWN = local(b"p", 1) + in_frame(8, 0x100, 0x140) + local(b"a") + in_frame(16)
 FRAMES = (
@@ -302,6 +346,9 @@ MADE = {
     "ranges without a variable": RANGES_WITHOUT_A_VARIABLE,
     "variables told twice": TOLD_TWICE,
     "sites": SITES,
+    "annotations of sites": ANNOTATIONS,
+    "lists of inlined functions": LISTED_FUNCTIONS,
+    "a list of inlined functions that isn't read": UNREAD_FUNCTIONS,
     "frames": FRAMES,
     "separated code": SEPARATED_CODE,
     "parts of variables": PARTS,
@@ -310,15 +357,15 @@ MADE = {
 }
 
 
-def file_with(symbols, machine=0x8664):
-    """A file of a module with these symbols, whose code is at 1:100 to 1:2ff and at 2:100."""
-    return made_file([(b"a.obj", numbers(4) + symbols, INLINED)], [(1, 0x100, 0x200, 0), (2, 0x100, 0x40, 0)], machine, ids=IDS)
+def file_with(symbols, lines=INLINED, machine=0x8664):
+    """A file of a module with these symbols and lines, whose code is at 1:100 to 1:2ff and at 2:100."""
+    return made_file([(b"a.obj", numbers(4) + symbols, lines)], [(1, 0x100, 0x200, 0), (2, 0x100, 0x40, 0)], machine, ids=IDS)
 
 
-def compare_made(room, what, symbols, wanted, machine=0x8664):
+def compare_made(room, what, data, wanted):
     path = f"{room}/variables.pdb"
     with open(path, "wb") as it:
-        it.write(file_with(symbols, machine))
+        it.write(data)
     compare(f"variables of {what}", (0, b"".join(wanted.values()), b""), "variables", path, *wanted)
     lines = "".join(f"{it}\n" for it in wanted).encode()
     compare(f"variables of {what}, by lines", (0, b"".join(wanted.values()), b""), "variables", path, given=lines)
@@ -327,8 +374,8 @@ def compare_made(room, what, symbols, wanted, machine=0x8664):
 
 
 def made_variables(room):
-    for what, (symbols, wanted) in MADE.items():
-        compare_made(room, what, symbols, wanted)
+    for what, (symbols, wanted, *lines) in MADE.items():
+        compare_made(room, what, file_with(symbols, *lines), wanted)
     # The registers of other machines: that of an image, that of a record of the compiler, and none.
     compiler = record(0x113C, bytes(4) + pack("<9H", 0x03, *8 * [0]) + b"c\0")
     for what, machine, ahead, lines in (
@@ -338,4 +385,4 @@ def made_variables(room):
         ("no machine", 0, b"", [b"local [frame+4] b", b"param [frame+8] p", b"local [frame+16] a"]),
     ):
         symbols = ahead + procedure(b"f") + frame() + record(0x110B, pack("<iI", 4, CHAR) + b"b\0") + OWN + END
-        compare_made(room, what, symbols, rows(lines, "1:100"), machine)
+        compare_made(room, what, file_with(symbols, machine=machine), rows(lines, "1:100"))

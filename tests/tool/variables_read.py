@@ -225,7 +225,7 @@ class Module:
 
     def __init__(self, records, machine, listed):
         self.machine, self.told, self.pieces = machine, {}, {}
-        nodes, around = [], [Node(0, b"\0\0", [])]
+        self.nodes, around = [], [Node(0, b"\0\0", [])]
         for k, (at, data) in enumerate(records):
             kind = u16(data, 0)
             if kind in ENDS:
@@ -235,36 +235,41 @@ class Module:
             behind = (it for _, it in records[k + 1 :]) if kind in LOCALS else ()
             node = Node(at, data, list(takewhile(lambda it: u16(it, 0) in RANGES, behind)))
             around[-1].below.append(node)
-            nodes.append(node)
+            self.nodes.append(node)
             if kind in STARTS:
                 around.append(node)
-        self.procedures, self.others, self.managed = ([it for it in nodes if it.kind in kinds and it.code] for kinds in (PROCEDURES, THUNKS | {SEPARATED}, MANAGED))
-        self.sites = [it for it in nodes if is_site(it) and u32(it.data, 10) in listed]
+        functions = PROCEDURES, THUNKS | {SEPARATED}, MANAGED
+        self.procedures, self.others, self.managed = ([it for it in self.nodes if it.kind in kinds and it.code] for kinds in functions)
+        self.sites = [it for it in self.nodes if is_site(it) and u32(it.data, 10) in listed]
 
     def calls(self, procedure, place):
         """The indices of the sites with an inlined call at the place, in their order."""
         found, end = [], u32(procedure.data, 6)
         for it in self.sites:
             if procedure.at < it.at < end:
-                key = it.at, procedure.at
-                if key not in self.pieces:
-                    self.pieces[key] = covered(it, procedure.code[1])
-                if any(at <= place[1] < at + size for at, size in self.pieces[key]):
+                if any(at <= place[1] < at + size for at, size in self.pieces_of(it, procedure)):
                     found.append(it.at)
         return found
 
+    def pieces_of(self, site, procedure):
+        key = site.at, procedure.at
+        if key not in self.pieces:
+            self.pieces[key] = covered(site, procedure.code[1])
+        return self.pieces[key]
+
     def variables_at(self, place):
-        """The variables at a place: the number of the inlined call or None, the words and the name of each."""
+        """The number of inlined calls at a place, and the variables there: the number of the inlined call or None, the words and
+        the name of each."""
         firsts = [next((it for it in them if has(it.code, place)), None) for them in (self.procedures, self.others, self.managed)]
         procedure, function = firsts[0], firsts[0] or firsts[1] or firsts[2]
         if function is None:
-            return []
+            return 0, []
         if function.at not in self.told:
             self.told[function.at] = told_in(function)
         calls = self.calls(procedure, place) if procedure else []
         found = []
         self.walk(function, None, bases_of(function), 0, place, (calls, self.told[function.at], found))
-        return found
+        return len(calls), found
 
     def walk(self, node, owner, bases, depth, place, kept):
         """Goes through what stands below a node of this owner, in this frame and in so many scopes."""
