@@ -1,5 +1,5 @@
-"""The further records of `pdb_tool symbols` beside those of `llvm-pdbutil dump -symbols`, where it is installed: each field of the
-kinds that LLVM reads too, in real files and in a file of made records. docs/DIFFERENCES.md says what LLVM prints otherwise."""
+"""The further records of `pdb_tool symbols` beside those of `llvm-pdbutil dump -symbols` of LLVM 14, where it is installed: each
+field of the kinds that LLVM reads too, in real files and in made records. docs/DIFFERENCES.md says what LLVM prints otherwise."""
 import glob
 import os
 import re
@@ -150,8 +150,8 @@ def plain(kind, text):
 
 
 def compare_records(what, path):
-    """The kinds of the records of a file that were compared."""
-    given, kinds, number = told_by_llvm(path), set(), None
+    """The kinds of the records of a file, of which each that LLVM prints was compared."""
+    given, keys, number = told_by_llvm(path), set(), None
     for line in ran("symbols", "--all", path)[1].decode("latin-1").splitlines():
         found, start = LINE.match(line), re.match(r"module (\d+) ", line)
         number = int(start[1]) if start else number
@@ -162,8 +162,9 @@ def compare_records(what, path):
         fields = [*re.findall(r" (\w+)=(\S*)", found[3]), ("strings", found[4])]
         wanted = TEXTS[found[2]].format(**values(found[2], fields)).strip()
         tell((name or "", plain(found[2], text)) == (found[5] or "", wanted), f"{what}: {line.strip()}", (name, text, wanted))
-        kinds.add(found[2])
-    return kinds
+        keys.add(key)
+    tell(keys == {it for it in given if it[2] in TEXTS}, f"{what}: records that llvm-pdbutil prints", len(keys))
+    return {kind for _, _, kind in keys}
 
 
 def made_records(room):
@@ -182,8 +183,8 @@ def made_records(room):
 
 def pdbutil_records(room):
     """Made records, the real files, and those of the folder PDB_FILES."""
-    if not shutil.which("llvm-pdbutil"):
-        print("skipped: records beside llvm-pdbutil, which isn't installed")
+    if not shutil.which("llvm-pdbutil") or b"LLVM version 14." not in ran("--version", program="llvm-pdbutil")[1]:
+        print("skipped: records beside llvm-pdbutil of LLVM 14, which isn't installed")
         return
     kinds = compare_records("made records", made_records(room))
     tell(kinds == set(TEXTS), "kinds that llvm-pdbutil reads", sorted(set(TEXTS) - kinds))
