@@ -3,12 +3,13 @@ docs/DEFINITIONS.md (Variables at a place)."""
 from struct import pack
 
 from across import ids_of, made_file, numbers, record, subsection
-from program import compare
+from program import compare, ran, tell
 
 # Registers of x64: ecx and edx, rcx and rdx, rsp; and of frames: that of locals is rsp, that of parameters rbp.
 ECX, EDX, RCX, RDX, RSP = 18, 19, 330, 331, 335
 RSP_AND_RBP = 1 << 14 | 2 << 16
 INT, CHAR = 0x74, 0x70
+MANY = 20_000
 # The index at which no scope has ended.
 FAR = 0xFFFFFF
 END = record(0x0006, b"")
@@ -373,6 +374,18 @@ def compare_made(room, what, data, wanted):
         compare(f"variables of {what} at {word}", (0, its, b""), "variables", path, word)
 
 
+def many_scopes(room):
+    """Blocks in blocks, none of which ends, each with separated code, a call and a variable: seconds do for what would take an
+    hour by the square of their number."""
+    one = block(0x100, 0x40) + separated(0x100, 0x40) + END + site(0x1000, 0, 4) + register(b"a", RCX) + SITE_END + relative(b"b", 8)
+    path = f"{room}/variables.pdb"
+    with open(path, "wb") as it:
+        it.write(file_with(procedure(b"f") + MANY * one))
+    said = ran("variables", path, "1:100", limit=20)
+    wanted = MANY * b"one\n??:10:0\n  local rcx a\n" + text(b"f", *MANY * [b"local [rsp+8] b"])
+    tell(said == (0, wanted, b""), "variables of many scopes", (said[0], len(said[1]), said[2]))
+
+
 def made_variables(room):
     for what, (symbols, wanted, *lines) in MADE.items():
         compare_made(room, what, file_with(symbols, *lines), wanted)
@@ -386,3 +399,4 @@ def made_variables(room):
     ):
         symbols = ahead + procedure(b"f") + frame() + record(0x110B, pack("<iI", 4, CHAR) + b"b\0") + OWN + END
         compare_made(room, what, file_with(symbols, machine=machine), rows(lines, "1:100"))
+    many_scopes(room)
