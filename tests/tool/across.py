@@ -40,6 +40,31 @@ def numbers(*them):
     return pack(f"<{len(them)}I", *them)
 
 
+# An information stream without names of streams.
+NAMELESS = numbers(20000404, 1, 2) + bytes(16)
+
+
+def made_file(modules, code=(), machine=0x8664, information=NAMELESS, ids=b"", symbols=b"", names=b""):
+    """A file of modules, each told by its name, its symbols and its lines. Its code is told by section, offset, size and the
+    number of the module. Stream 4 has the ids, 5 the global symbols, 6 the names, and the modules begin at 7."""
+    streams, entries = [b"", information, b"", b"", ids, symbols, names], b""
+    for name, own, lines in modules:
+        sizes = pack("<HIII", len(streams), len(own), 0, len(lines))
+        entries += padded(bytes(34) + sizes + bytes(16) + name + b"\0" + name + b"\0", 4)
+        streams.append(own + lines)
+    pieces = b"".join(numbers(section, offset, size, 0x60000020, module, 0, 0) for section, offset, size, module in code)
+    contributions = numbers(0xF12EBA2D) + pieces
+    head = numbers(0xFFFFFFFF, 19990903, 1) + pack("<6H", 0xFFFF, 0, 0xFFFF, 0, 5, 0) + numbers(len(entries), len(contributions), 0, 0, 0, 0, 0, 0)
+    streams[3] = head + pack("<HHI", 0, machine, 0) + entries + contributions
+    return container(streams)
+
+
+def ids_of(functions):
+    """A stream of ids, which are functions of type 74 with these names, from 1000 on."""
+    each = b"".join(pack("<H", len(it)) + it for it in (padded(pack("<HII", 0x1601, 0, 0x74) + name + b"\0\0\0", 4)[:-2] for name in functions))
+    return numbers(20040203, 56, 0x1000, 0x1000 + len(functions), len(each)) + bytes(36) + each
+
+
 class Made:
     """A file of a call with this id. A module has a name, imports as (name, numbers), and exports as pairs; the call is in
     the first one. A name that is a number is an offset at which nothing can be read."""
@@ -49,8 +74,7 @@ class Made:
 
     def file(self):
         strings = b"\0a.c\0" + b"".join(name + b"\0" for name, _, _ in self.modules) + b"absent\0"
-        streams = [b"", self.information(), b"", b"", self.ids(), b"", b"\xfe\xef\xfe\xef" + numbers(1, len(strings)) + strings]
-        entries = b""
+        modules = []
         for k, (name, imports, exports) in enumerate(self.modules):
             symbols = self.symbols() if k == 0 else b""
             parts = self.inlined() if k == 0 else b""
@@ -59,22 +83,14 @@ class Made:
                 parts += subsection(0xF7, b"".join(each))
             if exports is not None:
                 parts += subsection(0xF8, b"".join(numbers(*it) for it in exports))
-            entry = bytes(34) + pack("<HIII", len(streams), len(symbols), 0, len(parts)) + bytes(16) + name + b"\0" + name + b"\0"
-            entries += padded(entry, 4)
-            streams.append(symbols + parts)
-        contributions = numbers(0xF12EBA2D, 1, 0x100, 0x30, 0x60000020, 0, 0, 0)
-        head = numbers(0xFFFFFFFF, 19990903, 1) + pack("<6H", 0xFFFF, 0, 0xFFFF, 0, 0, 0) + numbers(len(entries), len(contributions), 0, 0, 0, 0, 0, 0)
-        streams[3] = head + pack("<HHI", 0, 0x8664, 0) + entries + contributions
-        return container(streams)
+            modules.append((name, symbols, parts))
+        names = b"\xfe\xef\xfe\xef" + numbers(1, len(strings)) + strings
+        return made_file(modules, [(1, 0x100, 0x30, 0)], information=self.information(), ids=ids_of(FUNCTIONS.values()), names=names)
 
     def information(self):
         """Stream 6 has the name `/names`, or one that nobody looks for."""
         name = b"/names\0" if self.has_strings else b"/nomen\0"
         return numbers(20000404, 1, 2) + bytes(16) + numbers(len(name)) + name + numbers(1, 1, 1, 1, 0, 0, 6)
-
-    def ids(self):
-        each = b"".join(pack("<H", len(it)) + it for it in (padded(pack("<HII", 0x1601, 0, 0x74) + name + b"\0\0\0", 4)[:-2] for name in FUNCTIONS.values()))
-        return numbers(20040203, 56, min(FUNCTIONS), max(FUNCTIONS) + 1, len(each)) + bytes(36) + each
 
     def symbols(self):
         """The procedure `main` of 48 bytes at 1:100, and a call of two bytes at 1:108."""

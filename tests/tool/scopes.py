@@ -5,7 +5,7 @@ import os
 import random
 from struct import error, pack, unpack_from
 
-from across import container, numbers, padded
+from across import made_file, numbers
 from program import FILES, REAL, ran, tell
 from streams import File, u16
 from symbols import CORPUS, NAMES, lists, one_line
@@ -266,14 +266,11 @@ def random_record(chance):
     return pack("<H", kind) + body
 
 
-def random_file(chance):
-    """A file of one module of such records; its header names a machine, or none."""
+def random_file(chance, code=()):
+    """A file of one module of such records, which has this code; its header names a machine, or none."""
     made = [random_record(chance) for _ in range(600)]
     part = numbers(4) + b"".join(pack("<H", len(it)) + it for it in made)
-    entry = padded(bytes(34) + pack("<HIII", 5, len(part), 0, 0) + bytes(16) + b"a\0a\0", 4)
-    head = numbers(0xFFFFFFFF, 19990903, 1) + pack("<6H", 0xFFFF, 0, 0xFFFF, 0, 0xFFFF, 0) + numbers(len(entry), 0, 0, 0, 0, 0, 0, 0)
-    debug = head + pack("<HHI", 0, chance.choice([0x14C, 0x8664, 0x1C4, 0xAA64, 0]), 0) + entry
-    return container([b"", numbers(20000404, 1, 2) + bytes(16), b"", debug, b"", part])
+    return made_file([(b"a", part, b"")], code, machine=chance.choice([0x14C, 0x8664, 0x1C4, 0xAA64, 0]))
 
 
 def scopes(room):

@@ -6,7 +6,7 @@ import random
 import re
 from struct import error, pack, unpack_from
 
-from across import container, numbers, padded
+from across import made_file, numbers
 from program import FILES, REAL, TOP, ran, tell
 from streams import File, u16, u32
 from typed import Types, behind_record
@@ -423,12 +423,8 @@ def random_file(chance):
         compiler = pack("<H", 0x113C) + bytes([chance.choice([0, 1, 0x15, 0x44, 0x77]), 0, 0, 0]) + pack("<9H", cpu, *range(1, 9)) + b"c\0"
         made.insert(chance.randrange(len(made)), compiler[: chance.choice([len(compiler), len(compiler), 12])])
     part = numbers(4) + b"".join(pack("<H", len(it)) + it for it in made)
-    entry = padded(bytes(34) + pack("<HIII", 5, len(part), 0, 0) + bytes(16) + b"a\0a\0", 4)
-    head = numbers(0xFFFFFFFF, 19990903, 1) + pack("<6H", 0xFFFF, 0, 0xFFFF, 0, 6, 0) + numbers(len(entry), 0, 0, 0, 0, 0, 0, 0)
-    machine = chance.choice([*IMAGES, 0, 0x200])
-    debug = head + pack("<HHI", 0, machine, 0) + entry
     further = b"".join(pack("<H", len(it)) + it for it in made[:100])
-    return container([b"", numbers(20000404, 1, 2) + bytes(16), b"", debug, b"", part, further])
+    return made_file([(b"a", part, b"")], machine=chance.choice([*IMAGES, 0, 0x200]), symbols=further)
 
 
 def symbols(room):
