@@ -9,7 +9,7 @@ from struct import pack
 from across import numbers, record
 from pdbutil import CORPUS, dumped
 from program import FILES, REAL, ran, tell
-from symbols import FRAME, VARIABLE
+from symbols import FRAME, NAMES, VARIABLE
 from variables_damaged import Damaged
 
 # What LLVM prints of a record behind its name, by the fields that `symbols` prints.
@@ -42,7 +42,10 @@ VARIABLE_FLAGS = dict(zip(VARIABLE, (
     "param;address is taken;compiler generated;aggregate;aggregated;aliased;alias;return val;optimized away;enreg global;enreg static").split(";")))
 COOKIES = {"copy": "copy", "xor_sp": "xor stack ptr", "xor_bp": "xor frame ptr", "xor_r13": "xor rot13"}
 CHARACTERISTICS = {0x20: "code", 0x40: "initialized data", 0x80: "uninitialized data", 0x2000000: "discardable", 0x10000000: "shared", 0x20000000: "execute permissions", 0x40000000: "read permissions", 0x80000000: "write permissions"}
-# The place of a record, its kind, its name, and what follows.
+CPUS = {"x86": 0x03, "x64": 0xD0, "arm": 0xF4, "arm64": 0xF6}
+# Registers that LLVM calls otherwise: on x64 eip, and on x86 those of x64.
+OTHERWISE = {("x64", 33), *(("x86", number) for number in range(252, 260))}
+# The index of a record, its kind, its name, and what follows.
 HEAD = re.compile(r"^ +(\d+) \| (S_\w+) \[size = \d+\] ?(?:`(.*)`)?(.*)$")
 LINE = re.compile(r"^ *([0-9a-f]{8}) (S_\w+)((?: (?!strings=)\w+=\S*)*)(?: strings=(.*))?(?: (.*))?$")
 # The name of a type, of a file or of a function behind its number.
@@ -167,11 +170,10 @@ def compare_records(what, path):
     return {kind for _, _, kind in keys}
 
 
-def made_records(room):
-    """A real file whose first module has the made records in place of its own."""
+def with_records(room, body):
+    """A real file whose first module has these records in place of its own."""
     with open(f"{FILES}/cpp-lld.pdb", "rb") as it:
         damaged = Damaged(it.read(), 0)
-    body = b"".join(MADE)
     rest = damaged.symbols - 4 - len(body)
     body += pack("<HHI", rest - 2, 0x1101, 0) + bytes(rest - 8)
     damaged.put(4, int.from_bytes(body, "little"), len(body))
@@ -181,13 +183,31 @@ def made_records(room):
     return path
 
 
+def compare_registers(room, machine):
+    """How many registers of a machine have the name that LLVM has for them; it names fewer."""
+    numbers_named, count = sorted(number for its, number in NAMES if its == machine), 0
+    compiler = record(0x113C, bytes(4) + pack("<9H", CPUS[machine], *8 * [0]) + b"c\0")
+    for start in range(0, len(numbers_named), 150):
+        them = numbers_named[start : start + 150]
+        path = with_records(room, compiler + b"".join(record(0x1141, pack("<HH", it, 0) + RANGE) for it in them))
+        given = re.findall(r"S_DEFRANGE_REGISTER register=(\w+) ", ran("symbols", path, "0")[1].decode())
+        told = [re.match(r"register = (?:AMD64_|ARM64_|ARM_)?(.*?), may", text)[1].lower() for (module, _, kind), (_, text) in told_by_llvm(path).items() if module == 0 and kind == "S_DEFRANGE_REGISTER"]
+        tell(len(given) == len(told) == len(them), f"registers of {machine}", (len(given), len(told), len(them)))
+        other = [it for it in zip(them, given, told) if it[1] != it[2] and (machine, it[0]) not in OTHERWISE and not it[2].startswith("unknown ")]
+        tell(not other, f"names of registers of {machine} beside llvm-pdbutil", other)
+        count += sum(a == b for a, b in zip(given, told))
+    return count
+
+
 def pdbutil_records(room):
     """Made records, the real files, and those of the folder PDB_FILES."""
     if not shutil.which("llvm-pdbutil") or b"LLVM version 14." not in ran("--version", program="llvm-pdbutil")[1]:
         print("skipped: records beside llvm-pdbutil of LLVM 14, which isn't installed")
         return
-    kinds = compare_records("made records", made_records(room))
+    kinds = compare_records("made records", with_records(room, b"".join(MADE)))
     tell(kinds == set(TEXTS), "kinds that llvm-pdbutil reads", sorted(set(TEXTS) - kinds))
+    count = sum(compare_registers(room, machine) for machine in CPUS)
+    tell(count > 700, "registers that llvm-pdbutil names", count)
     further = sorted(glob.glob(f"{CORPUS}/*.pdb")) if CORPUS else []
     kinds = set()
     for path in [f"{FILES}/{name}.pdb" for name in REAL] + further:

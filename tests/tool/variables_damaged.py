@@ -13,9 +13,9 @@ from variables import compare_places
 from variables_made import MADE, file_with
 from variables_read import RANGE_AT, module_list, module_of, pieces_of_code
 
-IN_A_MODULE = 300
-RANDOM = 40
-ANYWHERE = 140
+IN_A_MODULE = 600
+RANDOM = 60
+ANYWHERE = 350
 PLACES = 60
 ENDS = (0, 1, 2, 4, 8, 0x7F, 0x80, 0xFF, 0x7FFF, 0x8000, 0xFFFF, 0x7FFFFFFF, 0x80000000, 0xFFFFFFFF)
 # Kinds that mean something to `variables`, and two that are passed over.
@@ -117,14 +117,15 @@ def a_site(it, chance):
 
 def inlined_functions(it, chance):
     """The functions that are inlined, or the front of a part of the lines."""
-    parts, at = [], 0
+    fronts, listed, at = [], [], 0
     while at < it.lines:
-        parts.append(at)
-        at += 8 + it.read(it.symbols + at + 4, 4)
-    ids = [at for at in parts if it.read(it.symbols + at, 4) == 0xF6]
+        kind, size = it.read(it.symbols + at, 4), it.read(it.symbols + at + 4, 4)
+        fronts += range(at, at + 8)
+        listed += range(at + 8, at + 8 + size) if kind == 0xF6 and size < it.lines else ()
+        at += 8 + size
     for _ in range(chance.randint(1, 2)):
-        at, most = (chance.choice(parts), 8) if chance.randrange(3) or not ids else (ids[0] + 8, it.read(it.symbols + ids[0] + 4, 4))
-        it.put(it.symbols + at + chance.randrange(most), chance.choice((0, 1, 4, 0x80, 0xF4, 0xF6, 0xFF, chance.randrange(256))), 1)
+        at = chance.choice(chance.choice((fronts, listed or fronts)))
+        it.put(it.symbols + at, chance.choice((0, 1, 4, 0x80, 0xF4, 0xF6, 0xFF, chance.randrange(256))), 1)
 
 
 DAMAGE = (some_bytes, a_number, a_number, a_kind, a_kind, a_length, a_cut_record, a_cut_record, swapped_records, sizes, a_site, a_site, a_site, inlined_functions)
