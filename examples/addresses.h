@@ -89,6 +89,12 @@ struct found {
     size_t count;
 };
 
+/* Frees what a call gave. */
+static inline void drop(struct found *found) {
+    free(found->rows);
+    free(found->names);
+}
+
 /* The frames of addresses. Room that isn't filled is none of the machine's: ask for much, so that the file is read once. */
 static inline pdb_code frames_of(const uint8_t *file, size_t size, const pdb_address *addresses, size_t n, struct found *found) {
     size_t most = 16 * n + 16, most_bytes = 1024 * n + 1024, bytes;
@@ -96,16 +102,10 @@ static inline pdb_code frames_of(const uint8_t *file, size_t size, const pdb_add
     found->names = room(most_bytes);
     pdb_code code = pdb_frames(file, size, addresses, n, found->rows, most, &found->count, found->names, most_bytes, &bytes);
     if (code != PDB_ROOM) return code;
-    free(found->rows);
-    free(found->names);
+    drop(found);
     found->rows = room(found->count * sizeof(pdb_frame));
     found->names = room(bytes);
     return pdb_frames(file, size, addresses, n, found->rows, found->count, &found->count, found->names, bytes, &bytes);
-}
-
-static inline void drop(struct found *found) {
-    free(found->rows);
-    free(found->names);
 }
 
 #endif

@@ -106,13 +106,14 @@ static void all(const struct found *frames, const struct found *variables, size_
     flush();
 }
 
-/* The variables of addresses: how much room they need is asked first. */
+/* The variables of addresses, with as much room at first as is mostly enough. */
 static pdb_code variables_of(const uint8_t *file, size_t size, const pdb_address *addresses, size_t n, struct found *found) {
-    size_t bytes;
-    pdb_variable row;
-    uint8_t byte;
-    pdb_code code = pdb_variables(file, size, addresses, n, &row, 0, &found->count, &byte, 0, &bytes);
-    if (code && code != PDB_ROOM) return code;
+    size_t most = 64 * n + 64, most_bytes = 512 * n + 512, bytes;
+    found->rows = room(most * sizeof(pdb_variable));
+    found->names = room(most_bytes);
+    pdb_code code = pdb_variables(file, size, addresses, n, found->rows, most, &found->count, found->names, most_bytes, &bytes);
+    if (code != PDB_ROOM) return code;
+    drop(found);
     found->rows = room(found->count * sizeof(pdb_variable));
     found->names = room(bytes);
     return pdb_variables(file, size, addresses, n, found->rows, found->count, &found->count, found->names, bytes, &bytes);
