@@ -1,10 +1,10 @@
 -- The lines of the most frequent symbols, by what stands at the offsets of their records, are those of what the records say.
-use Rattle.std.proofs.Common.{◌≡◌, ◌≢◌, ◌≤◌, ℕ, true, false, List, ◌++◌, length, drop, Option, Some, None, Result, Ok, refl, ap, sym, ◌∙◌, append_assoc, arith, leb, nat_eq}
+use Rattle.std.proofs.Common.{◌≡◌, ◌≢◌, ◌≤◌, ℕ, true, false, List, [], ◌++◌, length, drop, Option, Some, None, Result, Ok, refl, ap, sym, ◌∙◌, append_assoc, append-nil, arith, leb, nat_eq}
 use Rattle.std.specs.Prelude.{codes}
 use Rattle.std.specs.Fmt.{decimal}
 use Rattle.pdb.specs.Error.{Error}
 use Rattle.pdb.specs.Data.{Data}
-use Rattle.pdb.specs.Data.Data.{InlineSite, Local}
+use Rattle.pdb.specs.Data.Data.{InlineSite, InlineSiteEnd, Local}
 use Rattle.pdb.specs.Fields.{number, number_at, cstring_at}
 use Rattle.pdb.specs.Forms.{kind_at, fields_at}
 use Rattle.pdb.specs.SymbolList.{Entry}
@@ -21,7 +21,7 @@ use Rattle.pdb_records.specs.RecordSays.Says.{DefRangeRegister}
 use Rattle.pdb_records.specs.RecordTable.{read_of_record}
 use Rattle.pdb_records.specs.declared.machine.Machine.{Machine}
 use Rattle.pdb_text.specs.Digits.{hex}
-use Rattle.pdb_tool.specs.CallLines.{call_head, call_text}
+use Rattle.pdb_tool.specs.CallLines.{call_end_line, call_head, call_text}
 use Rattle.pdb_tool.specs.Depth.{blanks}
 use Rattle.pdb_tool.specs.FieldTexts.{field, label, site_fields}
 use Rattle.pdb_tool.specs.Flags.{local_flags}
@@ -133,3 +133,24 @@ call_line names machine depth s e l z =
     ap (λ (k : ℕ). line_of names machine depth s.index k b (fields_at (row k) k b)) e
     ∙ ap (λ (r : Result Data Error). line_of names machine depth s.index 0x114d b r) (call_fields b (there 6 14 _ (omega arith) l) (there 10 14 _ (omega arith) l) (there 14 14 _ (omega arith) l) (not_zero _ z))
     ∙ call_put names machine depth s.index b
+
+-- ---- ends of inlined calls
+
+call_end_joined : (d x k c e : List ℕ) → ((((d ++ x) ++ k) ++ c) ++ []) ++ e ≡ d ++ (x ++ (k ++ (c ++ e)))
+call_end_joined d x k c e = simp (append_assoc, append-nil)
+
+call_end_put : (names : Names) (machine : Option Machine) (depth index : ℕ) (b : List ℕ) → line_of names machine depth index 0x114e b (Ok InlineSiteEnd) ≡ blanks depth ++ call_end_line index
+unfolding kind_name call_end_line typed_text
+call_end_put names machine depth index b = call_end_joined (blanks depth) (hex 8 index) (codes " ") (codes "S_INLINESITE_END") (codes "\n")
+
+call_end_fields : (b : List ℕ) → fields_at (row 0x114e) 0x114e b ≡ Ok InlineSiteEnd
+unfolding read_of
+call_end_fields b = refl
+
+pub end_of_call_line : (names : Names) (machine : Option Machine) (depth : ℕ) (s : Entry) → kind_at s.bytes ≡ 0x114e → symbol_line names machine depth s ≡ blanks depth ++ call_end_line s.index
+unfolding symbol_line
+end_of_call_line names machine depth s e =
+    let b = s.bytes in
+    ap (λ (k : ℕ). line_of names machine depth s.index k b (fields_at (row k) k b)) e
+    ∙ ap (λ (r : Result Data Error). line_of names machine depth s.index 0x114e b r) (call_end_fields b)
+    ∙ call_end_put names machine depth s.index b

@@ -15,3 +15,7 @@ call_head index parent end id =
 -- the line behind its blanks
 unfoldable pub call_text : Names → ℕ → List ℕ → List ℕ
 call_text names index b = call_head index (number b 2 4) (number b 6 4) (number b 10 4) ++ (bytes_text (drop 14 b) ++ call_end names (number b 10 4))
+
+-- the line behind its blanks of the end of a call
+unfoldable pub call_end_line : ℕ → List ℕ
+call_end_line index = hex 8 index ++ codes " S_INLINESITE_END\n"

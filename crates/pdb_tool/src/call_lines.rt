@@ -4,7 +4,7 @@
 ghost use Rattle.std.specs.Prelude.{◌≡◌, ◌≢◌, ◌++◌, ◌≤◌, [], ◌∷◌, drop, flat_map, length, OnOk};
 ghost use Rattle.pdb.specs.Fields.{number};
 ghost use Rattle.pdb_text.specs.Digits.{hex};
-ghost use Rattle.pdb_tool.specs.CallLines.{call_head, call_text};
+ghost use Rattle.pdb_tool.specs.CallLines.{call_end_line, call_head, call_text};
 ghost use Rattle.pdb_tool.specs.KeptViews.{kept_names};
 ghost use Rattle.pdb_tool.specs.LineNames.{call_end};
 ghost use Rattle.pdb_tool.specs.ValueTexts.{bytes_text};
@@ -67,4 +67,17 @@ pub fn put_call_text(
     ))?;
     put_bytes(out, &bytes[14..])?;
     put_end(out, kept, id)
+}
+
+/// The line behind its blanks of the end of an inlined call.
+#[inline(always)]
+#[tactic(auto, unfolding(pdb_text::specs::Digits::hex, crate::specs::CallLines::call_end_line))]
+pub fn call_end_line(index: u32) -> [u8; 26]
+    ensures { result ≡ call_end_line index }
+{
+    let i = hex8(index);
+    [
+        i[0], i[1], i[2], i[3], i[4], i[5], i[6], i[7], b' ', b'S', b'_', b'I', b'N', b'L', b'I',
+        b'N', b'E', b'S', b'I', b'T', b'E', b'_', b'E', b'N', b'D', b'\n',
+    ]
 }

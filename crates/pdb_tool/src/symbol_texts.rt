@@ -9,6 +9,7 @@ ghost use Rattle.pdb.specs.Forms.{Is, kind_at, record_at};
 ghost use Rattle.pdb.specs.Text.{name_bytes};
 ghost use Rattle.pdb.specs.Views.{symbol_of, symbols_left};
 ghost use Rattle.pdb_text.specs.Digits.{hex};
+ghost use Rattle.pdb_tool.specs.CallLines.{call_end_line};
 ghost use Rattle.pdb_tool.specs.Depth.{blanks, depth_at};
 ghost use Rattle.pdb_tool.specs.FieldTexts.{field, fields_text};
 ghost use Rattle.pdb_tool.specs.KeptViews.{kept_names};
@@ -23,7 +24,7 @@ ghost use Rattle.pdb_resolve.specs.ModuleCode.{symbols_in};
 ghost use Rattle.pdb_tool.specs.Values.{behind_blank};
 ghost use Rattle.pdb_tool.specs.ValueTexts.{kind_text};
 
-use crate::call_lines::put_call_text;
+use crate::call_lines::{call_end_line, put_call_text};
 use crate::depth::{depth_of, put_blanks};
 use crate::error_line::{put_error_line, put_refusal_line};
 use crate::fields::{put_index, put_number, put_reference, put_type};
@@ -306,7 +307,20 @@ fn put_call_symbol(
     put_call_text(out, kept, symbol.index().0, bytes)
 }
 
+/// The line of a symbol of the kind of ends of inlined calls.
+fn put_call_end_symbol(
+    out: &mut Vec<u8>,
+    depth: usize,
+    symbol: &Symbol<'_>,
+) -> Result<(), AllocError>
+    ensures { OnOk result (out.new.items ≡ out.old.items ++ (blanks depth ++ call_end_line (symbol_of symbol.now).index)) }
+{
+    put_blanks(out, depth)?;
+    out.extend_from_slice(&call_end_line(symbol.index().0))
+}
+
 /// The line of a symbol at a depth: those of the most frequent kinds are put together at once.
+#[tactic(auto, using(crate::proofs::OffsetLines::end_of_call_line))]
 fn put_symbol(
     alloc: Global,
     out: &mut Vec<u8>,
@@ -322,6 +336,7 @@ fn put_symbol(
         0x113e => put_local_symbol(alloc, out, kept, machine, depth, symbol),
         0x1141 => put_register_symbol(alloc, out, kept.names(), machine, depth, symbol),
         0x114d => put_call_symbol(alloc, out, kept, machine, depth, symbol),
+        0x114e => put_call_end_symbol(out, depth, symbol),
         _ => put_any_symbol(alloc, out, kept.names(), machine, depth, symbol),
     }
 }
