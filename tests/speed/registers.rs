@@ -51,7 +51,10 @@ impl Machine {
 
     /// The name of a register; empty where it has none.
     pub fn register(&self, number: u16) -> &'static str {
-        self.registers.get(usize::from(number)).copied().unwrap_or("")
+        match number {
+            30006 => "vframe",
+            _ => self.registers.get(usize::from(number)).copied().unwrap_or(""),
+        }
     }
 
     pub fn base(&self, encoded: u32) -> &'static str {
