@@ -70,9 +70,9 @@ unfolding symbol_line
 local_line names machine depth s t w name e l p q n =
     let b = s.bytes in
     let line : symbol_line names machine depth s ≡ blanks depth ++ local_text names s.index (number b 2 4) (number b 6 2) name =
-        ap (λ (k : ℕ). line_of names machine depth s.index k b (fields_at (row k) k b)) e
-        ∙ ap (λ (r : Result Data Error). line_of names machine depth s.index 0x113e b r) (local_fields b name (there 6 8 _ (omega arith) l) (there 8 8 _ (omega arith) l) n)
-        ∙ local_put names machine depth s.index b name in
+    ap (λ (k : ℕ). line_of names machine depth s.index k b (fields_at (row k) k b)) e
+    ∙ ap (λ (r : Result Data Error). line_of names machine depth s.index 0x113e b r) (local_fields b name (there 6 8 _ (omega arith) l) (there 8 8 _ (omega arith) l) n)
+    ∙ local_put names machine depth s.index b name in
     rw (p, q) line
 
 -- ---- ranges in which a variable is in a register

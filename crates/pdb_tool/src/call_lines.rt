@@ -59,12 +59,7 @@ pub fn put_call_text(
     ensures text { OnOk result (out.new.items ≡ out.old.items ++ call_text (kept_names kept.old) index bytes.now) }
 {
     let id = u32_at(bytes, 10);
-    out.extend_from_slice(&call_head(
-        index,
-        u32_at(bytes, 2),
-        u32_at(bytes, 6),
-        id,
-    ))?;
+    out.extend_from_slice(&call_head(index, u32_at(bytes, 2), u32_at(bytes, 6), id))?;
     put_bytes(out, &bytes[14..])?;
     put_end(out, kept, id)
 }

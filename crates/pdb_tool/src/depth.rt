@@ -20,7 +20,7 @@ fn put_many_blanks(out: &mut Vec<u8>, depth: usize) -> Result<(), AllocError>
 }
 
 /// Two blanks for each depth, and no more than 64. Those of the depths that most symbols have are put at once.
-#[inline]
+#[inline(always)]
 pub fn put_blanks(out: &mut Vec<u8>, depth: usize) -> Result<(), AllocError>
     ensures { OnOk result (out.new.items ≡ out.old.items ++ blanks depth) }
 {

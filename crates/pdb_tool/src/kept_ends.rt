@@ -12,7 +12,7 @@ use pdb::TypeIndex;
 use std::alloc::{AllocError, Global};
 
 /// How many ends are kept: nineteen in twenty lines of large programs have one of so many.
-const KEPT: usize = 512;
+const KEPT: usize = 1024;
 
 /// The ends of the last lines, each at a place that its type's index gives; those of lines of inlined calls, by their ids.
 #[derive(Drop)]
@@ -22,9 +22,9 @@ pub struct KeptEnds<'x, 'a> {
     rows: Vec<Option<LineEnd>>,
     calls: Vec<Option<LineEnd>>,
     ghost exact: { All (IsEnd (names_of_lines names)) rows.items },
-    ghost full: { 0 < length rows.items → length rows.items ≡ 512 },
+    ghost full: { 0 < length rows.items → length rows.items ≡ 1024 },
     ghost exact_calls: { All (IsCallEnd (names_of_lines names)) calls.items },
-    ghost full_calls: { 0 < length calls.items → length calls.items ≡ 512 },
+    ghost full_calls: { 0 < length calls.items → length calls.items ≡ 1024 },
 }
 
 /// The index of a type; 0 where there is none.
@@ -39,7 +39,7 @@ fn number_of_type(index: Option<TypeIndex>) -> u32
 
 /// The place of the end of an index. Pointers to a simple type have its index and a multiple of 256; they have other places.
 fn place_of(index: u32) -> usize
-    ensures { result < 512 }
+    ensures { result < 1024 }
 {
     let index = index as usize;
     (index + index / 256) % KEPT
@@ -47,7 +47,7 @@ fn place_of(index: u32) -> usize
 
 /// Places without an end.
 fn vacant(alloc: Global) -> Result<Vec<Option<LineEnd>>, AllocError>
-    ensures { IfOk result (λ rows. rows.items ≡ replicate 512 None) }
+    ensures { IfOk result (λ rows. rows.items ≡ replicate 1024 None) }
 {
     let mut rows = Vec::new(alloc);
     while rows.len() < KEPT {
@@ -92,7 +92,7 @@ impl<'x, 'a> KeptEnds<'x, 'a> {
     #[tactic(auto, using(crate::proofs::KeptLemmas::vacant_size, crate::proofs::KeptLemmas::vacant_ends))]
     fn take_places(&mut self) -> Result<(), AllocError>
         ensures names { kept_names self.new ≡ kept_names self.old }
-        ensures full { OnOk result (length self.new.rows.items ≡ 512) }
+        ensures full { OnOk result (length self.new.rows.items ≡ 1024) }
     {
         if self.rows.is_empty() {
             self.rows = vacant(self.alloc)?;
@@ -102,7 +102,7 @@ impl<'x, 'a> KeptEnds<'x, 'a> {
 
     // Puts the end of an index at a place.
     fn fill(&mut self, place: usize, index: u32) -> Result<(), AllocError>
-        requires { place < 512 }
+        requires { place < 1024 }
         ensures names { kept_names self.new ≡ kept_names self.old }
         ensures kept { OnOk result (kept_text self.new place ≡ typed_end (kept_names self.new) (Some (record { 0 = index }))) }
     {
@@ -140,7 +140,7 @@ impl<'x, 'a> KeptEnds<'x, 'a> {
     #[tactic(auto, using(crate::proofs::KeptLemmas::vacant_size, crate::proofs::KeptLemmas::vacant_ends))]
     fn take_calls(&mut self) -> Result<(), AllocError>
         ensures names { kept_names self.new ≡ kept_names self.old }
-        ensures full { OnOk result (length self.new.calls.items ≡ 512) }
+        ensures full { OnOk result (length self.new.calls.items ≡ 1024) }
     {
         if self.calls.is_empty() {
             self.calls = vacant(self.alloc)?;
@@ -150,7 +150,7 @@ impl<'x, 'a> KeptEnds<'x, 'a> {
 
     // Puts the end of lines of the calls of an id at a place.
     fn fill_call(&mut self, place: usize, id: u32) -> Result<(), AllocError>
-        requires { place < 512 }
+        requires { place < 1024 }
         ensures names { kept_names self.new ≡ kept_names self.old }
         ensures kept { OnOk result (kept_call self.new place ≡ call_end (kept_names self.new) id) }
     {

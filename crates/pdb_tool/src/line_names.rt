@@ -25,6 +25,9 @@ fn has_id(kind: u16) -> bool
     matches!(kind, 0x1146 | 0x1147 | 0x1156)
 }
 
+/// How many bytes are taken at first for the end of a line, which most ends are not longer than.
+const END_BYTES: usize = 96;
+
 /// How lines end behind what has the type of an index: with the name of the type behind a colon. How lines of the inlined
 /// calls of an id end: with the name of the function and that of its type.
 #[derive(Drop)]
@@ -135,7 +138,7 @@ impl<'x, 'a> LineNames<'x, 'a> {
         ensures index { IfOk result (λ end. end.index ≡ index) }
         ensures text { IfOk result (λ end. end.text.items ≡ typed_end (names_of_lines self.now) (Some (record { 0 = index }))) }
     {
-        let mut text = Vec::new(alloc);
+        let mut text = Vec::with_capacity(alloc, END_BYTES)?;
         self.put_type(&mut text, Some(TypeIndex(index)))?;
         put_line_end(&mut text)?;
         Ok(LineEnd { index, text })
@@ -147,7 +150,7 @@ impl<'x, 'a> LineNames<'x, 'a> {
         ensures id { IfOk result (λ end. end.index ≡ id) }
         ensures text { IfOk result (λ end. end.text.items ≡ call_end (names_of_lines self.now) id) }
     {
-        let mut text = Vec::new(alloc);
+        let mut text = Vec::with_capacity(alloc, END_BYTES)?;
         put_behind_qualified(&mut text, self.called(IdIndex(id)))?;
         self.put_type(&mut text, self.called_type(IdIndex(id)))?;
         put_line_end(&mut text)?;

@@ -19,6 +19,9 @@ use std::alloc::AllocError;
 pub fn put_signed(out: &mut Vec<u8>, n: i64) -> Result<(), AllocError>
     ensures { OnOk result (out.new.items ≡ out.old.items ++ signed_decimal n) }
 {
+    if (0..0x1_0000_0000).contains(&n) {
+        return put_decimal(out, n as u64);
+    }
     let alloc = *out.allocator();
     let text = format!(in alloc; "{n}")?;
     out.extend_from_slice(text.as_bytes())

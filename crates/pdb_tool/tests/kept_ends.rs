@@ -18,7 +18,7 @@ const ASKED: [(Option<TypeIndex>, &[u8]); 9] = [
     (Some(TypeIndex(0x75)), b": unsigned\n"),
     (Some(TypeIndex(0x74)), b": int\n"),
     (Some(TypeIndex(0x01f4)), b": ??\n"),
-    (Some(TypeIndex(0x0272)), b": __int16*\n"),
+    (Some(TypeIndex(0x0470)), b": char*\n"),
     (Some(TypeIndex(0x74)), b": int\n"),
 ];
 
@@ -34,7 +34,7 @@ fn ends_are_those_of_the_types(rt: HostRuntime) -> Result<(), Fail> {
         let place = kept.keep(index)?;
         is(&rt, "end", &kept.at(place), &wanted);
     }
-    is(&rt, "no place", &kept.at(512), &b"".as_slice());
+    is(&rt, "no place", &kept.at(1024), &b"".as_slice());
     Ok(())
 }
 
@@ -42,7 +42,7 @@ fn ends_are_those_of_the_types(rt: HostRuntime) -> Result<(), Fail> {
 const CALLS: [(u32, &[u8]); 5] = [
     (0x1001, b" ns::ab: int\n"),
     (0x13fe, b" ??\n"),
-    (0x15fc, b" ??\n"),
+    (0x17fa, b" ??\n"),
     (0x1001, b" ns::ab: int\n"),
     (0x1001, b" ns::ab: int\n"),
 ];
