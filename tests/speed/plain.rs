@@ -3,20 +3,10 @@
 use std::collections::HashMap;
 use std::io::Write;
 
+mod container;
 mod type_names;
 
-fn u16_at(b: &[u8], p: usize) -> u16 {
-    u16::from_le_bytes(b[p..p + 2].try_into().unwrap())
-}
-
-fn u32_at(b: &[u8], p: usize) -> u32 {
-    u32::from_le_bytes(b[p..p + 4].try_into().unwrap())
-}
-
-fn cstring(b: &[u8], p: usize) -> &[u8] {
-    let end = b[p..].iter().position(|&x| x == 0).unwrap();
-    &b[p..p + end]
-}
+use container::{cstring, decimal, modules_of, u16_at, u32_at, File, Items};
 
 fn hex(out: &mut Vec<u8>, n: u32, digits: u32) {
     let mut text = [0; 8];
@@ -24,66 +14,6 @@ fn hex(out: &mut Vec<u8>, n: u32, digits: u32) {
         *digit = b"0123456789abcdef"[(n >> (4 * (digits - 1 - at as u32)) & 15) as usize];
     }
     out.extend_from_slice(&text[..digits as usize]);
-}
-
-fn decimal(out: &mut Vec<u8>, mut n: u32) {
-    let mut text = [0; 10];
-    let mut at = text.len();
-    loop {
-        at -= 1;
-        text[at] = b'0' + (n % 10) as u8;
-        n /= 10;
-        if n == 0 {
-            break;
-        }
-    }
-    out.extend_from_slice(&text[at..]);
-}
-
-struct File {
-    bytes: Vec<u8>,
-    streams: Vec<(usize, Vec<u32>)>,
-}
-
-impl File {
-    fn open(path: &str) -> File {
-        let bytes = std::fs::read(path).unwrap();
-        let page = u32_at(&bytes, 32) as usize;
-        let size = u32_at(&bytes, 44) as usize;
-        let join = |numbers: &[u32], size: usize| {
-            let mut all = Vec::with_capacity(size);
-            for &n in numbers {
-                let from = n as usize * page;
-                all.extend_from_slice(&bytes[from..from + page.min(size - all.len())]);
-            }
-            all
-        };
-        let numbers = |b: &[u8]| b.chunks_exact(4).map(|x| u32_at(x, 0)).collect::<Vec<_>>();
-        let pages = |size: usize| size.div_ceil(page);
-        let lists = pages(4 * pages(size));
-        let list = join(&numbers(&bytes[52..52 + 4 * lists]), 4 * pages(size));
-        let directory = join(&numbers(&list), size);
-        let count = u32_at(&directory, 0) as usize;
-        let mut at = 4 + 4 * count;
-        let mut streams = Vec::with_capacity(count);
-        for s in 0..count {
-            let size = u32_at(&directory, 4 + 4 * s) as usize;
-            streams.push((size, numbers(&directory[at..at + 4 * pages(size)])));
-            at += 4 * pages(size);
-        }
-        File { bytes, streams }
-    }
-
-    fn stream(&self, n: usize) -> Vec<u8> {
-        let (size, pages) = &self.streams[n];
-        let page = u32_at(&self.bytes, 32) as usize;
-        let mut all = Vec::with_capacity(*size);
-        for &n in pages {
-            let from = n as usize * page;
-            all.extend_from_slice(&self.bytes[from..from + page.min(size - all.len())]);
-        }
-        all
-    }
 }
 
 fn symbols(out: &mut Vec<u8>, b: &[u8], mut at: usize) {
@@ -329,37 +259,32 @@ fn exports(out: &mut Vec<u8>, b: &[u8]) {
     }
 }
 
-/// The items of a stream of types or ids by their indices.
-struct Items<'a> {
-    first: u32,
-    records: &'a [u8],
-    places: Vec<u32>,
-}
-
-impl<'a> Items<'a> {
-    fn new(b: &'a [u8]) -> Self {
-        let start = u32_at(b, 4) as usize;
-        let records = &b[start..start + u32_at(b, 16) as usize];
-        let (mut places, mut at) = (Vec::new(), 0);
-        while at < records.len() {
-            places.push(at as u32);
-            at += 2 + u16_at(records, at) as usize;
-        }
-        Items { first: u32_at(b, 8), records, places }
-    }
-
-    fn find(&self, index: u32) -> Option<&'a [u8]> {
-        let at = *self.places.get(index.checked_sub(self.first)? as usize)? as usize;
-        Some(&self.records[at + 2..at + 2 + u16_at(self.records, at) as usize])
-    }
-}
-
 /// How many ids there are, and how many bytes they have.
 fn finder(out: &mut Vec<u8>, ids: &Items) {
     let (mut count, mut size) = (0u32, 0);
     while let Some(item) = ids.find(0x1000 + count) {
         count += 1;
         size += item.len();
+    }
+    writeln!(out, "{count} {size}").unwrap();
+}
+
+/// How many types there are, and how many bytes their names have; the names themselves, where they are wanted.
+fn named(out: &mut Vec<u8>, items: &Items, is_listed: bool) {
+    let types = type_names::Types::new(items);
+    let (mut count, mut size, mut name) = (0u32, 0, Vec::new());
+    for index in 0x1000.. {
+        if items.find(index).is_none() {
+            break;
+        }
+        name.clear();
+        types.put_name(&mut name, index);
+        count += 1;
+        size += name.len();
+        if is_listed {
+            out.extend_from_slice(&name);
+            out.push(b'\n');
+        }
     }
     writeln!(out, "{count} {size}").unwrap();
 }
@@ -393,20 +318,6 @@ fn qualified(out: &mut Vec<u8>, ids: &Items, types: &Items) {
     writeln!(out, "{count} {size}").unwrap();
 }
 
-/// The DBI stream, and where each module's record begins in it.
-fn modules_of(file: &File) -> (Vec<u8>, Vec<usize>) {
-    let dbi = file.stream(3);
-    let end = 64 + u32_at(&dbi, 24) as usize;
-    let mut at = 64;
-    let mut starts = Vec::new();
-    while at < end {
-        starts.push(at);
-        let name = cstring(&dbi, at + 64).len();
-        at += (66 + name + cstring(&dbi, at + 65 + name).len() + 3) & !3;
-    }
-    (dbi, starts)
-}
-
 fn main() {
     let words: Vec<String> = std::env::args().collect();
     let file = File::open(&words[1]);
@@ -423,7 +334,7 @@ fn main() {
             continue;
         }
         if word == "named" || word == "names-of-types" {
-            type_names::named(&mut out, &Items::new(&file.stream(2)), word != "named");
+            named(&mut out, &Items::new(&file.stream(2)), word != "named");
             continue;
         }
         if word == "qualified" {

@@ -1,5 +1,5 @@
 // The names of types in plain Rust, of files that aren't damaged: the measure beside which `pdb_types` is put.
-use super::{cstring, decimal, u16_at, u32_at, Items};
+use super::container::{cstring, decimal, u16_at, u32_at, Items};
 use std::collections::HashMap;
 use std::io::Write;
 
@@ -300,6 +300,11 @@ impl<'a> Types<'a> {
         out.push(b')');
     }
 
+    /// Puts the name of a type.
+    pub fn put_name(&self, out: &mut Vec<u8>, index: u32) {
+        self.put_name_at(out, index, DEPTH);
+    }
+
     fn put_name_at(&self, out: &mut Vec<u8>, index: u32, depth: u32) {
         self.put_front(out, index, depth);
         if self.shape(index, depth) == Shape::Function {
@@ -307,24 +312,4 @@ impl<'a> Types<'a> {
         }
         self.put_back(out, index, depth);
     }
-}
-
-/// How many types there are, and how many bytes their names have; the names themselves, where they are wanted.
-pub fn named(out: &mut Vec<u8>, items: &Items, is_listed: bool) {
-    let types = Types::new(items);
-    let (mut count, mut size, mut name) = (0u32, 0, Vec::new());
-    for index in 0x1000.. {
-        if items.find(index).is_none() {
-            break;
-        }
-        name.clear();
-        types.put_name_at(&mut name, index, DEPTH);
-        count += 1;
-        size += name.len();
-        if is_listed {
-            out.extend_from_slice(&name);
-            out.push(b'\n');
-        }
-    }
-    writeln!(out, "{count} {size}").unwrap();
 }

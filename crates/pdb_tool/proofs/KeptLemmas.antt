@@ -1,34 +1,37 @@
 -- The ends of lines that are kept.
-use Rattle.std.proofs.Common.{◌≡◌, ℕ, List, Option, Some, None, length, replicate, slice_set, refl, ap, sym, subst, ◌∙◌}
+use Rattle.std.proofs.Common.{◌≡◌, ◌≤◌, ℕ, List, Option, Some, None, length, replicate, slice_set, refl, ap, sym, subst, ◌∙◌, arith}
 use Rattle.std.specs.List.{All}
 use Rattle.std.proofs.lemmas.List.{length-replicate, length-set}
 use Rattle.std.proofs.lemmas.List.Elements.{All-replicate, All-set}
 use Rattle.std.proofs.lemmas.Option.{none-some}
 use Rattle.std.specs.Option.{unwrap_or}
 use Rattle.pdb_base.specs.declared.index.TypeIndex.{TypeIndex}
-use Rattle.pdb_tool.specs.KeptEnds.{IsEnd, number_of_type}
+use Rattle.pdb_tool.specs.KeptEnds.{HasText, number_of_type}
 use Rattle.pdb_tool.specs.LineNames.{Names, typed_end, typed_text}
 use Rattle.pdb_tool.specs.declared.line_names.LineEnd.{LineEnd}
 
 abbrev nothing : Option LineEnd
 nothing = None
 
-pub vacant_size : (rows : List (Option LineEnd)) → rows ≡ replicate 512 None → length rows ≡ 512
-vacant_size rows e = ap (λ (xs : List (Option LineEnd)). length xs) e ∙ length-replicate 512 nothing
+pub no_more : (n : ℕ) → n ≤ 1024 → 1024 ≤ n → n ≡ 1024
+no_more n h k = omega arith
 
-no_end : (names : Names) → IsEnd names None
-no_end names x e = absurd (none-some x e)
+pub vacant_size : (rows : List (Option LineEnd)) → rows ≡ replicate 1024 None → length rows ≡ 1024
+vacant_size rows e = ap (λ (xs : List (Option LineEnd)). length xs) e ∙ length-replicate 1024 nothing
 
-pub vacant_ends : (names : Names) (rows : List (Option LineEnd)) → rows ≡ replicate 512 None → All (IsEnd names) rows
-vacant_ends names rows e = subst (λ (xs : List (Option LineEnd)). All (IsEnd names) xs) (sym e) (All-replicate (IsEnd names) 512 nothing (no_end names))
+no_end : (text : ℕ → List ℕ) → HasText text None
+no_end text x e = absurd (none-some x e)
+
+pub vacant_ends : (text : ℕ → List ℕ) (rows : List (Option LineEnd)) → rows ≡ replicate 1024 None → All (HasText text) rows
+vacant_ends text rows e = subst (λ (xs : List (Option LineEnd)). All (HasText text) xs) (sym e) (All-replicate (HasText text) 1024 nothing (no_end text))
 
 -- an end that is kept too
-pub one_more_end : (names : Names) (rows : List (Option LineEnd)) (place index : ℕ) (end : LineEnd) → end.index ≡ index → end.text.items ≡ typed_end names (Some (record { 0 = index })) → All (IsEnd names) rows → All (IsEnd names) (slice_set rows place (Some end))
-one_more_end names rows place index end at text all =
-    let is : end.text.items ≡ typed_end names (Some (record { 0 = end.index })) = text ∙ ap (λ (i : ℕ). typed_end names (Some (record { 0 = i }))) (sym at) in
-    All-set (IsEnd names) rows place (Some end) (λ x e. subst (λ (y : LineEnd). y.text.items ≡ typed_end names (Some (record { 0 = y.index }))) (ap (λ (o : Option LineEnd). unwrap_or o end) e) is) all
+pub one_more_end : (text : ℕ → List ℕ) (rows : List (Option LineEnd)) (place index : ℕ) (end : LineEnd) → end.index ≡ index → end.text.items ≡ text index → All (HasText text) rows → All (HasText text) (slice_set rows place (Some end))
+one_more_end text rows place index end at is all =
+    let own : end.text.items ≡ text end.index = is ∙ ap text (sym at) in
+    All-set (HasText text) rows place (Some end) (λ x e. subst (λ (y : LineEnd). y.text.items ≡ text y.index) (ap (λ (o : Option LineEnd). unwrap_or o end) e) own) all
 
-pub as_many_ends : (rows : List (Option LineEnd)) (place : ℕ) (end : LineEnd) → length rows ≡ 512 → length (slice_set rows place (Some end)) ≡ 512
+pub as_many_ends : (rows : List (Option LineEnd)) (place : ℕ) (end : LineEnd) → length rows ≡ 1024 → length (slice_set rows place (Some end)) ≡ 1024
 as_many_ends rows place end size = length-set rows place (Some end) ∙ size
 
 -- lines without a type end as those of index 0 do

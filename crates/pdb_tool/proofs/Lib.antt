@@ -15,6 +15,8 @@ pub mod FirstTexts
 pub mod Patterns
 pub mod PublicNames
 pub mod PlacedRecords
+pub mod OffsetLines
+pub mod LocalWords
 pub mod SomeWord
 pub mod Colons
 pub mod SameSizes

@@ -1,5 +1,5 @@
 -- What is put piece after piece, by calls of which the last may want memory.
-use Rattle.std.proofs.Common.{◌≡◌, ℕ, List, ◌++◌, Result, Ok, Err, OnOk, IfOk, ap, ◌∙◌, append_assoc}
+use Rattle.std.proofs.Common.{◌≡◌, ℕ, List, ◌++◌, Result, Ok, Err, OnOk, IfOk, is_ok, if◌then◌else◌, ap, ◌∙◌, append_assoc}
 
 pub on_ok : {A E : Type 0} {P Q : Type 0} (r : Result A E) → (P → Q) → OnOk r P → OnOk r Q
 on_ok (Ok x) f h = f h
@@ -15,3 +15,8 @@ joined o m n a b e first = e ∙ ap (λ (xs : List ℕ). xs ++ b) first ∙ appe
 pub if_ok : {A E : Type 0} {P Q : A → Type 0} (r : Result A E) → ((x : A) → P x → Q x) → IfOk r P → IfOk r Q
 if_ok (Ok x) f h = f x h
 if_ok (Err e) f h = tt
+
+-- what a call appends that may want memory
+pub appended : {A E : Type 0} (r : Result A E) (n o a : List ℕ) → n ≡ (if is_ok r then o ++ a else o) → OnOk r (n ≡ o ++ a)
+appended (Ok x) n o a e = e
+appended (Err x) n o a e = tt

@@ -2,16 +2,24 @@
 use Rattle.std.specs.Prelude.{◌≡◌, ℕ, List, [], Option, Some, None}
 use Rattle.std.specs.Option.{ForSome}
 use Rattle.pdb_base.specs.declared.index.TypeIndex.{TypeIndex}
-use Rattle.pdb_tool.specs.LineNames.{Names, typed_end}
+use Rattle.pdb_tool.specs.LineNames.{Names, call_end, typed_end}
 use Rattle.pdb_tool.specs.declared.line_names.LineEnd.{LineEnd}
 
 abbrev pub number_of_type : Option TypeIndex → ℕ
 number_of_type None = 0
 number_of_type (Some index) = index.0
 
+-- what is kept at a place is the text of its number
+abbrev pub HasText : (ℕ → List ℕ) → Option LineEnd → Type 0
+HasText text place = ForSome place (λ end. end.text.items ≡ text end.index)
+
 -- what is kept at a place is the end of a line with these names
 abbrev pub IsEnd : Names → Option LineEnd → Type 0
-IsEnd names place = ForSome place (λ end. end.text.items ≡ typed_end names (Some (record { 0 = end.index })))
+IsEnd names = HasText (λ index. typed_end names (Some (record { 0 = index })))
+
+-- what is kept at a place is the end of a line of an inlined call
+abbrev pub IsCallEnd : Names → Option LineEnd → Type 0
+IsCallEnd names = HasText (call_end names)
 
 -- the end at a place, none where nothing is kept
 abbrev pub end_in : Option LineEnd → List ℕ

@@ -9,6 +9,10 @@ use Rattle.pdb_tool.specs.declared.kept_ends.KeptEnds.{KeptEnds}
 abbrev pub kept_text : KeptEnds → ℕ → List ℕ
 kept_text k n = end_in (get_or k.rows.items n None)
 
+-- the end of a line of an inlined call at a place
+abbrev pub kept_call : KeptEnds → ℕ → List ℕ
+kept_call k n = end_in (get_or k.calls.items n None)
+
 -- by what the names at the ends are found
 abbrev pub kept_names : KeptEnds → Names
 kept_names k = names_of_lines k.names

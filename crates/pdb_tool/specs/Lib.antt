@@ -48,6 +48,9 @@ pub mod Wildcards
 pub mod FoundObjects
 pub mod FindTexts
 pub mod PlacedRecords
+pub mod LocalLines
+pub mod RegisterLines
+pub mod CallLines
 pub mod Finders
 pub mod SourcesAsked
 pub mod SourceViews

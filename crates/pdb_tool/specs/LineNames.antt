@@ -15,6 +15,7 @@ use Rattle.pdb_text.specs.OneLine.{one_line}
 use Rattle.pdb_types.specs.FullTypes.{definitions_among, first_definition}
 use Rattle.pdb_types.specs.FunctionIds.{function_type_in}
 use Rattle.pdb_types.specs.TypeTexts.{shown_name}
+use Rattle.pdb_tool.specs.QualifiedTexts.{behind_qualified}
 
 -- what lines have names from
 pub record Names : Type 0 where
@@ -99,3 +100,7 @@ typed_text names (Some index) = if index.0 == 0 then [] else codes ": " ++ one_l
 -- how a line of something with a type ends
 abbrev pub typed_end : Names → Option TypeIndex → List ℕ
 typed_end names index = typed_text names index ++ codes "\n"
+
+-- how a line of an inlined call ends, by the id of the call: with the function's name, and that of its type
+unfoldable pub call_end : Names → ℕ → List ℕ
+call_end names id = behind_qualified (names.called id) ++ typed_end names (names.called_type id)

@@ -9,7 +9,7 @@ use pdb::Symbol;
 use std::alloc::AllocError;
 
 /// Two blanks for each depth, and no more than 64: a file may nest as deep as it is long.
-pub fn put_blanks(out: &mut Vec<u8>, depth: usize) -> Result<(), AllocError>
+fn put_many_blanks(out: &mut Vec<u8>, depth: usize) -> Result<(), AllocError>
     ensures { OnOk result (out.new.items ≡ out.old.items ++ blanks depth) }
 {
     let times = depth.min(32);
@@ -17,6 +17,22 @@ pub fn put_blanks(out: &mut Vec<u8>, depth: usize) -> Result<(), AllocError>
         out.extend_from_slice(b"  ")?;
     }
     Ok(())
+}
+
+/// Two blanks for each depth, and no more than 64. Those of the depths that most symbols have are put at once.
+#[inline(always)]
+pub fn put_blanks(out: &mut Vec<u8>, depth: usize) -> Result<(), AllocError>
+    ensures { OnOk result (out.new.items ≡ out.old.items ++ blanks depth) }
+{
+    match depth {
+        0 => Ok(()),
+        1 => out.extend_from_slice(b"  "),
+        2 => out.extend_from_slice(b"    "),
+        3 => out.extend_from_slice(b"      "),
+        4 => out.extend_from_slice(b"        "),
+        5 => out.extend_from_slice(b"          "),
+        _ => put_many_blanks(out, depth),
+    }
 }
 
 /// The depth of a symbol: one less than that before it where it ends a scope.

@@ -13,6 +13,7 @@ use pdb_text::{put_decimal, put_hex8};
 use std::alloc::AllocError;
 
 /// The name of a field between a blank and `=`.
+#[inline(always)]
 #[tactic(auto, unfolding(crate::specs::FieldTexts::label))]
 pub fn put_label(out: &mut Vec<u8>, name: &[u8]) -> Result<(), AllocError>
     ensures { OnOk result (out.new.items ≡ out.old.items ++ label name.now) }
@@ -24,6 +25,7 @@ pub fn put_label(out: &mut Vec<u8>, name: &[u8]) -> Result<(), AllocError>
 }
 
 /// A number in decimal digits.
+#[inline(always)]
 #[tactic(auto, unfolding(crate::specs::FieldTexts::field))]
 pub fn put_number(out: &mut Vec<u8>, name: &[u8], n: u32) -> Result<(), AllocError>
     ensures { OnOk result (out.new.items ≡ out.old.items ++ field name.now (decimal n)) }
@@ -46,6 +48,7 @@ pub fn put_optional_number(
 }
 
 /// A number in eight hex digits.
+#[inline(always)]
 #[tactic(auto, unfolding(crate::specs::FieldTexts::field))]
 pub fn put_index(out: &mut Vec<u8>, name: &[u8], n: u32) -> Result<(), AllocError>
     ensures { OnOk result (out.new.items ≡ out.old.items ++ field name.now (hex 8 n)) }
@@ -73,6 +76,7 @@ pub fn put_optional_index(
 }
 
 /// `true` or `false`.
+#[inline(always)]
 #[tactic(auto, unfolding(crate::specs::FieldTexts::field))]
 pub fn put_bool(out: &mut Vec<u8>, name: &[u8], is_so: bool) -> Result<(), AllocError>
     ensures { OnOk result (out.new.items ≡ out.old.items ++ field name.now (bool_text is_so)) }
@@ -86,6 +90,7 @@ pub fn put_bool(out: &mut Vec<u8>, name: &[u8], is_so: bool) -> Result<(), Alloc
 }
 
 /// A place.
+#[inline(always)]
 #[tactic(auto, unfolding(crate::specs::FieldTexts::field))]
 pub fn put_place_field(
     out: &mut Vec<u8>,

@@ -1,9 +1,10 @@
-//! The ends of the last lines: most lines end with the name of a type that was written shortly before.
+//! The ends of the last lines: most lines end with the name of a type, or of an inlined function, that was written shortly
+//! before.
 
 ghost use Rattle.std.specs.Prelude.{◌≡◌, ◌<◌, length, replicate, true, None, Some, IfOk, OnOk};
 ghost use Rattle.std.specs.List.{All};
-ghost use Rattle.pdb_tool.specs.KeptEnds.{IsEnd, number_of_type};
-ghost use Rattle.pdb_tool.specs.LineNames.{typed_end};
+ghost use Rattle.pdb_tool.specs.KeptEnds.{IsCallEnd, IsEnd, number_of_type};
+ghost use Rattle.pdb_tool.specs.LineNames.{call_end, typed_end};
 ghost use Rattle.pdb_tool.specs.LineViews.{names_of_lines};
 
 use crate::line_names::{LineEnd, LineNames};
@@ -11,16 +12,19 @@ use pdb::TypeIndex;
 use std::alloc::{AllocError, Global};
 
 /// How many ends are kept: nineteen in twenty lines of large programs have one of so many.
-const KEPT: usize = 512;
+const KEPT: usize = 1024;
 
-/// The ends of the last lines, each at a place that its type's index gives.
+/// The ends of the last lines, each at a place that its type's index gives; those of lines of inlined calls, by their ids.
 #[derive(Drop)]
 pub struct KeptEnds<'x, 'a> {
     alloc: Global,
     names: LineNames<'x, 'a>,
     rows: Vec<Option<LineEnd>>,
+    calls: Vec<Option<LineEnd>>,
     ghost exact: { All (IsEnd (names_of_lines names)) rows.items },
-    ghost full: { length rows.items ≡ 512 },
+    ghost full: { 0 < length rows.items → length rows.items ≡ 1024 },
+    ghost exact_calls: { All (IsCallEnd (names_of_lines names)) calls.items },
+    ghost full_calls: { 0 < length calls.items → length calls.items ≡ 1024 },
 }
 
 /// The index of a type; 0 where there is none.
@@ -35,7 +39,7 @@ fn number_of_type(index: Option<TypeIndex>) -> u32
 
 /// The place of the end of an index. Pointers to a simple type have its index and a multiple of 256; they have other places.
 fn place_of(index: u32) -> usize
-    ensures { result < 512 }
+    ensures { result < 1024 }
 {
     let index = index as usize;
     (index + index / 256) % KEPT
@@ -43,7 +47,7 @@ fn place_of(index: u32) -> usize
 
 /// Places without an end.
 fn vacant(alloc: Global) -> Result<Vec<Option<LineEnd>>, AllocError>
-    ensures { IfOk result (λ rows. rows.items ≡ replicate 512 None) }
+    ensures { IfOk result (λ rows. rows.items ≡ replicate 1024 None) }
 {
     let mut rows = Vec::new(alloc);
     while rows.len() < KEPT {
@@ -53,15 +57,18 @@ fn vacant(alloc: Global) -> Result<Vec<Option<LineEnd>>, AllocError>
 }
 
 impl<'x, 'a> KeptEnds<'x, 'a> {
-    ghost use Rattle.pdb_tool.specs.KeptViews.{kept_names, kept_text};
+    ghost use Rattle.pdb_tool.specs.KeptViews.{kept_call, kept_names, kept_text};
 
-    /// No ends so far, of lines with these names.
-    #[tactic(auto, using(crate::proofs::KeptLemmas::vacant_size, crate::proofs::KeptLemmas::vacant_ends))]
-    pub fn new(alloc: Global, names: LineNames<'x, 'a>) -> Result<Self, AllocError>
-        ensures { IfOk result (λ kept. kept_names kept ≡ names_of_lines names.entry) }
+    /// No ends so far, of lines with these names. It takes no memory.
+    pub fn new(alloc: Global, names: LineNames<'x, 'a>) -> Self
+        ensures { kept_names result ≡ names_of_lines names.entry }
     {
-        let rows = vacant(alloc)?;
-        Ok(KeptEnds { alloc, names, rows })
+        KeptEnds {
+            alloc,
+            names,
+            rows: Vec::new(alloc),
+            calls: Vec::new(alloc),
+        }
     }
 
     /// The names at the ends of lines.
@@ -81,12 +88,25 @@ impl<'x, 'a> KeptEnds<'x, 'a> {
         }
     }
 
+    // Takes the memory for all ends before the first one: a module of a few symbols has none.
+    #[tactic(auto, using(crate::proofs::KeptLemmas::vacant_size, crate::proofs::KeptLemmas::vacant_ends))]
+    fn take_places(&mut self) -> Result<(), AllocError>
+        ensures names { kept_names self.new ≡ kept_names self.old }
+        ensures full { OnOk result (length self.new.rows.items ≡ 1024) }
+    {
+        if self.rows.is_empty() {
+            self.rows = vacant(self.alloc)?;
+        }
+        Ok(())
+    }
+
     // Puts the end of an index at a place.
     fn fill(&mut self, place: usize, index: u32) -> Result<(), AllocError>
-        requires { place < 512 }
+        requires { place < 1024 }
         ensures names { kept_names self.new ≡ kept_names self.old }
         ensures kept { OnOk result (kept_text self.new place ≡ typed_end (kept_names self.new) (Some (record { 0 = index }))) }
     {
+        self.take_places()?;
         let end = self.names.end(self.alloc, index)?;
         self.rows[place] = Some(end);
         Ok(())
@@ -104,6 +124,62 @@ impl<'x, 'a> KeptEnds<'x, 'a> {
             self.fill(place, number)?;
         }
         Ok(place)
+    }
+
+    // Whether the end of lines of the calls of an id is at its place.
+    fn has_call(&self, place: usize, id: u32) -> bool
+        ensures { result ≡ true → kept_call self.now place ≡ call_end (kept_names self.now) id }
+    {
+        match self.calls.get(place) {
+            Some(Some(end)) => end.index == id,
+            _ => false,
+        }
+    }
+
+    // Takes the memory for all ends of lines of calls before the first one.
+    #[tactic(auto, using(crate::proofs::KeptLemmas::vacant_size, crate::proofs::KeptLemmas::vacant_ends))]
+    fn take_calls(&mut self) -> Result<(), AllocError>
+        ensures names { kept_names self.new ≡ kept_names self.old }
+        ensures full { OnOk result (length self.new.calls.items ≡ 1024) }
+    {
+        if self.calls.is_empty() {
+            self.calls = vacant(self.alloc)?;
+        }
+        Ok(())
+    }
+
+    // Puts the end of lines of the calls of an id at a place.
+    fn fill_call(&mut self, place: usize, id: u32) -> Result<(), AllocError>
+        requires { place < 1024 }
+        ensures names { kept_names self.new ≡ kept_names self.old }
+        ensures kept { OnOk result (kept_call self.new place ≡ call_end (kept_names self.new) id) }
+    {
+        self.take_calls()?;
+        let end = self.names.call_end(self.alloc, id)?;
+        self.calls[place] = Some(end);
+        Ok(())
+    }
+
+    /// Where the end of a line of an inlined call is kept from now on.
+    pub fn keep_call(&mut self, id: u32) -> Result<usize, AllocError>
+        ensures names { kept_names self.new ≡ kept_names self.old }
+        ensures kept { IfOk result (λ place. kept_call self.new place ≡ call_end (kept_names self.new) id) }
+    {
+        let place = place_of(id);
+        if !self.has_call(place, id) {
+            self.fill_call(place, id)?;
+        }
+        Ok(place)
+    }
+
+    /// The end of a line of an inlined call that is kept at a place; empty where there is none.
+    pub fn call_at(&self, place: usize) -> &[u8]
+        ensures { result.now ≡ kept_call self.now place }
+    {
+        match self.calls.get(place) {
+            Some(Some(end)) => &end.text,
+            _ => &[],
+        }
     }
 
     /// The end that is kept at a place; empty where there is none.

@@ -6,9 +6,10 @@ ghost use Rattle.pdb.specs.Data.{shown};
 ghost use Rattle.pdb.specs.Qualified.{shown_qualified};
 ghost use Rattle.pdb_resolve.specs.ImportTables.{ids_by};
 ghost use Rattle.pdb_types.specs.FullTypes.{first_definition};
-ghost use Rattle.pdb_tool.specs.LineNames.{declared_type, has_id, names_from, procedure_type, typed_end, typed_text};
+ghost use Rattle.pdb_tool.specs.LineNames.{call_end, declared_type, has_id, names_from, procedure_type, typed_end, typed_text};
 ghost use Rattle.pdb_tool.specs.LineViews.{names_of_lines};
 
+use crate::qualified_texts::put_behind_qualified;
 use crate::type_names::put_type_name;
 use pdb::{IdIndex, ItemFinder, QualifiedName, SymbolData, TypeIndex};
 use pdb_resolve::{CallNames, GlobalIds};
@@ -24,10 +25,14 @@ fn has_id(kind: u16) -> bool
     matches!(kind, 0x1146 | 0x1147 | 0x1156)
 }
 
-/// How lines end behind what has the type of an index: with the name of the type behind a colon.
+/// How many bytes are taken at first for the end of a line, which most ends are not longer than.
+const END_BYTES: usize = 96;
+
+/// How lines end behind what has the type of an index: with the name of the type behind a colon. How lines of the inlined
+/// calls of an id end: with the name of the function and that of its type.
 #[derive(Drop)]
 pub struct LineEnd {
-    /// The index; 0 is no type.
+    /// The index, 0 for no type; or the id.
     pub index: u32,
     /// The end of the lines, line feed and all.
     pub text: Vec<u8>,
@@ -133,10 +138,23 @@ impl<'x, 'a> LineNames<'x, 'a> {
         ensures index { IfOk result (λ end. end.index ≡ index) }
         ensures text { IfOk result (λ end. end.text.items ≡ typed_end (names_of_lines self.now) (Some (record { 0 = index }))) }
     {
-        let mut text = Vec::new(alloc);
+        let mut text = Vec::with_capacity(alloc, END_BYTES)?;
         self.put_type(&mut text, Some(TypeIndex(index)))?;
         put_line_end(&mut text)?;
         Ok(LineEnd { index, text })
+    }
+
+    /// The end of lines of inlined calls of an id: the name of the function, and that of its type.
+    #[tactic(auto, unfolding(crate::specs::LineNames::call_end))]
+    pub fn call_end(&self, alloc: Global, id: u32) -> Result<LineEnd, AllocError>
+        ensures id { IfOk result (λ end. end.index ≡ id) }
+        ensures text { IfOk result (λ end. end.text.items ≡ call_end (names_of_lines self.now) id) }
+    {
+        let mut text = Vec::with_capacity(alloc, END_BYTES)?;
+        put_behind_qualified(&mut text, self.called(IdIndex(id)))?;
+        self.put_type(&mut text, self.called_type(IdIndex(id)))?;
+        put_line_end(&mut text)?;
+        Ok(LineEnd { index: id, text })
     }
 
     // The name of a type behind a colon, where the index is that of a type.

@@ -436,7 +436,7 @@ fn put_symbols(
 ) -> Result<(), AllocError>
     ensures { OnOk result (out.new.items ≡ out.old.items ++ scopes_left (names_of_lines names.entry) machine [] None (symbols_left symbols.entry)) }
 {
-    let mut kept = KeptEnds::new(alloc, names)?;
+    let mut kept = KeptEnds::new(alloc, names);
     let mut around = Vec::new(alloc);
     let mut ranges = RangeLines::new(alloc);
     let mut variable = None;

@@ -9,8 +9,10 @@ ghost use Rattle.pdb.specs.Forms.{Is, kind_at, record_at};
 ghost use Rattle.pdb.specs.Text.{name_bytes};
 ghost use Rattle.pdb.specs.Views.{symbol_of, symbols_left};
 ghost use Rattle.pdb_text.specs.Digits.{hex};
+ghost use Rattle.pdb_tool.specs.CallLines.{call_end_line};
 ghost use Rattle.pdb_tool.specs.Depth.{blanks, depth_at};
 ghost use Rattle.pdb_tool.specs.FieldTexts.{field, fields_text};
+ghost use Rattle.pdb_tool.specs.KeptViews.{kept_names};
 ghost use Rattle.pdb_tool.specs.LineViews.{names_of_lines};
 ghost use Rattle.pdb_tool.specs.SymbolTexts.{damage_text, declared_name, further_text, global_symbols_text, lacks_layout, name_text, parsed_text, record_text, symbol_line, symbol_list_text, symbols_text, unread_text};
 ghost use Rattle.pdb_tool.specs.ModuleMachines.{module_machine};
@@ -22,6 +24,7 @@ ghost use Rattle.pdb_resolve.specs.ModuleCode.{symbols_in};
 ghost use Rattle.pdb_tool.specs.Values.{behind_blank};
 ghost use Rattle.pdb_tool.specs.ValueTexts.{kind_text};
 
+use crate::call_lines::{call_end_line, put_call_text};
 use crate::depth::{depth_of, put_blanks};
 use crate::error_line::{put_error_line, put_refusal_line};
 use crate::fields::{put_index, put_number, put_reference, put_type};
@@ -34,15 +37,19 @@ use crate::fields_data::{
     put_register_relative, put_register_variable, put_thread_storage,
 };
 use crate::fields_references::{put_compile_flags_symbol, put_export, put_procedure_reference};
+use crate::kept_ends::KeptEnds;
 use crate::kind_names::kind_name;
 use crate::line_names::LineNames;
+use crate::local_lines::{local_in, put_local_text};
 use crate::module_machine::machine_of_module;
 use crate::qualified_texts::put_behind_qualified;
 use crate::record_texts::put_record_says;
+use crate::register_lines::put_register_range;
 use crate::values::put_behind_blank;
 use pdb::{
     Error, FallibleIterator, ModuleInfo, RawString, Symbol, SymbolData, SymbolIter, SymbolTable,
 };
+use pdb_base::little_endian::u32_at;
 use pdb_records::{Machine, Record};
 use pdb_text::{put_decimal, put_hex_bytes, put_hex4, put_hex8, put_line_end};
 use std::alloc::{AllocError, Global};
@@ -221,7 +228,7 @@ fn put_record(
 
 /// The line of a symbol at a depth.
 #[tactic(auto, unfolding(crate::specs::SymbolTexts::symbol_line))]
-fn put_symbol(
+fn put_any_symbol(
     alloc: Global,
     out: &mut Vec<u8>,
     names: LineNames<'_, '_>,
@@ -239,6 +246,101 @@ fn put_symbol(
     put_line_end(out)
 }
 
+/// The line of a symbol of the kind of local variables.
+fn put_local_symbol(
+    alloc: Global,
+    out: &mut Vec<u8>,
+    kept: &mut KeptEnds<'_, '_>,
+    machine: Option<Machine>,
+    depth: usize,
+    symbol: &Symbol<'_>,
+) -> Result<(), AllocError>
+    requires { kind_at (symbol_of symbol.now).bytes ≡ 0x113e }
+    ensures names { kept_names kept.new ≡ kept_names kept.old }
+    ensures line { OnOk result (out.new.items ≡ out.old.items ++ symbol_line (kept_names kept.old) machine depth (symbol_of symbol.now)) }
+{
+    let Some((type_index, flags, name)) = local_in(symbol.raw_bytes()) else {
+        return put_any_symbol(alloc, out, kept.names(), machine, depth, symbol);
+    };
+    put_blanks(out, depth)?;
+    put_local_text(out, kept, symbol.index().0, type_index, flags, name)
+}
+
+/// The line of a symbol of the kind of ranges in which a variable is in a register.
+fn put_register_symbol(
+    alloc: Global,
+    out: &mut Vec<u8>,
+    names: LineNames<'_, '_>,
+    machine: Option<Machine>,
+    depth: usize,
+    symbol: &Symbol<'_>,
+) -> Result<(), AllocError>
+    requires { kind_at (symbol_of symbol.now).bytes ≡ 0x1141 }
+    ensures { OnOk result (out.new.items ≡ out.old.items ++ symbol_line (names_of_lines names.entry) machine depth (symbol_of symbol.now)) }
+{
+    let bytes = symbol.raw_bytes();
+    if bytes.len() < 14 {
+        return put_any_symbol(alloc, out, names, machine, depth, symbol);
+    }
+    put_blanks(out, depth)?;
+    put_register_range(out, machine, symbol.index().0, bytes)
+}
+
+/// The line of a symbol of the kind of inlined calls.
+fn put_call_symbol(
+    alloc: Global,
+    out: &mut Vec<u8>,
+    kept: &mut KeptEnds<'_, '_>,
+    machine: Option<Machine>,
+    depth: usize,
+    symbol: &Symbol<'_>,
+) -> Result<(), AllocError>
+    requires { kind_at (symbol_of symbol.now).bytes ≡ 0x114d }
+    ensures names { kept_names kept.new ≡ kept_names kept.old }
+    ensures line { OnOk result (out.new.items ≡ out.old.items ++ symbol_line (kept_names kept.old) machine depth (symbol_of symbol.now)) }
+{
+    let bytes = symbol.raw_bytes();
+    if bytes.len() < 14 || u32_at(bytes, 2) == 0 {
+        return put_any_symbol(alloc, out, kept.names(), machine, depth, symbol);
+    }
+    put_blanks(out, depth)?;
+    put_call_text(out, kept, symbol.index().0, bytes)
+}
+
+/// The line of a symbol of the kind of ends of inlined calls.
+fn put_call_end_symbol(
+    out: &mut Vec<u8>,
+    depth: usize,
+    symbol: &Symbol<'_>,
+) -> Result<(), AllocError>
+    ensures { OnOk result (out.new.items ≡ out.old.items ++ (blanks depth ++ call_end_line (symbol_of symbol.now).index)) }
+{
+    put_blanks(out, depth)?;
+    out.extend_from_slice(&call_end_line(symbol.index().0))
+}
+
+/// The line of a symbol at a depth: those of the most frequent kinds are put together at once.
+#[tactic(auto, using(crate::proofs::OffsetLines::end_of_call_line))]
+fn put_symbol(
+    alloc: Global,
+    out: &mut Vec<u8>,
+    kept: &mut KeptEnds<'_, '_>,
+    machine: Option<Machine>,
+    depth: usize,
+    symbol: &Symbol<'_>,
+) -> Result<(), AllocError>
+    ensures names { kept_names kept.new ≡ kept_names kept.old }
+    ensures line { OnOk result (out.new.items ≡ out.old.items ++ symbol_line (kept_names kept.old) machine depth (symbol_of symbol.now)) }
+{
+    match symbol.raw_kind() {
+        0x113e => put_local_symbol(alloc, out, kept, machine, depth, symbol),
+        0x1141 => put_register_symbol(alloc, out, kept.names(), machine, depth, symbol),
+        0x114d => put_call_symbol(alloc, out, kept, machine, depth, symbol),
+        0x114e => put_call_end_symbol(out, depth, symbol),
+        _ => put_any_symbol(alloc, out, kept.names(), machine, depth, symbol),
+    }
+}
+
 /// The lines of the symbols that an iterator has left, and then that of its fault.
 fn put_symbol_list(
     alloc: Global,
@@ -249,12 +351,13 @@ fn put_symbol_list(
 ) -> Result<(), AllocError>
     ensures { OnOk result (out.new.items ≡ out.old.items ++ symbol_list_text (names_of_lines names.entry) machine 0 (symbols_left symbols.entry)) }
 {
+    let mut kept = KeptEnds::new(alloc, names);
     let mut depth = 0usize;
     loop {
         match symbols.next() {
             Ok(Some(symbol)) => {
                 depth = depth_of(depth, &symbol);
-                put_symbol(alloc, out, names, machine, depth, &symbol)?;
+                put_symbol(alloc, out, &mut kept, machine, depth, &symbol)?;
                 if symbol.starts_scope() {
                     depth += 1;
                 }

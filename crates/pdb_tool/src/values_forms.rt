@@ -1,6 +1,6 @@
 //! Values of single forms, each put behind what is there already.
 
-ghost use Rattle.std.specs.Prelude.{◌≡◌, ◌++◌, codes, flat_map, OnOk};
+ghost use Rattle.std.specs.Prelude.{◌≡◌, ◌++◌, [], ◌∷◌, codes, flat_map, OnOk};
 ghost use Rattle.std.specs.Fmt.{decimal, signed_decimal};
 ghost use Rattle.pdb.specs.Data.{shown_register, shown_registers, shown_thunk_kind};
 ghost use Rattle.pdb_symbols.specs.declared.thunks.ThunkKind.TheVariants as does;
@@ -12,13 +12,16 @@ use pdb::{
     CompilerVersion, RawString, Register, ThunkAdjustor, ThunkKind, TrampolineType, Variant,
 };
 use pdb_records::{Machine, language_name, processor_name};
-use pdb_text::{put_decimal, put_hex_bytes, put_hex2, put_hex4};
+use pdb_text::{hex4, put_decimal, put_hex_bytes, put_hex2, put_hex4};
 use std::alloc::AllocError;
 
 /// A signed number in decimal digits.
 pub fn put_signed(out: &mut Vec<u8>, n: i64) -> Result<(), AllocError>
     ensures { OnOk result (out.new.items ≡ out.old.items ++ signed_decimal n) }
 {
+    if (0..0x1_0000_0000).contains(&n) {
+        return put_decimal(out, n as u64);
+    }
     let alloc = *out.allocator();
     let text = format!(in alloc; "{n}")?;
     out.extend_from_slice(text.as_bytes())
@@ -202,6 +205,67 @@ pub fn put_registers(
     put_more_registers(out, machine, behind)
 }
 
+/// The two hex digits of a byte.
+#[inline(always)]
+#[tactic(auto, unfolding(pdb_text::specs::Digits::hex))]
+fn hex2(byte: u8) -> [u8; 2]
+    ensures { result ≡ hex 2 byte }
+{
+    let digits = hex4(u16::from(byte));
+    [digits[2], digits[3]]
+}
+
+/// Those of two bytes.
+#[inline(always)]
+fn hex_of_two(a: u8, b: u8) -> [u8; 4]
+    ensures { result ≡ flat_map (hex 2) (a ∷ b ∷ []) }
+{
+    let a = hex2(a);
+    let b = hex2(b);
+    [a[0], a[1], b[0], b[1]]
+}
+
+/// Those of four bytes.
+#[inline(always)]
+fn hex_of_four(a: u8, b: u8, c: u8, d: u8) -> [u8; 8]
+    ensures { result ≡ flat_map (hex 2) (a ∷ b ∷ c ∷ d ∷ []) }
+{
+    let a = hex2(a);
+    let b = hex2(b);
+    let c = hex2(c);
+    let d = hex2(d);
+    [a[0], a[1], b[0], b[1], c[0], c[1], d[0], d[1]]
+}
+
+/// The bytes in two hex digits each, of which there are three at most.
+#[inline(always)]
+fn put_few_bytes(out: &mut Vec<u8>, bytes: &[u8]) -> Result<(), AllocError>
+    ensures { OnOk result (out.new.items ≡ out.old.items ++ flat_map (hex 2) bytes.now) }
+{
+    match bytes {
+        [] => Ok(()),
+        [a] => out.extend_from_slice(&hex2(*a)),
+        [a, b] => out.extend_from_slice(&hex_of_two(*a, *b)),
+        [a, b, c] => {
+            out.extend_from_slice(&hex_of_two(*a, *b))?;
+            out.extend_from_slice(&hex2(*c))
+        }
+        _ => put_hex_bytes(out, bytes),
+    }
+}
+
+/// The bytes in two hex digits each, four at a time.
+fn put_all_bytes(out: &mut Vec<u8>, bytes: &[u8]) -> Result<(), AllocError>
+    ensures { OnOk result (out.new.items ≡ out.old.items ++ flat_map (hex 2) bytes.now) }
+{
+    let mut rest = bytes;
+    while let [a, b, c, d, behind @ ..] = rest {
+        out.extend_from_slice(&hex_of_four(*a, *b, *c, *d))?;
+        rest = behind;
+    }
+    put_few_bytes(out, rest)
+}
+
 /// The bytes in two hex digits each, or `-` where there is none.
 pub fn put_bytes(out: &mut Vec<u8>, bytes: &[u8]) -> Result<(), AllocError>
     ensures { OnOk result (out.new.items ≡ out.old.items ++ bytes_text bytes.now) }
@@ -209,5 +273,5 @@ pub fn put_bytes(out: &mut Vec<u8>, bytes: &[u8]) -> Result<(), AllocError>
     if bytes.is_empty() {
         return out.extend_from_slice(b"-");
     }
-    put_hex_bytes(out, bytes)
+    put_all_bytes(out, bytes)
 }

@@ -109,7 +109,7 @@ fn values_of_constants(rt: HostRuntime) -> Result<(), Fail> {
 
 #[test]
 fn flags_of_locals(rt: HostRuntime) -> Result<(), Fail> {
-    let rows: [(&[u8], &str); 12] = [
+    let rows: [(&[u8], &str); 16] = [
         (
             b"\x3e\x11\x07\x10\x00\x00\x00\x00x\x00",
             "S_LOCAL type_index=00001007 flags=- x: ??",
@@ -157,6 +157,22 @@ fn flags_of_locals(rt: HostRuntime) -> Result<(), Fail> {
         (
             b"\x3e\x11\x07\x10\x00\x00\x11\x02x\x00",
             "S_LOCAL type_index=00001007 flags=param+aggregated+enreg_glob x: ??",
+        ),
+        (
+            b"\x3e\x11\x07\x10\x00\x00\x01\x01x\x00",
+            "S_LOCAL type_index=00001007 flags=param+optimizedout x: ??",
+        ),
+        (
+            b"\x3e\x11\x74\x00\x00\x00\x00\x00\x00",
+            "S_LOCAL type_index=00000074 flags=-: int",
+        ),
+        (
+            b"\x3e\x11\x07\x10\x00\x00\x00",
+            "S_LOCAL error 1 bytes=0710000000",
+        ),
+        (
+            b"\x3e\x11\x07\x10\x00\x00\x00\x00x",
+            "S_LOCAL error 1 bytes=07100000000078",
         ),
     ];
     for (record, wanted) in rows {
@@ -251,7 +267,7 @@ fn flags_of_exports(rt: HostRuntime) -> Result<(), Fail> {
 
 #[test]
 fn code(rt: HostRuntime) -> Result<(), Fail> {
-    let rows: [(&[u8], &str); 11] = [
+    let rows: [(&[u8], &str); 14] = [
         (
             b"\x56\x11\x00\x00\x00\x00\x90\x00\x00\x00\xa0\x00\x00\x00\x21\x00\x00\x00\x04\x00\x00\x00\x1e\x00\x00\x00\x09\x10\x00\x00\x50\x00\x00\x00\x01\x00\x21f\x00",
             "S_LPROC32_DPC_ID parent=- end=00000090 next=000000a0 len=33 dbg_start_offset=4 dbg_end_offset=30 type_index=00001009 offset=0001:00000050 flags=nofpo+cust_call global=false dpc=true f",
@@ -267,6 +283,18 @@ fn code(rt: HostRuntime) -> Result<(), Fail> {
         (
             b"\x4d\x11\x10\x00\x00\x00\x60\x00\x00\x00\x01\x10\x00\x00\x07\x00\x00\x00\x0c\x02\x08",
             "S_INLINESITE parent=00000010 end=00000060 inlinee=00001001 invocations=- annotations=070000000c0208 ??",
+        ),
+        (
+            b"\x4d\x11\x10\x00\x00\x00\x60\x00\x00\x00\x01\x10\x00\x00\x01\x23\x45\x67\x89\xab\xcd\xef\xfe",
+            "S_INLINESITE parent=00000010 end=00000060 inlinee=00001001 invocations=- annotations=0123456789abcdeffe ??",
+        ),
+        (
+            b"\x4d\x11\x10\x00\x00\x00\x60\x00\x00\x00\x01\x10\x00\x00\x0c\x02",
+            "S_INLINESITE parent=00000010 end=00000060 inlinee=00001001 invocations=- annotations=0c02 ??",
+        ),
+        (
+            b"\x4d\x11\x10\x00\x00\x00\x60\x00\x00\x00\x01\x10\x00",
+            "S_INLINESITE error 1 bytes=1000000060000000011000",
         ),
         (
             b"\x4d\x11\x00\x00\x00\x00\x60\x00\x00\x00\x01\x10\x00\x00",

@@ -5,8 +5,8 @@ use Rattle.pdb_tool.proofs.kept_ends.vacant.Given as goal
 abbrev pub invariant-loop-rows : goal.invariant-loop-rows
 invariant-loop-rows l = record {
   vacant : l.rows.items ≡ replicate (length l.rows.items) None;
-  few : length l.rows.items ≤ 512;
+  few : length l.rows.items ≤ 1024;
 }
 
 abbrev pub decreases-loop-rows : goal.decreases-loop-rows
-decreases-loop-rows l = 512 - length l.rows.items
+decreases-loop-rows l = 1024 - length l.rows.items

@@ -1,12 +1,16 @@
+use Rattle.std.proofs.Common.{ℕ, Some}
+use Rattle.pdb_tool.specs.LineNames.{typed_end}
 use Rattle.pdb_tool.specs.LineViews.{names_of_lines}
 use Rattle.pdb_tool.proofs.KeptLemmas.{as_many_ends, one_more_end}
 use Rattle.pdb_tool.proofs.kept_ends.KeptEnds.fill.Goals as goal
 
 pub invariant_of-self-2 : goal.invariant_of-self-2
 invariant_of-self-2 c =
-    let kept = c.args.self.now in
+    let kept = c.take_places.new.self in
     let end = c.in_ok-end.end in
     record {
-      exact = one_more_end (names_of_lines kept.names) kept.rows.items c.args.place c.args.index end c.in_ok-end.ensures.index c.in_ok-end.ensures.text kept.exact;
-      full = as_many_ends kept.rows.items c.args.place end kept.full;
+      exact = one_more_end (λ (index : ℕ). typed_end (names_of_lines kept.names) (Some (record { 0 = index }))) kept.rows.items c.args.place c.args.index end c.in_ok-end.ensures.index c.in_ok-end.ensures.text kept.exact;
+      full = λ some. as_many_ends kept.rows.items c.args.place end c.in_ok-take_places.ensures.full;
+      exact_calls = kept.exact_calls;
+      full_calls = kept.full_calls;
     }

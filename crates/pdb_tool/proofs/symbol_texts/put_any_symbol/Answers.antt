@@ -1,6 +1,6 @@
 use Rattle.pdb_tool.specs.SymbolTexts.{symbol_line}
 use Rattle.pdb_tool.proofs.Results.{joined, more}
-use Rattle.pdb_tool.proofs.symbol_texts.put_symbol.Goals as goal
+use Rattle.pdb_tool.proofs.symbol_texts.put_any_symbol.Goals as goal
 
 pub returns : goal.returns
 unfolding symbol_line

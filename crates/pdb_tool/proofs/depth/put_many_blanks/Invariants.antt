@@ -1,6 +1,6 @@
 use Rattle.std.proofs.Common.{◌≡◌, ◌++◌}
 use Rattle.pdb_tool.specs.Depth.{blanks_of}
-use Rattle.pdb_tool.proofs.depth.put_blanks.Given as goal
+use Rattle.pdb_tool.proofs.depth.put_many_blanks.Given as goal
 
 -- the blanks of as many depths were put
 abbrev pub invariant-loop : goal.invariant-loop

@@ -1,7 +1,7 @@
 use Rattle.std.proofs.Common.{List, ℕ, ◌++◌, codes, ap, sym, ◌∙◌, append_assoc}
 use Rattle.pdb_tool.specs.Depth.{blanks_of}
 use Rattle.pdb_tool.proofs.Blanks.{blanks_more}
-use Rattle.pdb_tool.proofs.depth.put_blanks.Goals as goal
+use Rattle.pdb_tool.proofs.depth.put_many_blanks.Goals as goal
 
 pub loop-preserved : goal.loop-preserved
 loop-preserved c =
