@@ -502,7 +502,7 @@ typedef struct pdb_record_t {
     uint32_t location;        /* of a variable, a range or a cookie: PDB_STORED_IN_REGISTER, .. */
     uint32_t number;          /* of a register or of a program; of PDB_STORED_BY_FRAME 0: PDB_FRAME_PROCEDURE has the register */
     int32_t displacement;
-    uint32_t offset, section; /* its place in the image: of a range its start, of PDB_FRAME_PROCEDURE the exception handler */
+    uint32_t offset, section; /* of a range its start, of PDB_FRAME_PROCEDURE the exception handler */
     uint32_t size;            /* bytes: of a range, of code, of a frame, of an instruction, of a section */
     uint32_t part;            /* the offset of the part in the variable, in bytes */
     uint32_t has_place;       /* 1 or 0 */

@@ -34,7 +34,7 @@ pub struct PdbRecord<'a> {
     pub number: u32,
     /// How many bytes behind the register's value.
     pub displacement: i32,
-    /// The offset of its place in the section.
+    /// The offset in the section: of a range its start.
     pub offset: u32,
     /// The section.
     pub section: u32,
@@ -42,9 +42,9 @@ pub struct PdbRecord<'a> {
     pub size: u32,
     /// The offset of a part in its variable.
     pub part: u32,
-    /// 1 where it has a place in the image.
+    /// 1 where it has an offset in a section.
     pub has_place: u32,
-    /// 1 where it tells of a part of the variable.
+    /// 1 where it is of a part of the variable.
     pub is_part: u32,
 }
 

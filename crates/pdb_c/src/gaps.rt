@@ -6,8 +6,8 @@ ghost use Rattle.pdb_c.specs.Lists.{IsListed, Listed};
 ghost use Rattle.pdb_c.specs.RecordNumbers.{gap_row, gaps_in_record};
 
 use crate::answers::{code_of, list_code};
-use crate::record_fields::record_gaps;
 use crate::further_records::record_in;
+use crate::record_fields::record_gaps;
 use crate::rooms::put_row;
 use pdb::FallibleIterator;
 use pdb_records::{AddressGap, GapsIter};
@@ -54,7 +54,8 @@ fn fill(mut gaps: GapsIter<'_>, rows: &mut [PdbGap], count: &mut usize) -> u32
     }
 }
 
-/// The gaps of a record of a range, as many as there is room for, and how many there are; none of another further record.
+/// The gaps of a record of a range, as many as the buffer has rows, and how many there are. Another further record has
+/// none.
 #[unsafe(no_mangle)]
 pub extern "C" fn pdb_gaps(bytes: &[u8], rows: &mut [PdbGap], count: &mut usize) -> u32
     ensures { Listed (λ r. r) gap_row result rows.old rows.new count.new (gaps_in_record bytes.now) }

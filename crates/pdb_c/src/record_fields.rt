@@ -106,7 +106,7 @@ fn record_range(said: &Record<'_>) -> Option<AddressRange>
     }
 }
 
-/// The place in the image of a record without a range.
+/// The section and the offset of a record without a range.
 fn other_place(said: &Record<'_>) -> Option<PdbInternalSectionOffset>
     ensures { result ≡ other_place (shown_record said.now) }
 {
@@ -129,7 +129,7 @@ fn other_place(said: &Record<'_>) -> Option<PdbInternalSectionOffset>
     }
 }
 
-/// The place in the image.
+/// The section and the offset: of a range its start.
 pub fn record_place(said: &Record<'_>) -> Option<PdbInternalSectionOffset>
     ensures { result ≡ record_place (shown_record said.now) }
 {
@@ -139,7 +139,7 @@ pub fn record_place(said: &Record<'_>) -> Option<PdbInternalSectionOffset>
     }
 }
 
-/// How many bytes has what a record without a range tells of.
+/// The size in bytes of what a record without a range describes.
 fn other_size(said: &Record<'_>) -> u32
     ensures { result ≡ other_size (shown_record said.now) }
 {
@@ -154,7 +154,7 @@ fn other_size(said: &Record<'_>) -> u32
     }
 }
 
-/// How many bytes what the record tells of has.
+/// The size in bytes of what the record describes.
 pub fn record_size(said: &Record<'_>) -> u32
     ensures { result ≡ record_size (shown_record said.now) }
 {

@@ -20,7 +20,7 @@ use pdb::{Error, MemorySource, PDB, Result};
 use pdb_resolve::{Location, Resolver, Streams, VariableAt, VariableKind, VariablePart};
 use std::alloc::Global;
 
-/// A variable, or a part of one, and where it is while the code at an address runs. Its name stands in the room of names.
+/// A variable, or a part of one, and where it is while the code at an address runs. Its name is in the buffer of names.
 #[repr(C)]
 #[derive(Clone, Copy)]
 pub struct PdbVariable {
@@ -131,7 +131,14 @@ fn put_part_rows(
 {
     for part in parts {
         let stored = storage_numbers(part.storage);
-        let row = variable_row(variable, parts.len(), Some(part.offset), stored, address, name_at);
+        let row = variable_row(
+            variable,
+            parts.len(),
+            Some(part.offset),
+            stored,
+            address,
+            name_at,
+        );
         put_variable_row(rows, count, row)?;
     }
     Ok(())
@@ -246,8 +253,8 @@ fn put_opened<'s>(
 }
 
 /// The variables in scope at addresses, one address after the other: of each a row, or one for each of its parts, in the
-/// order of their records; and their names: each as far as its room reaches; how many rows there are, and how many bytes of
-/// names. The file is opened once. Out of memory, both counts are 0.
+/// order of their records; and their names: each as far as its buffer reaches; how many rows there are, and how many bytes
+/// of names. The file is opened once. Out of memory, both counts are 0.
 #[unsafe(no_mangle)]
 pub extern "C" fn pdb_variables(
     alloc: Global,
