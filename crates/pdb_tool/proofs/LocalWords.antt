@@ -1,5 +1,5 @@
 -- The flags of a local variable that most words have.
-use Rattle.std.proofs.Common.{◌≡◌, ℕ, List, refl}
+use Rattle.std.proofs.Common.{◌≡◌, refl}
 use Rattle.std.specs.Prelude.{codes}
 use Rattle.pdb_symbols.specs.Flags.{local_flags_of}
 use Rattle.pdb_tool.specs.Flags.{local_flags}

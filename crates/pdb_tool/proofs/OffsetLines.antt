@@ -1,5 +1,5 @@
 -- The lines of the most frequent symbols, by what stands at the offsets of their records, are those of what the records say.
-use Rattle.std.proofs.Common.{◌≡◌, ◌≢◌, ◌≤◌, ℕ, true, false, List, [], ◌++◌, length, drop, Option, Some, None, Result, Ok, refl, ap, sym, ◌∙◌, append_assoc, append-nil, arith, leb, nat_eq}
+use Rattle.std.proofs.Common.{◌≡◌, ◌≢◌, ◌≤◌, ℕ, true, false, List, [], ◌++◌, length, drop, Option, Some, None, Result, Ok, refl, ap, ◌∙◌, append_assoc, append-nil, arith, leb, nat_eq}
 use Rattle.std.specs.Prelude.{codes}
 use Rattle.std.specs.Fmt.{decimal}
 use Rattle.pdb.specs.Error.{Error}
