@@ -21,6 +21,41 @@ use Rattle.pdb_c.specs.declared.record_fields.FlagsPlace.TheVariants.{NoFlags, O
 use Rattle.pdb_c.specs.declared.further_records.PdbRecord.{PdbRecord}
 use Rattle.pdb_c.specs.declared.storage_numbers.StorageNumbers.{StorageNumbers}
 
+-- the number of a record layout from 27 on
+abbrev pub form_from_27 : Says → ℕ
+form_from_27 (RegisterRelativeOld offset type_index register name) = 27
+form_from_27 (With parent end len offset name) = 28
+form_from_27 (TablePath s) = 29
+form_from_27 (TypeReference s) = 30
+form_from_27 (MiniReference value of_module flags name) = 31
+form_from_27 (Discarded why file line content) = 32
+form_from_27 (Compile cpu language flags name) = 33
+form_from_27 (Search s) = 34
+form_from_27 EndOfArguments = 35
+form_from_27 (Slot param slot type_index name) = 36
+form_from_27 (ManagedSlot slot type_index attributes name) = 37
+form_from_27 (ManagedFrameRelative offset type_index attributes name) = 38
+form_from_27 (ManagedRegister type_index attributes register name) = 39
+form_from_27 (ManagedRegisterRelative offset type_index register attributes name) = 40
+form_from_27 says = 0
+
+-- the same from 14 on
+abbrev pub form_from_14 : Says → ℕ
+form_from_14 (FunctionList relation functions invocations) = 14
+form_from_14 (Jumps s) = 15
+form_from_14 (CoffGroup len characteristics offset name) = 16
+form_from_14 (Section s) = 17
+form_from_14 (EnvironmentBlock rev strings) = 18
+form_from_14 (Annotation offset strings) = 19
+form_from_14 (Pogo s) = 20
+form_from_14 (HotPatchFunction id name) = 21
+form_from_14 (ManagedProcedure s) = 22
+form_from_14 (TokenReference sum_name symbol_index of_module name) = 23
+form_from_14 (Oem id type_index content) = 24
+form_from_14 (LocalGroupShared type_index flags data_slot data_offset name) = 25
+form_from_14 (PointerTagMap tags) = 26
+form_from_14 says = form_from_27 says
+
 -- the number of a record layout, from 1
 abbrev pub record_form : Says → ℕ
 record_form (FrameProcedure s) = 1
@@ -36,33 +71,7 @@ record_form (FileStatic type_index module_file flags name) = 10
 record_form (FrameCookieSays s) = 11
 record_form (CallSite s) = 12
 record_form (HeapAllocation s) = 13
-record_form (FunctionList relation functions invocations) = 14
-record_form (Jumps s) = 15
-record_form (CoffGroup len characteristics offset name) = 16
-record_form (Section s) = 17
-record_form (EnvironmentBlock rev strings) = 18
-record_form (Annotation offset strings) = 19
-record_form (Pogo s) = 20
-record_form (HotPatchFunction id name) = 21
-record_form (ManagedProcedure s) = 22
-record_form (TokenReference sum_name symbol_index of_module name) = 23
-record_form (Oem id type_index content) = 24
-record_form (LocalGroupShared type_index flags data_slot data_offset name) = 25
-record_form (PointerTagMap tags) = 26
-record_form (RegisterRelativeOld offset type_index register name) = 27
-record_form (With parent end len offset name) = 28
-record_form (TablePath s) = 29
-record_form (TypeReference s) = 30
-record_form (MiniReference value of_module flags name) = 31
-record_form (Discarded why file line content) = 32
-record_form (Compile cpu language flags name) = 33
-record_form (Search s) = 34
-record_form EndOfArguments = 35
-record_form (Slot param slot type_index name) = 36
-record_form (ManagedSlot slot type_index attributes name) = 37
-record_form (ManagedFrameRelative offset type_index attributes name) = 38
-record_form (ManagedRegister type_index attributes register name) = 39
-record_form (ManagedRegisterRelative offset type_index register attributes name) = 40
+record_form says = form_from_14 says
 
 -- where a variable or a part of it is; of a frame's cookie where that is
 abbrev pub record_storage : Says → StorageNumbers

@@ -2,12 +2,57 @@
 
 ghost use Rattle.std.specs.Prelude.{◌≡◌, ◌+◌, nat_le, length};
 ghost use Rattle.pdb_records.specs.RecordViews.{gaps_in, shown_record};
-ghost use Rattle.pdb_c.specs.RecordNumbers.{flags_at, flags_place, number_there, other_place, other_size, record_form, record_gaps, record_name, record_part, record_place, record_range, record_size, record_storage, record_type};
+ghost use Rattle.pdb_c.specs.RecordNumbers.{flags_at, flags_place, form_from_14, form_from_27, number_there, other_place, other_size, record_form, record_gaps, record_name, record_part, record_place, record_range, record_size, record_storage, record_type};
 
 use crate::storage_numbers::{StorageNumbers, stored, stored_nowhere};
 use pdb::PdbInternalSectionOffset;
 use pdb_base::little_endian::{u8_at, u16_at, u32_at};
 use pdb_records::{AddressRange, Gaps, Record};
+
+/// The number of a record layout from 27 on.
+fn form_from_27(said: &Record<'_>) -> u32
+    ensures { result ≡ form_from_27 (shown_record said.now) }
+{
+    match said {
+        Record::RegisterRelativeOld(_) => 27,
+        Record::With(_) => 28,
+        Record::VirtualTablePath(_) => 29,
+        Record::ModuleTypeReference(_) => 30,
+        Record::MiniReference(_) => 31,
+        Record::Discarded(_) => 32,
+        Record::Compile(_) => 33,
+        Record::StartSearch(_) => 34,
+        Record::EndOfArguments => 35,
+        Record::Slot(_) => 36,
+        Record::ManagedSlot(_) => 37,
+        Record::ManagedFrameRelative(_) => 38,
+        Record::ManagedRegister(_) => 39,
+        Record::ManagedRegisterRelative(_) => 40,
+        _ => 0,
+    }
+}
+
+/// The same from 14 on.
+fn form_from_14(said: &Record<'_>) -> u32
+    ensures { result ≡ form_from_14 (shown_record said.now) }
+{
+    match said {
+        Record::FunctionList(_) => 14,
+        Record::JumpTable(_) => 15,
+        Record::CoffGroup(_) => 16,
+        Record::Section(_) => 17,
+        Record::EnvironmentBlock(_) => 18,
+        Record::Annotation(_) => 19,
+        Record::PogoData(_) => 20,
+        Record::HotPatchFunction(_) => 21,
+        Record::ManagedProcedure(_) => 22,
+        Record::TokenReference(_) => 23,
+        Record::Oem(_) => 24,
+        Record::LocalGroupShared(_) => 25,
+        Record::PointerTagMap(_) => 26,
+        _ => form_from_27(said),
+    }
+}
 
 /// The number of a record layout, from 1.
 pub fn record_form(said: &Record<'_>) -> u32
@@ -27,33 +72,7 @@ pub fn record_form(said: &Record<'_>) -> u32
         Record::FrameCookie(_) => 11,
         Record::CallSiteInfo(_) => 12,
         Record::HeapAllocationSite(_) => 13,
-        Record::FunctionList(_) => 14,
-        Record::JumpTable(_) => 15,
-        Record::CoffGroup(_) => 16,
-        Record::Section(_) => 17,
-        Record::EnvironmentBlock(_) => 18,
-        Record::Annotation(_) => 19,
-        Record::PogoData(_) => 20,
-        Record::HotPatchFunction(_) => 21,
-        Record::ManagedProcedure(_) => 22,
-        Record::TokenReference(_) => 23,
-        Record::Oem(_) => 24,
-        Record::LocalGroupShared(_) => 25,
-        Record::PointerTagMap(_) => 26,
-        Record::RegisterRelativeOld(_) => 27,
-        Record::With(_) => 28,
-        Record::VirtualTablePath(_) => 29,
-        Record::ModuleTypeReference(_) => 30,
-        Record::MiniReference(_) => 31,
-        Record::Discarded(_) => 32,
-        Record::Compile(_) => 33,
-        Record::StartSearch(_) => 34,
-        Record::EndOfArguments => 35,
-        Record::Slot(_) => 36,
-        Record::ManagedSlot(_) => 37,
-        Record::ManagedFrameRelative(_) => 38,
-        Record::ManagedRegister(_) => 39,
-        Record::ManagedRegisterRelative(_) => 40,
+        _ => form_from_14(said),
     }
 }
 
