@@ -12,12 +12,13 @@
  *   - Pointers have 64 bits.
  * A buffer and a record to be filled may hold any bytes: nothing reads them.
  *
- * Buffers A parameter room, room_size, rows_room or names_room is the capacity of the buffer before it, in records or, for
- *         uint8_t, in bytes. Where a capacity is too small the call writes what fits, returns PDB_ROOM, and sets how much
+ * Buffers A parameter capacity, buffer_size, rows_capacity or names_capacity is the capacity of the buffer before it, in
+ *         records or, for uint8_t, in bytes. Where a capacity is too small the call writes what fits, returns PDB_ROOM, and sets how much
  *         there is: call with capacity 0 to get the size first. A list with an error behind its items returns that error,
  *         whether or not the items fit: compare *count with the capacity.
- * Borrow  pdb_module, pdb_symbol, pdb_file, pdb_import, pdb_member, pdb_record_t, pdb_image_t and a name of pdb_name point into the bytes that were
- *         passed in that call. They are valid as long as these stay where they are, unchanged. No zero byte ends a name: use sizes.
+ * Borrow  pdb_module, pdb_symbol, pdb_file, pdb_import, pdb_member, pdb_record_t, pdb_image_t and a name of pdb_name
+ *         point into the bytes that were passed in that call. They are valid as long as these stay where they are,
+ *         unchanged. No zero byte ends a name: use sizes.
  * Memory  Calls that may take memory say so. All of it is freed before they return. Where malloc fails, they return
  *         PDB_OUT_OF_MEMORY; nothing aborts, and the same call may be made again. What a buffer then holds is unspecified,
  *         and each count is 0; pdb_symbols and pdb_global_symbols count the symbols before the one that takes memory.
@@ -116,7 +117,7 @@ pdb_code pdb_debug_information(const uint8_t *file, size_t file_size, pdb_debug_
 
 /* The key under which a symbol server stores the file: text of at most 40 bytes, without a zero byte behind it. *size is
  * its number of bytes. Takes memory. On an error nothing is written, and *size is 0. */
-pdb_code pdb_key(const uint8_t *file, size_t file_size, uint8_t *room, size_t room_size, size_t *size);
+pdb_code pdb_key(const uint8_t *file, size_t file_size, uint8_t *buffer, size_t buffer_size, size_t *size);
 
 /* ---- Streams. */
 
@@ -131,14 +132,14 @@ typedef struct pdb_stream {
 #define PDB_NO_STREAM 0xffff /* has no bytes, and is no error */
 
 /* The streams of count numbers: a row of each, and their bytes one after the other in the buffer. *size is the number of
- * all their bytes. The file is opened once. PDB_ROOM where rows_room is below count, or room_size below *size; what fits is
+ * all their bytes. The file is opened once. PDB_ROOM where rows_capacity is below count, or buffer_size below *size; what fits is
  * written. Any other code but 0 is why the file can't be opened, or PDB_OUT_OF_MEMORY. Takes memory. */
 pdb_code pdb_streams(const uint8_t *file, size_t file_size, const uint16_t *numbers, size_t count,
-                     pdb_stream *rows, size_t rows_room, uint8_t *room, size_t room_size, size_t *size);
+                     pdb_stream *rows, size_t rows_capacity, uint8_t *buffer, size_t buffer_size, size_t *size);
 
 /* The bytes of the stream with a name, as "/names", the string table. Takes memory. */
 pdb_code pdb_named_stream(const uint8_t *file, size_t file_size, const uint8_t *name, size_t name_size,
-                          uint8_t *room, size_t room_size, size_t *size);
+                          uint8_t *buffer, size_t buffer_size, size_t *size);
 
 typedef struct pdb_stream_name {
     size_t at;       /* the offset of the name in names */
@@ -150,8 +151,8 @@ typedef struct pdb_stream_name {
  * names counts. *count is how many there are, and *size how many bytes their names have. PDB_ROOM where either buffer is too
  * small; what fits is written. Any other code but 0 is why the file can't be opened, why its names can't be read, or
  * PDB_OUT_OF_MEMORY: then nothing is written, and *count and *size are 0. Takes memory. */
-pdb_code pdb_stream_names(const uint8_t *file, size_t file_size, pdb_stream_name *records, size_t room, size_t *count,
-                          uint8_t *names, size_t names_room, size_t *size);
+pdb_code pdb_stream_names(const uint8_t *file, size_t file_size, pdb_stream_name *records, size_t capacity, size_t *count,
+                          uint8_t *names, size_t names_capacity, size_t *size);
 
 /* ---- Sections of the image, as the file has their headers. */
 
@@ -173,7 +174,7 @@ typedef struct pdb_section {
 /* The section headers; *count is how many there are. PDB_SECTIONS_NOT_FOUND where the file has no stream of them. Any other
  * code but 0 and PDB_ROOM is why the file can't be opened, why the headers can't be read, or PDB_OUT_OF_MEMORY. On each of
  * these errors nothing is written, and *count is 0. Takes memory. */
-pdb_code pdb_sections(const uint8_t *file, size_t file_size, pdb_section *records, size_t room, size_t *count);
+pdb_code pdb_sections(const uint8_t *file, size_t file_size, pdb_section *records, size_t capacity, size_t *count);
 
 /* ---- Modules, of the DBI stream's bytes. */
 
@@ -188,7 +189,7 @@ typedef struct pdb_module {
 
 /* The listed modules; *count is how many there are. A module takes at least 68 bytes of dbi. An error is that of the whole
  * list (*count is 0), or one behind the *count modules before it. Takes no memory. */
-pdb_code pdb_modules(const uint8_t *dbi, size_t dbi_size, pdb_module *records, size_t room, size_t *count);
+pdb_code pdb_modules(const uint8_t *dbi, size_t dbi_size, pdb_module *records, size_t capacity, size_t *count);
 
 /* ---- Section contributions, of the DBI stream's bytes: which bytes of the image came from which module. */
 
@@ -204,7 +205,7 @@ typedef struct pdb_contribution {
 
 /* The contributions; *count is how many there are. A contribution takes at least 28 bytes of dbi. An error is that of the
  * whole list (*count is 0), or one behind the *count contributions before it. Takes no memory. */
-pdb_code pdb_contributions(const uint8_t *dbi, size_t dbi_size, pdb_contribution *records, size_t room, size_t *count);
+pdb_code pdb_contributions(const uint8_t *dbi, size_t dbi_size, pdb_contribution *records, size_t capacity, size_t *count);
 
 /* ---- Symbols, as many as the buffer holds. */
 
@@ -239,8 +240,8 @@ enum {
     PDB_BLOCK, PDB_REGISTER_RELATIVE, PDB_THUNK, PDB_SEPARATED_CODE
 };
 
-/* The symbols from the offset *at on: *count of them were written, at most room, and *at is then where the next is read.
- * PDB_DONE where they fill the room, PDB_END behind the last one, or the error behind the last one, which ends the list.
+/* The symbols from the offset *at on: *count of them were written, at most capacity, and *at is then where the next is read.
+ * PDB_DONE where they fill the buffer, PDB_END behind the last one, or the error behind the last one, which ends the list.
  * PDB_OUT_OF_MEMORY at a symbol that takes memory: the same call goes on there. Variables in several registers (kinds
  * 0x110a, 0x1005, 0x1117 and 0x1014) take memory, and no other record does. Where the symbols part has an error, or the
  * stream is PDB_LARGE, *count is 0 and *at stays. Begin a module's symbols at PDB_SYMBOLS_AT, and those of the stream of
@@ -248,9 +249,9 @@ enum {
 #define PDB_SYMBOLS_AT 4
 #define PDB_GLOBALS_AT 0
 pdb_code pdb_symbols(const uint8_t *stream, size_t stream_size, uint32_t symbols_size, uint32_t *at,
-                     pdb_symbol *records, size_t room, size_t *count);
+                     pdb_symbol *records, size_t capacity, size_t *count);
 pdb_code pdb_global_symbols(const uint8_t *stream, size_t stream_size, uint32_t *at,
-                            pdb_symbol *records, size_t room, size_t *count);
+                            pdb_symbol *records, size_t capacity, size_t *count);
 
 /* ---- Lines of a module's stream. */
 
@@ -271,7 +272,7 @@ typedef struct pdb_line {
 /* The line records; *count is how many there are, at most an eighth of c13_lines_size. An error is that of all lines
  * (*count is 0), or one behind the *count lines before it. Takes memory. */
 pdb_code pdb_lines(const uint8_t *stream, size_t stream_size, uint32_t symbols_size, uint32_t lines_size,
-                   uint32_t c13_lines_size, pdb_line *records, size_t room, size_t *count);
+                   uint32_t c13_lines_size, pdb_line *records, size_t capacity, size_t *count);
 
 /* ---- Files of a module's stream, with checksums of their contents. */
 
@@ -287,7 +288,7 @@ enum { PDB_MD5 = 1, PDB_SHA1 = 2, PDB_SHA256 = 3 };
 /* The files; *count is how many there are, at most a sixth of c13_lines_size. An error is that of all lines (*count is 0),
  * or one behind the *count files before it. Takes memory. */
 pdb_code pdb_files(const uint8_t *stream, size_t stream_size, uint32_t symbols_size, uint32_t lines_size,
-                   uint32_t c13_lines_size, pdb_file *records, size_t room, size_t *count);
+                   uint32_t c13_lines_size, pdb_file *records, size_t capacity, size_t *count);
 
 /* ---- Inlined functions of a module's stream. */
 
@@ -302,14 +303,14 @@ typedef struct pdb_inlinee {
 /* The inlined functions; *count is how many there are, at most a twelfth of c13_lines_size. An error is that of the whole
  * list (*count is 0), or one behind the *count functions before it. Takes memory. */
 pdb_code pdb_inlinees(const uint8_t *stream, size_t stream_size, uint32_t symbols_size, uint32_t lines_size,
-                      uint32_t c13_lines_size, pdb_inlinee *records, size_t room, size_t *count);
+                      uint32_t c13_lines_size, pdb_inlinee *records, size_t capacity, size_t *count);
 
 /* The line records of an inlined call, by its symbol's annotations, the section and offset of the procedure around it (of
  * the last PDB_PROCEDURE before it), and the file and line of its function. *count is how many there are, at most the number
  * of bytes of the annotations. A record's file_name and file_refused are 0: pdb_files has its file's name. An error is one
  * in the annotations, behind the *count records before it. Takes no memory. */
 pdb_code pdb_inlined_lines(const uint8_t *annotations, size_t annotations_size, uint16_t section, uint32_t offset,
-                           uint32_t file, uint32_t line, pdb_line *records, size_t room, size_t *count);
+                           uint32_t file, uint32_t line, pdb_line *records, size_t capacity, size_t *count);
 
 /* ---- What modules import from one another, by a module's stream. */
 
@@ -322,7 +323,7 @@ typedef struct pdb_import {
  * with the top bit set refers to one: bits 20 to 30 are its position in the list, bits 0 to 19 that of the number. On an
  * error of the list, or in it, nothing is written. Takes memory. */
 pdb_code pdb_imports(const uint8_t *stream, size_t stream_size, uint32_t symbols_size, uint32_t lines_size,
-                     uint32_t c13_lines_size, pdb_import *records, size_t room, size_t *count);
+                     uint32_t c13_lines_size, pdb_import *records, size_t capacity, size_t *count);
 
 typedef struct pdb_export {
     uint32_t local;  /* local to the module; an id where its top bit is set, otherwise a type */
@@ -331,7 +332,7 @@ typedef struct pdb_export {
 
 /* What the module exports; *count is how much there is, at most an eighth of c13_lines_size. Takes memory. */
 pdb_code pdb_exports(const uint8_t *stream, size_t stream_size, uint32_t symbols_size, uint32_t lines_size,
-                     uint32_t c13_lines_size, pdb_export *records, size_t room, size_t *count);
+                     uint32_t c13_lines_size, pdb_export *records, size_t capacity, size_t *count);
 
 /* ---- The string table. */
 
@@ -352,10 +353,10 @@ typedef struct pdb_type_name_t {
 
 /* The names of the types of count indices in C++, as "int (*[2])(char)": a row of each, and the names one after the other.
  * *size is how many bytes they have. A name has at most 65541 bytes: behind 65536 bytes it ends with "<...>", and so does
- * what stands more than 64 records deep. What has no name is "??". PDB_ROOM where rows_room is below count, or names_room below
- * *size; what fits is written. */
+ * what stands more than 64 records deep. What has no name is "??". PDB_ROOM where rows_capacity is below count, or
+ * names_capacity below * *size; what fits is written. */
 pdb_code pdb_type_name(const uint8_t *types, size_t types_size, const uint32_t *indices, size_t count,
-                       pdb_type_name_t *rows, size_t rows_room, uint8_t *names, size_t names_room, size_t *size);
+                       pdb_type_name_t *rows, size_t rows_capacity, uint8_t *names, size_t names_capacity, size_t *size);
 
 typedef struct pdb_type_size_t {
     uint64_t size;     /* bytes of an object of the type; 0 where it has no size */
@@ -364,9 +365,9 @@ typedef struct pdb_type_size_t {
     uint32_t has_size; /* 1 or 0: a function has no size, nor has what is only declared in the whole file */
 } pdb_type_size_t;
 
-/* The sizes of the types of count indices. PDB_ROOM where rows_room is below count; what fits is written. */
+/* The sizes of the types of count indices. PDB_ROOM where rows_capacity is below count; what fits is written. */
 pdb_code pdb_type_size(const uint8_t *types, size_t types_size, const uint32_t *indices, size_t count,
-                       pdb_type_size_t *rows, size_t rows_room);
+                       pdb_type_size_t *rows, size_t rows_capacity);
 
 /* What a member doesn't have is 0 or empty. */
 typedef struct pdb_member {
@@ -405,10 +406,10 @@ enum {
 };
 
 /* The members of the types of count indices, one type after the other; *rows_count is how many there are. A type that is only
- * declared has the members of its definition; what is no class, union or enumeration has none. PDB_ROOM where room is below
+ * declared has the members of its definition; what is no class, union or enumeration has none. PDB_ROOM where capacity is below
  * *rows_count; what fits is written. */
 pdb_code pdb_members(const uint8_t *types, size_t types_size, const uint32_t *indices, size_t count,
-                     pdb_member *records, size_t room, size_t *rows_count);
+                     pdb_member *records, size_t capacity, size_t *rows_count);
 
 /* ---- Frames of addresses. */
 
@@ -440,7 +441,7 @@ typedef struct pdb_frame {
  * 16 and 1024 more, are mostly enough. Otherwise *count and *size are what a second call needs, which costs as much as the
  * first one; the frames that fit are whole. */
 pdb_code pdb_frames(const uint8_t *file, size_t file_size, const pdb_address *addresses, size_t addresses_count,
-                    pdb_frame *frames, size_t room, size_t *count, uint8_t *names, size_t names_room, size_t *size);
+                    pdb_frame *frames, size_t capacity, size_t *count, uint8_t *names, size_t names_capacity, size_t *size);
 
 /* ---- Variables of addresses. */
 
@@ -481,7 +482,8 @@ enum {
  * frames that pdb_frames gives for an address, the last one is the function's; before it stands that of call 0, before that one
  * that of call 1, and so on. The buffers, the errors and the memory are those of pdb_frames. */
 pdb_code pdb_variables(const uint8_t *file, size_t file_size, const pdb_address *addresses, size_t addresses_count,
-                       pdb_variable *variables, size_t room, size_t *count, uint8_t *names, size_t names_room, size_t *size);
+                       pdb_variable *variables, size_t capacity, size_t *count, uint8_t *names, size_t names_capacity,
+                       size_t *size);
 
 /* The name of a register, as "rcx", by the machine of pdb_debug_information and the number in a record; empty where there is
  * none. It is valid as long as the library is loaded. Takes no memory, and doesn't fail. */
@@ -532,7 +534,7 @@ typedef struct pdb_gap {
 
 /* The gaps of a range, in which it doesn't hold; other records have none. *count is how many there are. The errors are those of
  * pdb_record. Takes no memory. */
-pdb_code pdb_gaps(const uint8_t *record, size_t record_size, pdb_gap *gaps, size_t room, size_t *count);
+pdb_code pdb_gaps(const uint8_t *record, size_t record_size, pdb_gap *gaps, size_t capacity, size_t *count);
 
 /* ---- Images: an EXE or a DLL in the PE format. */
 

@@ -3,7 +3,7 @@ import os
 import shutil
 import subprocess
 
-from program import TOOL, compare, ran, tell, wrong
+from program import TOOL, compare, notice_of, ran, tell, wrong
 
 MANY = 2000
 LINES = 1_000_001
@@ -86,8 +86,14 @@ def damage_is_a_notice(sample, room):
     file = os.path.join(room, "cut.pdb")
     with open(file, "wb") as it:
         it.write(data)
-    notice = f"pdb_tool: {file}: a part of the file is damaged: see pdb_tool check\n".encode()
+    notice = notice_of(file)
     said = b"error 1 the data ends before a record does\n"
     for topic in "lines", "sources":
         compare(f"{topic} of a module that is cut", (0, said, notice), topic, file)
     compare("scopes of it", (0, b"procedure 0001:00000100 48 main: ??\n  inlined ??\n", b""), "scopes", file)
+    text = b"main\n??:0:0\n\n"
+    compare("a module that is cut", (0, text + text, notice), "resolve", file, "1:100", "1:101")
+    compare("its variables", (0, text, notice), "variables", file, "1:100")
+    compare("a module that is cut, by lines", (0, text + text, notice), "resolve", file, given=b"1:100\n1:100\n")
+    compare("no module that is cut", (0, b"??\n??:0:0\n\n", b""), "resolve", file, "1:130")
+    compare("the module of the whole file", (0, b"main\na.c:1:0\n\n", b""), "resolve", sample, "1:100")

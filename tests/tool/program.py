@@ -1,5 +1,6 @@
 """The proved program pdb_tool, run over words and standard input, and the count of what was as it should be."""
 import os
+import re
 import subprocess
 
 HERE = os.path.dirname(os.path.realpath(__file__))
@@ -47,7 +48,21 @@ def unknown(word, closest=b""):
     return wrong(b"unknown command: " + word + (b"; did you mean " + closest + b"?" if closest else b""), b"commands: " + COMMANDS + b"\n")
 
 
+def notice_of(file):
+    """The message that a part of a file is damaged."""
+    return f"pdb_tool: {file}: a part of the file is damaged: see pdb_tool check\n".encode()
+
+
 def damage_notice(file, out):
     """What is printed on standard error where a text has the line of an error."""
     has_error = out.startswith(b"error ") or b"\nerror " in out
-    return f"pdb_tool: {file}: a part of the file is damaged: see pdb_tool check\n".encode() if has_error else b""
+    return notice_of(file) if has_error else b""
+
+
+# A line of `check` on what `resolve` reads of a module.
+MODULE_DAMAGE = re.compile(rb": module \d+(?: symbols| lines| inlined functions)?: ")
+
+
+def is_notice(file, err):
+    """Whether nothing was printed on standard error, or that the file is damaged, and `check` says the same of a module."""
+    return not err or err == notice_of(file) and bool(MODULE_DAMAGE.search(ran("check", file)[1]))

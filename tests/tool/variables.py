@@ -3,7 +3,7 @@ and where each is. The frames are those of `resolve`. The sums of the texts are 
 goes unnoticed."""
 from hashlib import sha256
 
-from program import FILES, REAL, compare, ran, stored, tell, wrong
+from program import FILES, REAL, compare, is_notice, ran, stored, tell, wrong
 from scopes import named
 from streams import File
 from variables_read import module_list, module_of, pieces_of_code
@@ -36,7 +36,7 @@ def texts_of(command, path, words):
     found = []
     for start in range(0, len(words), 4000):
         status, out, err = ran(command, path, *words[start : start + 4000], limit=20)
-        tell((status, err) == (0, b""), f"{command} over {path}", (status, err))
+        tell(status == 0 and is_notice(path, err), f"{command} over {path}", (status, err))
         found += [it.split(b"\n") for it in out.split(b"\n\n")[:-1]]
     return found
 

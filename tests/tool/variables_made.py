@@ -3,7 +3,7 @@ docs/DEFINITIONS.md (Variables at a place)."""
 from struct import pack
 
 from across import ids_of, made_file, numbers, record, subsection
-from program import compare, ran, tell
+from program import compare, notice_of, ran, tell
 
 # Registers of x64: ecx and edx, rcx and rdx, rsp; and of frames: that of locals is rsp, that of parameters rbp.
 ECX, EDX, RCX, RDX, RSP = 18, 19, 330, 331, 335
@@ -363,15 +363,20 @@ def file_with(symbols, lines=INLINED, machine=0x8664):
     return made_file([(b"a.obj", numbers(4) + symbols, lines)], [(1, 0x100, 0x200, 0), (2, 0x100, 0x40, 0)], machine, ids=IDS)
 
 
+# Those whose module has an error: a list of inlined functions that is cut off, and a part of an unknown kind.
+FAULTY = {"lists of inlined functions", "a list of inlined functions that isn't read"}
+
+
 def compare_made(room, what, data, wanted):
     path = f"{room}/variables.pdb"
     with open(path, "wb") as it:
         it.write(data)
-    compare(f"variables of {what}", (0, b"".join(wanted.values()), b""), "variables", path, *wanted)
+    err = notice_of(path) if what in FAULTY else b""
+    compare(f"variables of {what}", (0, b"".join(wanted.values()), err), "variables", path, *wanted)
     lines = "".join(f"{it}\n" for it in wanted).encode()
-    compare(f"variables of {what}, by lines", (0, b"".join(wanted.values()), b""), "variables", path, given=lines)
+    compare(f"variables of {what}, by lines", (0, b"".join(wanted.values()), err), "variables", path, given=lines)
     for word, its in wanted.items():
-        compare(f"variables of {what} at {word}", (0, its, b""), "variables", path, word)
+        compare(f"variables of {what} at {word}", (0, its, err), "variables", path, word)
 
 
 def many_scopes(room):

@@ -1,6 +1,8 @@
-"""What decides whether a contract rejects a mutant, beside the mutant itself: the file that it changes, the definitions
-that this file cites and those that they cite, the contracts of the functions that it calls, the types and constants that
-it names, and the traits; all of these from files and crates that it brings in, or that those bring in."""
+"""What decides whether a contract rejects a mutant, beside the mutant itself: the code of the file that it changes, the
+definitions that this file cites and those that they cite, the contracts of the functions that it calls, the types and
+constants that it names, and the traits that any of these name; all from files and crates that it brings in, or that those
+bring in.
+Comments decide nothing."""
 import os
 import re
 
@@ -10,6 +12,9 @@ CONSTANT = re.compile(r"(?m)^[ \t]*(pub(?:\([a-z]+\))? )?(?:const|static) ([A-Z_
 TYPE = re.compile(r"(?m)^(pub(?:\([a-z]+\))? )?(?:struct|enum) (\w+)")
 TRAIT = re.compile(r"(?m)^(?:pub(?:\([a-z]+\))? )?trait \w+")
 MODEL = re.compile(r"(?m)^(impl)\b[^\n{]*\bModel for (\w+)")
+# Where a block ends: at a brace at the line's begin; that of a type perhaps at a semicolon, since it may have no fields.
+BRACE = re.compile(r"(?m)^\}")
+BRACE_OR_SEMICOLON = re.compile(r"(?m);$|^\}")
 # What a file brings from specs/: names in braces, or a module under another name.
 NAMES = re.compile(r"\buse Rattle\.(\w+)\.specs\.(\w+)[\w.]*\.\{([^}]*)\}")
 MODULE = re.compile(r"\buse Rattle\.(\w+)\.specs\.(\w+)[\w.]* as (\w+)")
@@ -20,11 +25,18 @@ UNFOLDED = re.compile(r"\b(\w+)::specs::(\w+)::(\w+)")
 # A signature, or the head of a type: with it a definition begins. An equation goes on with one.
 SIGNATURE = re.compile(r"(?:(?:pub|abbrev|unfoldable|opaque) )*(?:(data|record) )?([^\s:(){},]+)\s*(?:\{[^}]*\}\s*)*:(?=\s)")
 ANY = "*"
+# A string, a character, or a comment with what separates it from the code before it.
+COMMENT = re.compile(r"""r(#+)"(?:.|\n)*?"\1|r"[^"]*"|"(?:\\(?:.|\n)|[^"\\])*"|'(?:\\.|[^'\\\n])'|(\n?[ \t]*//[^\n]*)""")
 
 
 def text_of(path):
     with open(path, encoding="utf-8") as it:
         return it.read()
+
+
+def without_comments(text):
+    """A source without its comments, which decide nothing; those that stand alone go with their lines."""
+    return COMMENT.sub(lambda it: "" if it[2] else it[0], f"\n{text}")
 
 
 def words_of(text):
@@ -102,9 +114,9 @@ def passed_on_by(folder):
     return {(os.path.basename(folder), module): crate for crate, module in found}
 
 
-def block_at(text, start):
-    """A text from here to the end of its block, which is a brace at the line's begin, or to its semicolon."""
-    end = re.compile(r"(?m);$|^\}").search(text, start)
+def block_at(text, start, end=BRACE_OR_SEMICOLON):
+    """A text from here to the end of its block."""
+    end = end.search(text, start)
     return text[start : end.end() if end else len(text)]
 
 
@@ -116,19 +128,28 @@ class Source:
         self.origins = dict(brought_in(text))
         found = [(it, it[0]) for kind in (FUNCTION, CONSTANT) for it in kind.finditer(text)]
         self.free = {it[0] for it in FUNCTION.finditer(text) if not it[0][0].isspace()}
-        found += [(it, block_at(text, it.start())) for kind in (TYPE, MODEL) for it in kind.finditer(text)]
+        found += [(it, block_at(text, it.start())) for it in TYPE.finditer(text)]
+        found += [(it, block_at(text, it.start(), BRACE)) for it in MODEL.finditer(text)]
         seen = ("pub ", "impl", "pub(crate) ", "pub(super) ") if is_own else ("pub ", "impl")
         self.items = [(it[2], item) for it, item in found if it[1] in seen]
 
 
 def sources_in(folder):
-    """The sources of a crate, by their paths."""
-    return {path: text_of(path) for at, _, names in os.walk(folder) for name in names for path in [f"{at}/{name}"] if name.endswith(".rt")}
+    """The sources of a crate without their comments, by their paths."""
+    return {path: without_comments(text_of(path)) for at, _, names in os.walk(folder) for name in names for path in [f"{at}/{name}"] if name.endswith(".rt")}
+
+
+def words_in(texts):
+    return {word for it in texts for word in re.findall(r"\w+", it)}
+
+
+def name_of_trait(block):
+    return re.search(r"\btrait (\w+)", block)[1]
 
 
 def code_of(text):
-    """A source without its comments and attributes."""
-    return re.sub(r"(?m)^\s*//.*$|#\[[^\]]*\]", "", text)
+    """A source without its attributes."""
+    return re.sub(r"#\[[^\]]*\]", "", text)
 
 
 def home_of(folder, path, own):
@@ -169,7 +190,7 @@ class Judges:
         self.definitions = {key: it for folder in folders for key, it in definitions_in(folder)}
         self.passed_on = {key: it for folder in folders for key, it in passed_on_by(folder).items()}
         texts = [(text, home_of(folder, path, self.own)) for folder in folders for path, text in sorted(sources_in(f"{folder}/src").items())]
-        self.traits = [(block_at(it, found.start()), home) for it, home in texts for found in TRAIT.finditer(it)]
+        self.traits = [(block_at(it, found.start(), BRACE), home) for it, home in texts for found in TRAIT.finditer(it)]
         self.items, self.outside = {}, {}
         for text, home in texts:
             crate = home.partition("/")[0]
@@ -180,7 +201,8 @@ class Judges:
                 kind.setdefault(name, []).append((item, source.origins, crate, home))
 
     def of(self, texts):
-        """The texts that decide over mutants of these files, these among them."""
+        """The texts that decide over mutants of these files, these among them; all of them without comments."""
+        texts = [without_comments(it) for it in texts]
         words, reached = set().union(*(named_in(it) for it in texts)), self.reached_by(texts)
         items = [it for name in sorted(words & self.items.keys()) for it in self.items[name] if it[3] in reached]
         outside = words & set().union(*(brought_from_outside(it) for it in texts))
@@ -190,8 +212,19 @@ class Judges:
         while left := self.known(left) - found:
             found |= left
             left = set().union(*(self.definitions[it].cited() for it in left))
-        traits = [it for it, home in self.traits if home in reached]
-        return [*texts, *(it for it, *_ in items), *(self.definitions[it].text for it in sorted(found)), *traits]
+        said = [*texts, *(it for it, *_ in items), *(self.definitions[it].text for it in sorted(found))]
+        return [*said, *self.traits_of(said, reached)]
+
+    def traits_of(self, said, reached):
+        """The traits that decide where these texts do: those of the crate's own files, and of other crates those whose name
+        stands in one of the texts, or in such a trait. A trait's methods are brought in by its name, and a clause that says
+        what the trait knows of a type names it too, as a bound or by the type."""
+        left = [(it, home) for it, home in self.traits if home in reached]
+        words, found = words_in(said), set()
+        while more := {it for it, home in left if it not in found and ("/" in home or name_of_trait(it) in words)}:
+            found |= more
+            words |= words_in(more)
+        return [it for it, _ in left if it in found]
 
     def reached_by(self, texts):
         """The crates whose types and traits these files can meet, and the files of this crate: those that they name, or that

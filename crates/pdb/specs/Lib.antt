@@ -1,5 +1,6 @@
 pub mod Tables
 pub mod Answers
+pub mod Keys
 pub mod Definitions
 pub mod Listed
 pub use Rattle.pdb_base.specs.SectionHeader

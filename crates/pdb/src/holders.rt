@@ -45,7 +45,7 @@ impl<'s> TypeInformation<'s> {
     }
 
     /// The types, in the order of their indices. `UnexpectedEof` where the stream's header of 56 bytes isn't there, or
-    /// the bytes of the records that it tells.
+    /// the bytes of the records by its size.
     pub fn iter(&self) -> Result<ItemIter<'_>>
         ensures left { Answers items_left result (items_in self.now) }
         ensures bytes { IfOk result (λ it. item_records_of self.now ≡ Ok (items_bytes it)) }
@@ -54,8 +54,8 @@ impl<'s> TypeInformation<'s> {
         ItemIter::new(self.types.as_slice())
     }
 
-    /// The full definitions among the types up to the first fault, which sizes and names of types are found by. It is
-    /// refused as `iter` is, and takes memory for a row of each definition.
+    /// The full definitions among the types up to the first fault, which sizes and names of types are found by. It
+    /// fails as `iter` does, and takes memory for a row of each definition.
     #[tactic(auto, unfolding(crate::specs::Definitions::definitions_in, pdb_items::specs::Items::known_items_in))]
     pub fn definitions(&self, alloc: Global) -> Result<TypeDefinitions<'_>>
         ensures { Gives first_definition ⊥ result (definitions_in self.now) }
@@ -63,7 +63,7 @@ impl<'s> TypeInformation<'s> {
         Ok(TypeDefinitions::new(alloc, self.iter()?)?)
     }
 
-    /// The types up to the first fault, found by their indices. It is refused as `iter` is, and takes four bytes of
+    /// The types up to the first fault, found by their indices. It fails as `iter` does, and takes four bytes of
     /// memory for each item that was seen.
     pub fn finder(&self, alloc: Global) -> Result<ItemFinder<'_>>
         ensures { Gives (λ f. f) ⊥ result (known_items_in self.now) }
@@ -106,7 +106,7 @@ impl<'s> IdInformation<'s> {
     }
 
     /// The ids, in the order of their indices. `UnexpectedEof` where the stream's header of 56 bytes isn't there, or
-    /// the bytes of the records that it tells.
+    /// the bytes of the records by its size.
     pub fn iter(&self) -> Result<ItemIter<'_>>
         ensures left { Answers items_left result (items_in self.now) }
         ensures bytes { IfOk result (λ it. item_records_of self.now ≡ Ok (items_bytes it)) }
@@ -115,7 +115,7 @@ impl<'s> IdInformation<'s> {
         ItemIter::new(self.ids.as_slice())
     }
 
-    /// The ids up to the first fault, found by their indices. It is refused as `iter` is, and takes four bytes of
+    /// The ids up to the first fault, found by their indices. It fails as `iter` does, and takes four bytes of
     /// memory for each item that was seen.
     pub fn finder(&self, alloc: Global) -> Result<ItemFinder<'_>>
         ensures { Gives (λ f. f) ⊥ result (known_items_in self.now) }

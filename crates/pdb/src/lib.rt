@@ -3,6 +3,7 @@
 
 mod calls;
 mod holders;
+mod key;
 pub mod laws;
 mod module_list;
 mod named;
@@ -15,6 +16,10 @@ pub use holders::FrameTable;
 pub use holders::IdInformation;
 pub use holders::OMAPTable;
 pub use holders::TypeInformation;
+pub use key::key_in;
+pub use key::key_of;
+pub use key::key_text;
+pub use key::put_hex_bytes;
 pub use module_list::ModuleList;
 pub use pdb::PDB;
 pub use pdb::StreamIndexExt;

@@ -13,8 +13,8 @@ use pdb_dbi::{Module, ModuleIter};
 use std::alloc::{AllocError, Global};
 use std::marker::Model;
 
-/// The list of modules. Each is read once, when it is first needed, so many of them are found in one pass. A contract sees
-/// it as the modules that were read, the error behind them, and those that are left.
+/// The list of modules. Each is read once, when it is first needed, so many of them are found in one pass. A contract
+/// sees it as the modules that were read, the error behind them, and those that are left.
 #[derive(Drop)]
 pub struct ModuleList<'m> {
     read: Vec<Module<'m>>,
@@ -64,8 +64,8 @@ impl<'m> ModuleList<'m> {
         Ok(())
     }
 
-    /// The module with this index, up to which was read; none behind the end of the list. Where the list has an error before
-    /// that module, it fails with that error.
+    /// The module with this index, up to which was read; none behind the end of the list. Where the list has an error
+    /// before that module, it fails with that error.
     #[tactic(auto, using(crate::proofs::Listed::lookup_read, crate::proofs::Listed::lookup_past))]
     pub fn get(&self, k: u32) -> Result<Option<&Module<'m>>>
         ensures answer { HasRead k self.now → Gives (option_map (λ m. m.now)) ⊥ result (item_at k (listed self.now)) }

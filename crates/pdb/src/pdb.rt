@@ -40,12 +40,12 @@ const DBI_STREAM: u32 = 3;
 /// How much of the DBI stream is read where its header alone is asked for.
 const DBI_FRONT: u32 = 1024;
 
-/// An opened PDB file. Each accessor answers what the file says, whatever was called before, refused calls among
+/// An opened PDB file. Each accessor returns what the file says, whatever was called before, failed calls among
 /// them. A contract sees it as the state of its source: the file, how many views failed, and whether any can.
 ///
-/// Each call is refused as the container refuses the streams that it reads: `UnexpectedEof` where the directory or a
+/// Each call fails as the container does for the streams that it reads: `UnexpectedEof` where the directory or a
 /// page isn't all there, `PageReferenceOutOfRange` for a number that is no page's, `StreamNotFound`; `IoError` where
-/// the source failed, and `OutOfMemory`. After a refusal the same call may be made again.
+/// the source failed, and `OutOfMemory`. After an error the same call may be made again.
 #[derive(Drop)]
 pub struct PDB<'s, S: Meaning> {
     alloc: Global,
@@ -96,8 +96,8 @@ impl<'s, S: Source<'s>> PDB<'s, S> {
         self.msf.steady()
     }
 
-    /// How many streams the directory lists, absent ones too. `UnexpectedEof` where the directory ends before their sizes
-    /// do.
+    /// How many streams the directory lists, absent ones too. `UnexpectedEof` where the directory ends before their
+    /// sizes do.
     pub fn stream_count(&self) -> Result<u32>
         ensures count { Gives (λ n. n) ⊥ result (count_in self.now.file) }
         ensures memory { IfErr result (λ e. e ≢ Error.OutOfMemory) }
@@ -105,8 +105,8 @@ impl<'s, S: Source<'s>> PDB<'s, S> {
         self.msf.stream_count()
     }
 
-    /// How many bytes a stream has, by the directory. `StreamNotFound` where there is no such stream or it is absent, and
-    /// `UnexpectedEof` where the directory ends before the sizes do.
+    /// How many bytes a stream has, by the directory. `StreamNotFound` where there is no such stream or it is absent,
+    /// and `UnexpectedEof` where the directory ends before the sizes do.
     pub fn stream_size(&self, number: u32) -> Result<u32>
         ensures size { Gives (λ n. n) ⊥ result (size_in self.now.file number) }
         ensures memory { IfErr result (λ e. e ≢ Error.OutOfMemory) }
@@ -138,7 +138,7 @@ impl<'s, S: Source<'s>> PDB<'s, S> {
         self.listed_stream(index, Error::StreamNameNotFound)
     }
 
-    /// The stream of this index, unparsed, or this refusal for the index of no stream.
+    /// The stream of this index, unparsed, or this error for the index of no stream.
     fn listed_stream(&mut self, index: StreamIndex, refusal: Error) -> Result<Stream<'s>>
         requires { refusal ≢ Error.IoError }
         ensures continues { Continues self.old self.new }
@@ -165,7 +165,7 @@ impl<'s, S: Source<'s>> PDB<'s, S> {
         Ok(header)
     }
 
-    /// The DBI stream, stream 3: what the file tells of the image and its modules. `UnimplementedFeature` for an
+    /// The DBI stream, stream 3: what the file has on the image and its modules. `UnimplementedFeature` for an
     /// ancient header.
     #[tactic(auto, unfolding(crate::specs::Answers::debug_information_in))]
     pub fn debug_information(&mut self) -> Result<DebugInformation<'s>>
@@ -318,9 +318,10 @@ impl<'s, S: Source<'s>> PDB<'s, S> {
         Ok(Some(ModuleInfo::parse(stream, module)))
     }
 
-    /// The stream of the module at this place of the list of modules, counted from 0; none where the whole list has no
-    /// such module, or the module has no stream. What stands behind the module isn't read. It is refused as
-    /// `debug_information` and `DebugInformation::modules`, and `UnexpectedEof` where a module before it isn't all there.
+    /// The stream of the module at this index of the list of modules, counted from 0; none where the whole list has no
+    /// such module, or the module has no stream. What stands behind the module isn't read. It fails as
+    /// `debug_information` and `DebugInformation::modules`, and `UnexpectedEof` where a module before it isn't all
+    /// there.
     #[tactic(auto, using(pdb_base::proofs::Passing::may_after), unfolding(crate::specs::Answers::module_of_file, crate::specs::Answers::module_listed))]
     pub fn module_at(&mut self, place: usize) -> Result<Option<ModuleInfo<'s>>>
         ensures continues { Continues self.old self.new }

@@ -1,6 +1,7 @@
 //! Tests of what no clause says: values from outside, and that calls succeed with ample memory.
 
 mod addresses;
+mod keys;
 mod modules;
 mod reads;
 mod sample;

@@ -1,4 +1,4 @@
-//! What files, their parts and texts of addresses answer when asked again.
+//! What files, their parts and texts of addresses return when called again.
 
 mod files;
 mod parts;

@@ -1,4 +1,4 @@
-//! A place in a list of bytes, and reads there.
+//! An offset in a list of bytes, and reads there.
 
 ghost use Rattle.std.specs.Prelude.{◌≡◌, ◌≤◌, ◌+◌, ◌-◌, [], length, IsTrue, ◌↔◌, ◌<◌, ◌==◌, position, IfSome, IfOk, IfErr, OnOk, min, take, ⊤};
 ghost use Rattle.pdb_base.specs.Cursor.{Reads};
@@ -12,8 +12,8 @@ use crate::zeros::first_zero;
 use std::alloc::AllocError;
 use std::marker::Model;
 
-/// Bytes, and a place among them, at which the next read stands. Numbers are little-endian, and may stand at any
-/// place. A read that finds too few bytes is `UnexpectedEof`, and then the place is open.
+/// Bytes, and an offset among them, at which the next read stands. Numbers are little-endian, and may stand at any
+/// offset. After a read that finds too few bytes, which is `UnexpectedEof`, the offset isn't specified.
 #[derive(Drop)]
 pub struct ParseBuffer<'b> {
     buf: &'b [u8],
@@ -54,7 +54,7 @@ impl<'b> ParseBuffer<'b> {
         self.at == self.buf.len()
     }
 
-    /// The place, counted from the start of the bytes.
+    /// The offset, counted from the start of the bytes.
     pub fn pos(&self) -> usize
         ensures { result ≡ self.now.place }
     {
@@ -150,7 +150,7 @@ impl<'b> ParseBuffer<'b> {
         Ok(number.cast_signed())
     }
 
-    /// Reads the next `n` bytes, which are lent.
+    /// Reads the next `n` bytes, which are borrowed.
     pub fn take(&mut self, n: usize) -> Result<&'b [u8]>
         ensures reads { Reads (λ x. x.now) self.old self.new result (bytes_at self.old.bytes self.old.place n) (λ _. n) }
         ensures size { IfOk result (λ s. length s.now ≡ n) }
@@ -204,14 +204,15 @@ impl<'b> ParseBuffer<'b> {
         Ok(())
     }
 
-    /// Goes to the place `n`, or to the end where `n` is past it.
+    /// Goes to the offset `n`, or to the end where `n` is past it.
     pub fn seek(&mut self, n: usize)
         ensures { self.new ≡ record self.old { place = min n (length self.old.bytes) } }
     {
         self.at = n.min(self.buf.len());
     }
 
-    /// Keeps the first `n` of all bytes; a place behind them becomes their end. `UnexpectedEof` where there are fewer.
+    /// Keeps the first `n` of all bytes; an offset behind them becomes their end. `UnexpectedEof` where there are
+    /// fewer.
     pub fn truncate(&mut self, n: usize) -> Result<()>
         ensures ok { OnOk result ((n ≤ length self.old.bytes) × (self.new ≡ record { bytes = take n self.old.bytes; place = min self.old.place n })) }
         ensures err { IfErr result (λ e. (e ≡ Error.UnexpectedEof) × (length self.old.bytes < n) × (self.new.bytes ≡ self.old.bytes)) }

@@ -1,4 +1,4 @@
-//! The container's front and its directory: where the pages of a stream are told.
+//! The container's front and its directory: where the pages of a stream are listed.
 
 ghost use Rattle.std.specs.Prelude.{◌≡◌, ℕ, ◌+◌, ◌*◌, ◌<◌, ◌≤◌, ◌^◌, List, length, false, IfOk, IfErr, ◌≢◌};
 ghost use Rattle.std.specs.Int.{div_ceil};

@@ -81,7 +81,7 @@ impl fmt::Display for Part {
     }
 }
 
-/// Why a call was refused. `number` tells the refusals apart by a number from 1 to 22.
+/// Why a call failed. `number` distinguishes the errors by a number from 1 to 22.
 #[derive(Clone, Copy, Debug, PartialEq, Eq, Error)]
 pub enum Error {
     /// Bytes that a format needs are not there.
@@ -114,7 +114,7 @@ pub enum Error {
     /// The length of a part contradicts its format.
     #[error("invalid length: {0}")]
     InvalidStreamLength(Part),
-    /// A symbol record has no room for its kind.
+    /// A symbol record is too short for its kind.
     #[error("a symbol record is shorter than two bytes")]
     SymbolTooShort,
     /// Symbol records of this kind are not read.
@@ -126,7 +126,7 @@ pub enum Error {
     /// File checksums of this kind are not read.
     #[error("file checksums of kind {0} are not supported")]
     UnimplementedFileChecksumKind(u8),
-    /// No file checksum begins at this place.
+    /// No file checksum begins at this offset.
     #[error("there is no file checksum at {0:#x}")]
     InvalidFileChecksumOffset(u32),
     /// A binary annotation has this unknown opcode.
@@ -147,16 +147,16 @@ pub enum Error {
     /// The source of the file's bytes failed.
     #[error("the file could not be read")]
     IoError,
-    /// Memory was refused.
+    /// Out of memory.
     #[error("out of memory")]
     OutOfMemory,
 }
 
-/// The answer of a call that may be refused.
+/// The result of a call that may fail.
 pub type Result<T> = std::result::Result<T, Error>;
 
 impl Error {
-    /// The number of the refusal, from 1 to 22, in the order of the variants.
+    /// The number of the error, from 1 to 22, in the order of the variants.
     pub fn number(&self) -> u8
         ensures { result ≡ number_of self.now }
     {

@@ -81,19 +81,19 @@ impl ItemIndex for IdIndex {
 #[derive(Clone, Copy, Debug, Eq, PartialEq, Hash)]
 pub struct Local<I: ItemIndex>(pub I);
 
-/// The place of a symbol record in its stream, in bytes.
+/// The offset of a symbol record in its stream, in bytes.
 #[derive(Clone, Copy, Debug, Default, Eq, PartialEq, Ord, PartialOrd, Hash)]
 pub struct SymbolIndex(pub u32);
 
-/// The place of a file's checksum record in a module's checksums, in bytes.
+/// The offset of a file's checksum record in a module's checksums, in bytes.
 #[derive(Clone, Copy, Debug, Default, Eq, PartialEq, Ord, PartialOrd, Hash)]
 pub struct FileIndex(pub u32);
 
-/// The place of a name in the string table, in bytes.
+/// The offset of a name in the string table, in bytes.
 #[derive(Clone, Copy, Debug, Default, Eq, PartialEq, Ord, PartialOrd, Hash)]
 pub struct StringRef(pub u32);
 
-/// Shows the place as `0x` and lower hexadecimal digits.
+/// Shows the offset as `0x` and lower hexadecimal digits.
 impl fmt::Display for StringRef {
     ghost output = { λ r. Some (hex_of r.0) };
 
@@ -135,7 +135,7 @@ pub struct Register(pub u16);
 #[derive(Clone, Copy, Debug, Eq, PartialEq)]
 pub struct SectionCharacteristics(pub u32);
 
-/// An offset in a section of the image, as the PDB file's own tables tell it. Sections count from 1.
+/// An offset in a section of the image, as the PDB file's own tables have it. Sections count from 1.
 #[derive(Clone, Copy, Debug, Eq, PartialEq, Hash)]
 pub struct PdbInternalSectionOffset {
     /// The offset from the section's start, in bytes.

@@ -1,4 +1,4 @@
-//! Iterators whose `next` may be refused.
+//! Iterators whose `next` may fail.
 
 ghost use Rattle.std.specs.Prelude.{◌≡◌, ◌≢◌, ◌^◌, ◌<◌, map, length, Ok, IfOk, IfErr};
 ghost use Rattle.std.specs.Result.{result_map_both};
@@ -8,7 +8,7 @@ ghost use Rattle.pdb_base.specs.declared.error.Error.TheVariants.{IoError, OutOf
 use crate::error::{Error, Result};
 use std::alloc::Global;
 
-/// An iterator whose `next` may be refused. Its meaning is the items that are left, at most `usize::MAX`, and
+/// An iterator whose `next` may fail. Its meaning is the items that are left, at most `usize::MAX`, and
 /// perhaps a fault after them: `next` gives the first item, then the fault once, then nothing.
 pub trait FallibleIterator: Drop {
     /// What the iterator gives.
@@ -60,7 +60,7 @@ pub trait FallibleIterator: Drop {
         Ok(items)
     }
 
-    /// The first item at which `p` answers `true`. It consumes the items up to this one. An error of `p` is given
+    /// The first item at which `p` returns `true`. It consumes the items up to this one. An error of `p` is given
     /// as it is, and isn't the iterator's: iteration goes on behind the item that `p` was shown.
     final fn find<P: FnMut(&Self::Item) -> Result<bool>>(
         &mut self,

@@ -14,14 +14,14 @@ ghost use Rattle.pdb_base.specs.Container.{opens, stream_of, page_numbers_of, Re
 
 use crate::error::{Error, Result};
 
-/// Bytes have one list of each kind from each place on, and it is the one that the contracts name.
+/// Bytes have one list of each kind from each offset on, and it is the one that the contracts name.
 pub fn one_listing<A>()
     ensures is { (row : Row A) (b : List ℕ) (p : ℕ) → IsInside row → IsListing row b p (listing row b p) }
     ensures only { (row : Row A) (b : List ℕ) (p : ℕ) (left : Left A) → IsInside row → IsListing row b p left → left ≡ listing row b p }
 {}
 
-/// What a read gives is what stands at the place: the number of so many bytes, also a signed one, that slice, the
-/// bytes before the least place of a zero byte, as many bytes as the byte there says, the number behind a prefix, or a
+/// What a read gives is what stands at the offset: the number of so many bytes, also a signed one, that slice, the
+/// bytes before the least offset of a zero byte, as many bytes as the byte there says, the number behind a prefix, or a
 /// section header by its fields. Padding ends at the next multiple.
 pub fn fields_stand_at_their_places()
     ensures number { (b : List ℕ) (p w n : ℕ) → (number_at b p w ≡ Ok n) ↔ IsNumber b p w n }
@@ -41,7 +41,7 @@ pub fn front_is_the_beginning()
     ensures refusal { (file : List ℕ) (n limit page : ℕ) (pages : List ℕ) → page_numbers_of file n ≡ Ok pages → stream_of file n (Some limit) ≡ Err (Error.PageReferenceOutOfRange page) → stream_of file n None ≡ Err (Error.PageReferenceOutOfRange page) }
 {}
 
-/// A stream of a file that opens is refused for the end of the file or of the directory, for a number that is no
+/// A stream of a file that opens fails for the end of the file or of the directory, for a number that is no
 /// page's, or because there is no such stream, and never for the container's front.
 #[tactic(auto, using(crate::proofs::OpenLemmas::opened_refuses))]
 pub fn opened_files_refuse_streams_alone()

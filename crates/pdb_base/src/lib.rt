@@ -1,5 +1,5 @@
-//! The ground of a reader of Microsoft's program database (PDB) files: refusals, bytes and places, names, numbers,
-//! iterators that may be refused, and the container MSF 7.00, in which a file is a set of numbered streams.
+//! The base of a reader of Microsoft's program database (PDB) files: errors, bytes and offsets, names, numbers,
+//! iterators that may fail, and the container MSF 7.00, in which a file is a set of numbered streams.
 #![tactic(auto)]
 
 mod buffer;

@@ -1,9 +1,9 @@
-//! Numbers, the least byte first, at places that are known to be there.
+//! Numbers, the least byte first, at offsets that are known to be there.
 
 ghost use Rattle.std.specs.Prelude.{◌≡◌, ◌+◌, ◌≤◌, length};
 ghost use Rattle.pdb_base.specs.Fields.{number};
 
-/// The number of one byte at a place.
+/// The number of one byte at an offset.
 #[inline]
 #[tactic(auto, unfolding(crate::specs::Fields::number))]
 pub fn u8_at(bytes: &[u8], at: usize) -> u8
@@ -13,7 +13,7 @@ pub fn u8_at(bytes: &[u8], at: usize) -> u8
     bytes[at]
 }
 
-/// The number of two bytes at a place.
+/// The number of two bytes at an offset.
 #[inline]
 #[tactic(auto, unfolding(crate::specs::Fields::number))]
 pub fn u16_at(bytes: &[u8], at: usize) -> u16
@@ -23,7 +23,7 @@ pub fn u16_at(bytes: &[u8], at: usize) -> u16
     u16::from_le_bytes([bytes[at], bytes[at + 1]])
 }
 
-/// The number of four bytes at a place.
+/// The number of four bytes at an offset.
 #[inline]
 #[tactic(auto, unfolding(crate::specs::Fields::number))]
 pub fn u32_at(bytes: &[u8], at: usize) -> u32

@@ -95,8 +95,8 @@ impl<'s, S: Source<'s>> Msf<'s, S> {
         Ok(Stream::of(view))
     }
 
-    /// How many streams the directory lists, absent ones too. `UnexpectedEof` where the directory ends before their sizes
-    /// do.
+    /// How many streams the directory lists, absent ones too. `UnexpectedEof` where the directory ends before their
+    /// sizes do.
     #[tactic(auto, unfolding(crate::specs::Container::stream_count), using(crate::proofs::OpenLemmas::opened_opens))]
     pub fn stream_count(&self) -> Result<u32>
         ensures count { Gives (λ n. n) ⊥ result (count_in self.now.file) }
@@ -106,8 +106,8 @@ impl<'s, S: Source<'s>> Msf<'s, S> {
         count_of(self.directory.as_slice())
     }
 
-    /// How many bytes a stream has, by the directory. `StreamNotFound` where there is no such stream or it is absent, and
-    /// `UnexpectedEof` where the directory ends before the sizes do.
+    /// How many bytes a stream has, by the directory. `StreamNotFound` where there is no such stream or it is absent,
+    /// and `UnexpectedEof` where the directory ends before the sizes do.
     #[tactic(auto, unfolding(crate::specs::Container::stream_size), using(crate::proofs::OpenLemmas::opened_opens))]
     pub fn stream_size(&self, number: u32) -> Result<u32>
         ensures size { Gives (λ n. n) ⊥ result (size_in self.now.file number) }

@@ -6,7 +6,7 @@ ghost use Rattle.pdb_base.specs.Refusal.{Answers};
 
 use crate::error::{Error, Result};
 
-/// The part of so many bytes at a place. `UnexpectedEof` where its end is past the bytes' end, even if it is empty.
+/// The part of so many bytes at an offset. `UnexpectedEof` where its end is past the bytes' end, even if it is empty.
 #[tactic(auto, unfolding(crate::specs::Fields::bytes_at))]
 pub fn part_of(bytes: &[u8], start: usize, size: usize) -> Result<&[u8]>
     ensures part { Answers (λ x. x.now) result (bytes_at bytes.now start size) }

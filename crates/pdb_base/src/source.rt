@@ -18,10 +18,10 @@ pub struct SourceSlice {
     pub size: usize,
 }
 
-/// Bytes of the file, lent or copied.
+/// Bytes of the file, borrowed or copied.
 #[derive(Drop)]
 pub enum View<'s> {
-    /// Bytes that the source lends.
+    /// Bytes borrowed from the source.
     Borrowed(&'s [u8]),
     /// A copy of bytes.
     Owned(Vec<u8>),
@@ -48,7 +48,7 @@ pub trait Meaning: Drop {
 /// Where a file's bytes come from. No call changes the file that a source means.
 pub trait Source<'s>: Meaning {
     /// The slices' bytes, one after the other. A slice past the file's end is `UnexpectedEof`, which comes before
-    /// any other refusal and nowhere else. `IoError` comes only where the source isn't steady and `failures` rose in
+    /// any other error and nowhere else. `IoError` comes only where the source isn't steady and `failures` rose in
     /// this call or stands at `u64::MAX`, and there every view inside the file is `IoError`. Else a view may want
     /// memory.
     fn view(&mut self, alloc: Global, slices: &[SourceSlice]) -> Result<View<'s>>
@@ -67,7 +67,7 @@ pub trait Source<'s>: Meaning {
         ensures { result ≡ (Self.state self.now).steady };
 }
 
-/// A file in memory. It lends one slice as it is, and copies several; its views never fail.
+/// A file in memory. It borrows one slice as it is, and copies several; its views never fail.
 #[derive(Drop)]
 pub struct MemorySource<'s> {
     bytes: &'s [u8],

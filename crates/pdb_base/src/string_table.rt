@@ -1,4 +1,4 @@
-//! The string table, to which other tables refer by places.
+//! The string table, to which other tables refer by offsets.
 
 ghost use Rattle.std.specs.Prelude.{◌≡◌, ◌+◌, ◌≤◌, length};
 ghost use Rattle.pdb_base.specs.Refusal.{Answers};
@@ -14,7 +14,7 @@ use crate::stream::Stream;
 use crate::text::RawString;
 use std::marker::Model;
 
-/// The names of the stream `/names`: each ends with a zero byte, and is named by its place among their bytes. A
+/// The names of the stream `/names`: each ends with a zero byte, and is named by its offset among their bytes. A
 /// contract sees it as these bytes.
 #[derive(Drop)]
 pub struct StringTable<'s> {
@@ -56,7 +56,7 @@ impl<'s> StringTable<'s> {
         Ok(StringTable { stream, size })
     }
 
-    /// The name at a place. `UnexpectedEof` at or past the names' size, and where no zero byte follows.
+    /// The name at an offset. `UnexpectedEof` at or past the names' size, and where no zero byte follows.
     pub fn get(&self, offset: StringRef) -> Result<RawString<'_>>
         ensures { Answers name_bytes result (cstring_at self.now offset.0) }
     {

@@ -6,7 +6,7 @@ ghost use Rattle.pdb_base.specs.Runs.{IsRun};
 
 use std::simd::prelude::*;
 
-/// The place of the lowest bit that is set, or how many lanes there are.
+/// The offset of the lowest bit that is set, or how many lanes there are.
 #[inline(always)]
 fn first_set(mask: u64, lanes: usize) -> usize
     ensures { result ≡ if mask == 0 then lanes else trailing_zeros w64 mask }
@@ -18,7 +18,7 @@ fn first_set(mask: u64, lanes: usize) -> usize
     }
 }
 
-/// How many of the 16 bytes at a place come before a zero byte.
+/// How many of the 16 bytes at an offset come before a zero byte.
 #[inline(always)]
 fn run_of_16(bytes: &[u8], at: usize) -> usize
     requires { at + 16 ≤ length bytes.now }
@@ -28,7 +28,7 @@ fn run_of_16(bytes: &[u8], at: usize) -> usize
     first_set(zeros.to_bitmask(), 16)
 }
 
-/// How many of the 8 bytes at a place come before a zero byte.
+/// How many of the 8 bytes at an offset come before a zero byte.
 #[inline(always)]
 fn run_of_8(bytes: &[u8], at: usize) -> usize
     requires { at + 8 ≤ length bytes.now }
@@ -38,7 +38,7 @@ fn run_of_8(bytes: &[u8], at: usize) -> usize
     first_set(zeros.to_bitmask(), 8)
 }
 
-/// The place of the first zero byte of fewer than 16.
+/// The offset of the first zero byte of fewer than 16.
 #[inline(never)]
 fn first_zero_of_few(bytes: &[u8]) -> Option<usize>
     ensures place { result ≡ position (λ x. x == 0) bytes.now }
@@ -57,7 +57,7 @@ fn first_zero_of_few(bytes: &[u8]) -> Option<usize>
     if run < 8 { Some(last + run) } else { None }
 }
 
-/// The place of the first zero byte.
+/// The offset of the first zero byte.
 #[inline(always)]
 pub(crate) fn first_zero(bytes: &[u8]) -> Option<usize>
     ensures place { result ≡ position (λ x. x == 0) bytes.now }

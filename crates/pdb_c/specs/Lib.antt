@@ -1,7 +1,6 @@
 pub mod Rooms
 pub mod Boundary
 pub mod Lists
-pub mod Keys
 pub mod Numbers
 pub mod Streams
 pub mod Symbols

@@ -72,8 +72,8 @@ fn exports_of(
     }
 }
 
-/// What a module exports, by its stream of these bytes and sizes: as many exports as there is room for, and how many
-/// there are.
+/// What a module exports, by its stream of these bytes and sizes: as many exports as there is capacity for, and how
+/// many there are.
 #[unsafe(no_mangle)]
 pub extern "C" fn pdb_exports(
     alloc: Global,

@@ -41,10 +41,10 @@ pub fn form_number(said: &SymbolData<'_>) -> u8
     }
 }
 
-/// What a record tells in numbers; 0 for each that it doesn't tell.
+/// What a record says in numbers; 0 for each that it doesn't say.
 #[derive(Clone, Copy)]
 pub struct Numbers {
-    /// Where in the image what the record tells of stands, where it tells that.
+    /// The `section:offset` of what the record is about, where it has one.
     pub place: Option<PdbInternalSectionOffset>,
     /// How many bytes of code it is.
     pub code_size: u32,
@@ -73,7 +73,7 @@ fn typed(type_index: u32) -> Numbers
     }
 }
 
-/// A place, and the type of what stands there.
+/// A `section:offset`, and the type of what stands there.
 #[inline(always)]
 fn placed(place: PdbInternalSectionOffset, type_index: u32) -> Numbers
     ensures { result ≡ record { place = Some place; code_size = 0; type_index = type_index; parent = 0; end = 0; inlinee = 0 } }
@@ -84,7 +84,7 @@ fn placed(place: PdbInternalSectionOffset, type_index: u32) -> Numbers
     }
 }
 
-/// Code at a place, which is a scope of its own.
+/// Code at a `section:offset`, which is a scope of its own.
 #[inline(always)]
 fn code(
     place: PdbInternalSectionOffset,
@@ -129,7 +129,7 @@ fn inlined(parent: Option<SymbolIndex>, end: SymbolIndex, inlinee: IdIndex) -> N
     }
 }
 
-/// What a record tells in numbers.
+/// What a record says in numbers.
 #[inline(always)]
 pub fn numbers_of(said: &SymbolData<'_>) -> Numbers
     ensures { result ≡ numbers_of (shown said.now) }

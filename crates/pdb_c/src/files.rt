@@ -24,7 +24,7 @@ pub struct PdbFile<'a> {
     pub checksum: &'a [u8],
     /// The offset of its record among the checksums: lines and inlined functions name the file by it.
     pub index: u32,
-    /// The place of its name in the string table.
+    /// The offset of its name in the string table.
     pub name: u32,
     /// The checksum's kind: 0 is none, 1 MD5, 2 SHA-1, 3 SHA-256.
     pub kind: u32,
@@ -88,7 +88,7 @@ fn fill<'a>(checksums: &'a [u8], records: &mut [PdbFile<'a>], count: &mut usize)
     list_code(records.len(), n, None)
 }
 
-/// The line places of a module's stream of these bytes and sizes.
+/// The line subsections of a module's stream of these bytes and sizes.
 #[tactic(auto, unfolding(pdb_modules::specs::ModuleStream::line_program_of))]
 fn places<'a>(
     alloc: Global,
@@ -105,7 +105,7 @@ fn places<'a>(
     LinePlaces::parse(alloc, lines_data(stream, symbols_size, c13_lines_size)?)
 }
 
-/// The files of a module's stream of these bytes and sizes: as many as there is room for, and how many there are.
+/// The files of a module's stream of these bytes and sizes: as many as there is capacity for, and how many there are.
 #[tactic(auto, using(crate::proofs::Codes::obtained, crate::proofs::Codes::obtained_none, crate::proofs::Codes::refused))]
 #[unsafe(no_mangle)]
 pub extern "C" fn pdb_files<'a>(

@@ -30,7 +30,7 @@ pub struct PdbAddress {
     pub kind: u16,
 }
 
-/// A frame: a function whose code stands at an address, and the line there. Its names stand in the room of names.
+/// A frame: a function whose code stands at an address, and the line there. Its names stand in the buffer of names.
 #[repr(C)]
 #[derive(Clone, Copy)]
 pub struct PdbFrame {
@@ -44,9 +44,9 @@ pub struct PdbFrame {
     pub file_at: usize,
     /// How many bytes it has.
     pub file_size: usize,
-    /// The line, 0 where none is told.
+    /// The line, 0 where none is known.
     pub line: u32,
-    /// The column, 0 where none is told.
+    /// The column, 0 where none is known.
     pub column: u32,
     /// 1 where the function has a name.
     pub has_name: u32,
@@ -176,7 +176,7 @@ fn put_frames(
     Ok(())
 }
 
-/// The place that is asked for.
+/// The `section:offset` that is asked for.
 pub fn place_asked<'s>(
     resolver: &Resolver<'_, 's, MemorySource<'s>>,
     asked: &PdbAddress,
@@ -253,7 +253,7 @@ fn put_opened<'s>(
 }
 
 /// The frames of addresses, from the innermost outwards, one address after the other, and their names: each as far as
-/// its room reaches; how many frames there are, and how many bytes of names. The file is opened once. Out of memory,
+/// its buffer reaches; how many frames there are, and how many bytes of names. The file is opened once. Out of memory,
 /// both counts are 0.
 #[unsafe(no_mangle)]
 pub extern "C" fn pdb_frames(

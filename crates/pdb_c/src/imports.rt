@@ -23,7 +23,7 @@ use std::alloc::Global;
 pub struct PdbImport<'a> {
     /// The numbers, each local to that module: four bytes each, the lowest first.
     pub numbers: &'a [u8],
-    /// The place of that module's name in the string table.
+    /// The offset of that module's name in the string table.
     pub name: u32,
 }
 
@@ -82,8 +82,8 @@ fn imports<'a>(
     }
 }
 
-/// What a module imports, by its stream of these bytes and sizes: as many modules as there is room for, and how many
-/// there are.
+/// What a module imports, by its stream of these bytes and sizes: as many modules as there is capacity for, and how
+/// many there are.
 #[tactic(auto, using(crate::proofs::Codes::obtained, crate::proofs::Codes::refused, crate::proofs::Codes::owed, crate::proofs::Codes::not_memory))]
 #[unsafe(no_mangle)]
 pub extern "C" fn pdb_imports<'a>(

@@ -19,7 +19,7 @@ pub struct PdbInformation {
     pub guid_bytes: [u8; 16],
     /// The version of the stream's format.
     pub version: u32,
-    /// When the file was made, in seconds since 1970, or another number that tells it from others.
+    /// When the file was made, in seconds since 1970, or another number that distinguishes it from others.
     pub signature: u32,
     /// How often the file was written.
     pub age: u32,
@@ -29,7 +29,7 @@ pub struct PdbInformation {
 #[repr(C)]
 #[derive(Clone, Copy)]
 pub struct PdbDebugInformation {
-    /// How often the file was written: the age that the image tells.
+    /// How often the file was written: the age that the image has.
     pub age: u32,
     /// The stream of global symbols; 0xffff is none.
     pub symbols_stream: u32,
@@ -92,7 +92,7 @@ fn debug_information(alloc: Global, file: &[u8]) -> Result<PdbDebugInformation>
     })
 }
 
-/// Which file it is, by the information stream. Where it is refused, `out` stays as it was.
+/// Which file it is, by the information stream. Where it fails, `out` stays as it was.
 #[tactic(auto, using(crate::proofs::Codes::told_read, crate::proofs::Codes::told_refused))]
 #[unsafe(no_mangle)]
 pub extern "C" fn pdb_information(alloc: Global, file: &[u8], out: &mut PdbInformation) -> u32
@@ -107,7 +107,7 @@ pub extern "C" fn pdb_information(alloc: Global, file: &[u8], out: &mut PdbInfor
     }
 }
 
-/// What the header of the DBI stream says. Where it is refused, `out` stays as it was.
+/// What the header of the DBI stream says. Where it fails, `out` stays as it was.
 #[tactic(auto, using(crate::proofs::Codes::told_read, crate::proofs::Codes::told_refused))]
 #[unsafe(no_mangle)]
 pub extern "C" fn pdb_debug_information(

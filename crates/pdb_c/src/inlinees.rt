@@ -20,7 +20,7 @@ use pdb::{
 };
 use std::alloc::Global;
 
-/// A function that is inlined in places.
+/// A function that is inlined somewhere.
 #[repr(C)]
 #[derive(Clone, Copy)]
 pub struct PdbInlinee {
@@ -28,15 +28,15 @@ pub struct PdbInlinee {
     pub id: u32,
     /// The line in which it begins.
     pub line: u32,
-    /// The file in which it begins, by the place of its checksum.
+    /// The file in which it begins, by the offset of its checksum.
     pub file: u32,
-    /// The place of the file's name in the string table.
+    /// The offset of the file's name in the string table.
     pub file_name: u32,
     /// 0, or why the file has no name.
     pub file_refused: u32,
 }
 
-/// The line places of a module, or why there are none; nothing where memory is wanted.
+/// The line subsections of a module, or why there are none; nothing where memory runs out.
 fn places<'a>(alloc: Global, module_info: &'a ModuleInfo<'_>) -> Option<Result<LinePlaces<'a>>>
     ensures { IfSome result (λ r. r ≡ line_program_of module_info.now) }
 {
@@ -47,7 +47,7 @@ fn places<'a>(alloc: Global, module_info: &'a ModuleInfo<'_>) -> Option<Result<L
     }
 }
 
-/// The place of the name of a file, and 0 or why there is no such file.
+/// The offset of the name of a file, and 0 or why there is no such file.
 fn file_of(places: &Result<LinePlaces<'_>>, file: FileIndex) -> (u32, u32)
     ensures name { result.0 ≡ name_place (file_in places.now file.0) }
     ensures code { result.1 ≡ file_code (file_in places.now file.0) }
@@ -124,8 +124,8 @@ fn inlinees_of(
     }
 }
 
-/// The inlined functions of a module's stream of these bytes and sizes: as many as there is room for, and how many there
-/// are.
+/// The inlined functions of a module's stream of these bytes and sizes: as many as there is capacity for, and how many
+/// there are.
 #[unsafe(no_mangle)]
 pub extern "C" fn pdb_inlinees(
     alloc: Global,
@@ -173,7 +173,7 @@ fn fill_lines(mut lines: InlineeLineIterator<'_>, records: &mut [PdbLine], count
 }
 
 /// The line records of a site with these annotations, of a function that begins in this file and line, inlined in the
-/// procedure that begins at this place: as many as there is room for, and how many there are.
+/// procedure that begins at this `section:offset`: as many as there is capacity for, and how many there are.
 #[unsafe(no_mangle)]
 pub extern "C" fn pdb_inlined_lines(
     annotations: &[u8],

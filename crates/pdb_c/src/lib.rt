@@ -1,5 +1,5 @@
 //! The reader of PDB files for callers in C: `include/pdb.h` declares the exports. No call keeps anything, and what a
-//! record lends borrows the bytes that the caller passed.
+//! record borrows is in the bytes that the caller passed.
 #![tactic(auto)]
 
 mod answers;

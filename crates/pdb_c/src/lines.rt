@@ -16,7 +16,7 @@ use pdb::{
 };
 use std::alloc::Global;
 
-/// A line record. What isn't told is 0.
+/// A line record. What isn't known is 0.
 #[repr(C)]
 #[derive(Clone, Copy)]
 pub struct PdbLine {
@@ -26,19 +26,19 @@ pub struct PdbLine {
     pub section: u16,
     /// 0, or why the file has no name.
     pub file_refused: u16,
-    /// 1 where the length is told.
+    /// 1 where the length is known.
     pub has_length: u8,
-    /// 1 where the column is told at which it starts.
+    /// 1 where the column is known at which it starts.
     pub has_column_start: u8,
-    /// 1 where the column is told at which it ends.
+    /// 1 where the column is known at which it ends.
     pub has_column_end: u8,
     /// 1 for a statement, 0 for an expression.
     pub is_statement: u8,
     /// How many bytes of code it is.
     pub length: u32,
-    /// The file, by the place of its checksum.
+    /// The file, by the offset of its checksum.
     pub file: u32,
-    /// The place of the file's name in the string table.
+    /// The offset of the file's name in the string table.
     pub file_name: u32,
     /// The first line.
     pub line_start: u32,
@@ -68,7 +68,7 @@ fn is_statement(kind: LineInfoKind) -> u8
     }
 }
 
-/// The place of the name of a file, and 0 or why there is no such file.
+/// The offset of the name of a file, and 0 or why there is no such file.
 fn file_of(program: &LineProgram<'_>, file: FileIndex) -> (u32, u16)
     ensures name { result.0 ≡ name_place (file_at program.now.checksums file.0) }
     ensures code { result.1 ≡ file_code (file_at program.now.checksums file.0) }
@@ -79,7 +79,7 @@ fn file_of(program: &LineProgram<'_>, file: FileIndex) -> (u32, u16)
     }
 }
 
-/// The row of a record, where the name of its file stands at a place, or is refused.
+/// The row of a record, where the name of its file is at an offset, or fails.
 pub fn named_row(file_name: u32, file_refused: u16, line: &LineInfo) -> PdbLine
     ensures { result ≡ named_row file_name file_refused line.now }
 {
@@ -154,7 +154,8 @@ fn lines_of(
     }
 }
 
-/// The line records of a module's stream of these bytes and sizes: as many as there is room for, and how many there are.
+/// The line records of a module's stream of these bytes and sizes: as many as there is capacity for, and how many there
+/// are.
 #[unsafe(no_mangle)]
 pub extern "C" fn pdb_lines(
     alloc: Global,

@@ -33,8 +33,8 @@ use std::alloc::{AllocError, Global};
 pub struct PdbMember<'a> {
     /// Its name; empty where it has none.
     pub name: &'a [u8],
-    /// The low 64 bits of an enumerator's value, or an offset in bytes: of a member in the object, of a virtual function in
-    /// its table.
+    /// The low 64 bits of an enumerator's value, or an offset in bytes: of a member in the object, of a virtual
+    /// function in its table.
     pub value: u64,
     /// The high 64 bits: a negative number is in two's complement.
     pub value_high: u64,
@@ -465,8 +465,8 @@ fn fill<'a>(rows: &[PdbMember<'a>], records: &mut [PdbMember<'a>], count: &mut u
     room_code(records.len(), rows.len())
 }
 
-/// The members of the types of these indices, one type after the other: as many rows as the buffer has, and how many there
-/// are. A type that is only declared has the members of its full definition.
+/// The members of the types of these indices, one type after the other: as many rows as the buffer has, and how many
+/// there are. A type that is only declared has the members of its full definition.
 #[unsafe(no_mangle)]
 pub extern "C" fn pdb_members<'a>(
     alloc: Global,

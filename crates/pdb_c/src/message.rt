@@ -65,7 +65,8 @@ fn message_of(code: u32) -> Option<&'static str>
     }
 }
 
-/// The text of a code: English, in one line, without a period. A code that `include/pdb.h` doesn't have has `unknown code`.
+/// The text of a code: English, in one line, without a period. A code that `include/pdb.h` doesn't have has `unknown
+/// code`.
 #[unsafe(no_mangle)]
 pub extern "C" fn pdb_message<'a>(code: u32, out: &mut PdbName<'a>)
     ensures { out.new.bytes.now ≡ unwrap_or (message_of code) (codes "unknown code") }

@@ -65,7 +65,7 @@ fn fill<'a>(mut modules: ModuleIter<'a>, records: &mut [PdbModule<'a>], count: &
     }
 }
 
-/// The modules that a DBI stream of these bytes lists: as many as there is room for, and how many there are.
+/// The modules that a DBI stream of these bytes lists: as many as there is capacity for, and how many there are.
 #[unsafe(no_mangle)]
 pub extern "C" fn pdb_modules<'a>(
     dbi: &'a [u8],

@@ -39,7 +39,7 @@ fn names_of(bytes: &[u8]) -> Result<&[u8]>
     Ok(&bytes[12..12 + size])
 }
 
-/// The name at a place among names.
+/// The name at an offset among names.
 fn name_among(names: &[u8], place: u32) -> Result<RawString<'_>>
     ensures { Answers name_bytes result (cstring_at names.entry.now place) }
 {
@@ -48,7 +48,7 @@ fn name_among(names: &[u8], place: u32) -> Result<RawString<'_>>
     buffer.parse_cstring()
 }
 
-/// The name at a place of a string table of these bytes.
+/// The name at an offset of a string table of these bytes.
 #[tactic(auto, unfolding(crate::specs::Numbers::name_in))]
 fn name_at(bytes: &[u8], place: u32) -> Result<RawString<'_>>
     ensures { Answers name_bytes result (name_in bytes.entry.now place) }
@@ -56,7 +56,7 @@ fn name_at(bytes: &[u8], place: u32) -> Result<RawString<'_>>
     name_among(names_of(bytes)?, place)
 }
 
-/// The name at a place of the string table, which is the stream `/names`. Where it is refused, `out` stays as it was.
+/// The name at an offset of the string table, which is the stream `/names`. Where it fails, `out` stays as it was.
 #[unsafe(no_mangle)]
 pub extern "C" fn pdb_name<'a>(names: &'a [u8], place: u32, out: &mut PdbName<'a>) -> u32
     ensures { ToldWithoutMemory result out.old.bytes.now out.new.bytes.now (name_in names.now place) }

@@ -36,8 +36,8 @@ fn number_or_zero(register: Option<Register>) -> u32
     }
 }
 
-/// The number of the register from which a frame counts, by the machine and by its number in the record of the frame: 1 to
-/// 3. It is 0 where there is none.
+/// The number of the register from which a frame counts, by the machine and by its number in the record of the frame: 1
+/// to 3. It is 0 where there is none.
 #[unsafe(no_mangle)]
 pub extern "C" fn pdb_frame_register(machine: u16, base: u8) -> u32
     ensures { result ≡ frame_register_on (machine_of_image machine) base }

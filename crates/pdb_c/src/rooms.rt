@@ -1,11 +1,11 @@
-//! Rooms of the caller's, which are filled as far as they reach.
+//! Buffers of the caller's, which are filled as far as they reach.
 
 ghost use Rattle.std.specs.Prelude.{◌≡◌, ◌+◌, [], ◌∷◌, IfOk, IfErr};
 ghost use Rattle.pdb_c.specs.Rooms.{over, put};
 
 use pdb::{Error, Result};
 
-/// Puts bytes in a room from a place on, as far as it reaches.
+/// Puts bytes in a buffer from an index on, as far as it reaches.
 #[tactic(auto, using(crate::proofs::Putting::put_past))]
 pub fn put_bytes(room: &mut [u8], at: usize, bytes: &[u8])
     ensures { room.new ≡ put at bytes.now room.old }
@@ -18,7 +18,7 @@ pub fn put_bytes(room: &mut [u8], at: usize, bytes: &[u8])
     }
 }
 
-/// Puts a row in a room, where it has place for it.
+/// Puts a row in a buffer, where it has space for it.
 #[tactic(auto, using(crate::proofs::Putting::put_there, crate::proofs::Putting::put_past))]
 pub fn put_row<T: Copy>(room: &mut [T], at: usize, row: T)
     ensures { room.new ≡ put at (row ∷ []) room.old }
@@ -28,7 +28,7 @@ pub fn put_row<T: Copy>(room: &mut [T], at: usize, row: T)
     }
 }
 
-/// Puts rows in a room from its start on.
+/// Puts rows in a buffer from its start on.
 pub fn put_rows<T: Copy>(rows: &[T], room: &mut [T])
     ensures { room.new ≡ over rows.now room.old }
 {
@@ -37,7 +37,7 @@ pub fn put_rows<T: Copy>(rows: &[T], room: &mut [T])
     }
 }
 
-/// A place so far behind another one. As much doesn't fit into memory where there is no such place.
+/// An index so far behind another one. As much doesn't fit into memory where there is no such index.
 pub fn behind(at: usize, count: usize) -> Result<usize>
     ensures there { IfOk result (λ place. place ≡ at + count) }
     ensures refused { IfErr result (λ e. e ≡ Error.OutOfMemory) }

@@ -15,17 +15,17 @@ use crate::rooms::{behind, put_bytes, put_row};
 use pdb::{Error, MemorySource, PDB, Result, Stream, StreamIndex};
 use std::alloc::Global;
 
-/// A stream: where its bytes begin in the room, how many there are, its number, and 0 or why it is refused.
+/// A stream: where its bytes begin in the buffer, how many there are, its number, and 0 or why it fails.
 #[repr(C)]
 #[derive(Clone, Copy)]
 pub struct PdbStream {
-    /// Where the stream's bytes begin in the room.
+    /// Where the stream's bytes begin in the buffer.
     pub at: usize,
-    /// How many bytes it has; 0 where it is refused.
+    /// How many bytes it has; 0 where it fails.
     pub size: usize,
     /// Its number.
     pub number: u32,
-    /// 0, or the number of its refusal.
+    /// 0, or the number of its error.
     pub code: u32,
 }
 
@@ -103,8 +103,8 @@ fn put_streams<'s>(
     Ok(())
 }
 
-/// The streams of these numbers: the row of each, and their bytes one after the other, each as far as its room reaches;
-/// how many bytes there are. The file is opened once. Out of memory, `size` is 0.
+/// The streams of these numbers: the row of each, and their bytes one after the other, each as far as its buffer
+/// reaches; how many bytes there are. The file is opened once. Out of memory, `size` is 0.
 #[unsafe(no_mangle)]
 pub extern "C" fn pdb_streams(
     alloc: Global,
@@ -141,7 +141,7 @@ fn named_stream_of<'s>(alloc: Global, file: &'s [u8], name: &[u8]) -> Result<Str
     PDB::open(alloc, MemorySource::new(file))?.named_stream(name)
 }
 
-/// The bytes of the stream of this name: as many as there is room for, and how many there are.
+/// The bytes of the stream of this name: as many as there is capacity for, and how many there are.
 #[tactic(auto, using(crate::proofs::Codes::copied_read, crate::proofs::Codes::copied_refused))]
 #[unsafe(no_mangle)]
 pub extern "C" fn pdb_named_stream(

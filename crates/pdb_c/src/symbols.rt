@@ -1,4 +1,4 @@
-//! Symbols, as many as there is room for in one call.
+//! Symbols, as many as there is capacity for in one call.
 
 ghost use Rattle.std.specs.Prelude.{◌≡◌, ◌+◌, ◌≤◌, ◌<◌, ◌⊎◌, ℕ, List, length, IsTrue, None, Ok, Err, IfOk, IfSome};
 ghost use Rattle.pdb.specs.Error.{Error};
@@ -20,8 +20,8 @@ use pdb::{
 use pdb_base::part::part_of;
 use std::alloc::Global;
 
-/// A symbol. A field that the record doesn't have is 0 or empty, and so is each where the record has an error. The record,
-/// the name and the annotations borrow the stream.
+/// A symbol. A field that the record doesn't have is 0 or empty, and so is each where the record has an error. The
+/// record, the name and the annotations borrow the stream.
 #[repr(C)]
 #[derive(Clone, Copy)]
 pub struct PdbSymbol<'a> {
@@ -37,7 +37,7 @@ pub struct PdbSymbol<'a> {
     pub parent: u32,
     /// The symbol that ends its scope, or 0.
     pub end: u32,
-    /// Where in its section what it tells of stands.
+    /// Where in its section what it is about stands.
     pub offset: u32,
     /// How many bytes of code it is, or 0.
     pub code_size: u32,
@@ -55,7 +55,7 @@ pub struct PdbSymbol<'a> {
     pub refused: u8,
     /// 1 where it has a name.
     pub has_name: u8,
-    /// 1 where it has a place in the image.
+    /// 1 where it has a `section:offset`.
     pub has_place: u8,
     /// 1 where records of its kind start a scope.
     pub starts_scope: u8,
@@ -111,7 +111,7 @@ fn name_told<'a>(said: &SymbolData<'a>) -> (&'a [u8], u8)
     }
 }
 
-/// The place that is told, and 1 where one is.
+/// The `section:offset`, and 1 where there is one.
 #[inline(always)]
 fn place_told(place: Option<PdbInternalSectionOffset>) -> (PdbInternalSectionOffset, u8)
     ensures offset { result.0.offset ≡ offset_or_zero place }
@@ -173,7 +173,7 @@ fn shown<'a>(alloc: Global, symbol: &Symbol<'a>) -> Option<PdbSymbol<'a>>
     }
 }
 
-/// The place behind a record; `u32::MAX` where no place is as great.
+/// The offset behind a record; `u32::MAX` where no offset is as great.
 fn behind(symbol: &Symbol<'_>) -> u32
     ensures { (symbol_of symbol.now).index + 2 + length (symbol_of symbol.now).bytes ≤ 4294967295 → result ≡ (symbol_of symbol.now).index + 2 + length (symbol_of symbol.now).bytes }
 {
@@ -245,7 +245,7 @@ fn symbols_part(stream: &[u8], symbols_size: u32) -> Result<&[u8]>
     checked_part(part_of(stream, 0, symbols_size as usize)?)
 }
 
-/// The symbols of bytes from a place on.
+/// The symbols of bytes from an offset on.
 fn fill_from<'a>(
     alloc: Global,
     bytes: &'a [u8],
@@ -262,8 +262,8 @@ fn fill_from<'a>(
     fill(alloc, symbols, at, records, count)
 }
 
-/// The symbols of a module's stream from the offset `at` on, as many as the buffer has rows; `at` is then where the next
-/// is read. The first is at 4. Where the symbols part has an error, `at` stays.
+/// The symbols of a module's stream from the offset `at` on, as many as the buffer has rows; `at` is then where the
+/// next is read. The first is at 4. Where the symbols part has an error, `at` stays.
 #[unsafe(no_mangle)]
 pub extern "C" fn pdb_symbols<'a>(
     alloc: Global,

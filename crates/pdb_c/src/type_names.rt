@@ -95,8 +95,8 @@ fn fill(
     ))
 }
 
-/// The names of the types of these indices, in C++: a row of each, and the names one after the other, each as far as its
-/// buffer reaches; how many bytes the names have.
+/// The names of the types of these indices, in C++: a row of each, and the names one after the other, each as far as
+/// its buffer reaches; how many bytes the names have.
 #[unsafe(no_mangle)]
 pub extern "C" fn pdb_type_name(
     alloc: Global,

@@ -252,9 +252,9 @@ fn put_opened<'s>(
     put_all(&mut resolver, asked, rows, count, names, size)
 }
 
-/// The variables in scope at addresses, one address after the other: of each a row, or one for each of its parts, in the
-/// order of their records; and their names: each as far as its buffer reaches; how many rows there are, and how many bytes
-/// of names. The file is opened once. Out of memory, both counts are 0.
+/// The variables in scope at addresses, one address after the other: of each a row, or one for each of its parts, in
+/// the order of their records; and their names: each as far as its buffer reaches; how many rows there are, and how
+/// many bytes of names. The file is opened once. Out of memory, both counts are 0.
 #[unsafe(no_mangle)]
 pub extern "C" fn pdb_variables(
     alloc: Global,

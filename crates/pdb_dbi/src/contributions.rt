@@ -20,7 +20,7 @@ pub struct DBISectionContribution {
     pub size: u32,
     /// The characteristics of the object file's section from which they came.
     pub characteristics: SectionCharacteristics,
-    /// The module, by its place in the list of modules, counted from 0.
+    /// The module, by its index in the list of modules, counted from 0.
     pub module: usize,
     /// A checksum of the bytes.
     pub data_crc: u32,
@@ -53,7 +53,7 @@ fn contribution(fields: &[u8]) -> DBISectionContribution
     }
 }
 
-/// The contribution at the buffer's place, of so many bytes.
+/// The contribution at the buffer's offset, of so many bytes.
 #[tactic(auto, unfolding(crate::specs::Contributions::contribution_at))]
 fn read_contribution(buffer: &mut ParseBuffer<'_>, size: usize) -> Result<DBISectionContribution>
     requires { 28 ≤ size }

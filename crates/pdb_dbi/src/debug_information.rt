@@ -1,4 +1,4 @@
-//! The DBI stream: what a file tells of the image and its modules.
+//! The DBI stream: what a file has on the image and its modules.
 
 ghost use Rattle.std.specs.Prelude.{◌≡◌, Ok, IfOk, IsOk};
 ghost use Rattle.pdb_base.specs.Refusal.{Answers};
@@ -40,7 +40,7 @@ impl<'s> Model for DebugInformation<'s> {
 impl<'s> DebugInformation<'s> {
     ghost use Rattle.pdb_dbi.specs.DbiViews.{modules_left, modules_bytes, modules_steps, contributions_left, contributions_bytes, contributions_steps};
 
-    /// Reads the header of the DBI stream, and keeps the stream. It is refused as `DBIHeader::parse` is.
+    /// Reads the header of the DBI stream, and keeps the stream. It fails as `DBIHeader::parse` does.
     #[tactic(auto, unfolding(crate::specs::Header::debug_information_of))]
     pub fn parse(stream: Stream<'s>) -> Result<DebugInformation<'s>>
         ensures { Answers (λ d. d) result (debug_information_of stream.entry) }
@@ -59,7 +59,7 @@ impl<'s> DebugInformation<'s> {
         self.read_header
     }
 
-    /// The machine that the image was made for, by the header's number. It is never refused.
+    /// The machine that the image was made for, by the header's number. It never fails.
     pub fn machine_type(&self) -> Result<MachineType>
         ensures answer { Answers (λ m. m) result (machine_in self.now) }
         ensures ok { IsOk result }

@@ -41,7 +41,7 @@ fn rest_of<'b>(buffer: &mut ParseBuffer<'b>) -> Result<&'b [u8]>
     buffer.take(size)
 }
 
-/// What stands behind the map of names at the buffer's place.
+/// What stands behind the map of names at the buffer's offset.
 #[tactic(auto, unfolding(crate::specs::Features::behind_map))]
 fn behind_map<'b>(map: &mut ParseBuffer<'b>) -> Result<&'b [u8]>
     ensures { Answers (λ s. s.now) result (behind_map map.old.bytes map.old.place) }
@@ -54,7 +54,7 @@ fn behind_map<'b>(map: &mut ParseBuffer<'b>) -> Result<&'b [u8]>
     rest_of(map)
 }
 
-/// Whether the numbers behind the map of names, whose part has so many bytes at a place, name a format with ids.
+/// Whether the numbers behind the map of names, whose part has so many bytes at an offset, name a format with ids.
 #[tactic(auto, unfolding(crate::specs::Features::has_ids_of))]
 pub(crate) fn has_ids(bytes: &[u8], offset: usize, size: usize) -> Result<bool>
     ensures { Answers (λ b. b) result (has_ids_of bytes.now offset size) }

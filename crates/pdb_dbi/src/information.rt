@@ -21,15 +21,15 @@ use std::alloc::Global;
 pub struct PDBInformation<'s> {
     /// The version of the stream's format.
     pub version: HeaderVersion,
-    /// When the file was made, in seconds since 1970, or another number that tells it from others.
+    /// When the file was made, in seconds since 1970, or another number that distinguishes it from others.
     pub signature: u32,
-    /// How often the file was written. The image tells the age of the DBI stream, not this one.
+    /// How often the file was written. The image has the age of the DBI stream, not this one.
     pub age: u32,
     /// The number that is the file's alone: the first three fields greatest byte first, and then its last eight bytes.
     pub guid: [u8; 16],
     /// Where the names' part begins in the stream, in bytes: 32, until the caller sets it.
     pub names_offset: usize,
-    /// The size of the names' part, in bytes, as the stream tells it, until the caller sets it.
+    /// The size of the names' part, in bytes, as the stream has it, until the caller sets it.
     pub names_size: usize,
     stream: Stream<'s>,
 }
@@ -37,7 +37,7 @@ pub struct PDBInformation<'s> {
 /// The size of the fields before the names' part.
 const NAMES_OFFSET: usize = 32;
 
-/// The number whose first three fields stand least byte first at place 12.
+/// The number whose first three fields stand least byte first at offset 12.
 fn guid(bytes: &[u8]) -> [u8; 16]
     requires { 32 ≤ length bytes.now }
     ensures { result ≡ guid_of bytes.now }
@@ -73,7 +73,7 @@ impl<'s> PDBInformation<'s> {
 
     /// The names of streams, by the fields as they are now: the names' part is `names_size` bytes at `names_offset`.
     /// Behind it stand a `u32` count, a `u32` that isn't used, twice a `u32` and that many more, and then the count's
-    /// pairs, each a `u32` place in the part and a `u32` stream, of which the low 16 bits count. `UnexpectedEof` where
+    /// pairs, each a `u32` offset in the part and a `u32` stream, of which the low 16 bits count. `UnexpectedEof` where
     /// any of it, or the zero byte that ends a name, isn't there: then there is no list. It takes memory for the list,
     /// once all pairs are known to be there.
     pub fn stream_names(&self, alloc: Global) -> Result<StreamNames<'_>>

@@ -41,7 +41,7 @@ pub fn one_list_of_modules()
     ensures only { (b : List ℕ) (left : Left ModuleEntry) → IsListing modules b 0 left → left ≡ modules_of b }
 {}
 
-/// A module is read where its fields stand at their places.
+/// A module is read where its fields stand at their offsets.
 pub fn modules_stand_at_their_places()
     ensures { (b : List ℕ) (p : ℕ) (m : ModuleEntry) → (module_at b p ≡ Ok m) ↔ IsModule b p m }
 {}
@@ -52,7 +52,8 @@ pub fn one_list_of_contributions()
     ensures only { (part records : List ℕ) (left : Left DBISectionContribution) → records_of part ≡ Ok records → IsListing (contributions (record_size (number part 0 4))) records 0 left → contributions_of part ≡ Ok left }
 {}
 
-/// A contribution is read where its fields stand at their places, in a record of the size that the part's version says.
+/// A contribution is read where its fields stand at their offsets, in a record of the size that the part's version
+/// says.
 pub fn contributions_stand_at_their_places()
     ensures { (version p : ℕ) (b : List ℕ) (c : DBISectionContribution) → (contribution_at (record_size version) b p ≡ Ok c) ↔ IsContribution (record_size version) b p c }
 {}

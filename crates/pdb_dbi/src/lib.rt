@@ -1,4 +1,4 @@
-//! The information stream and the DBI stream of a PDB file: which file it is, and what it tells of the image and its
+//! The information stream and the DBI stream of a PDB file: which file it is, and what it has on the image and its
 //! modules.
 #![tactic(auto)]
 

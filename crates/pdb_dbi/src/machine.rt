@@ -9,7 +9,7 @@ use std::fmt;
 /// there).
 #[derive(Clone, Copy, Debug, PartialEq, Eq)]
 pub enum MachineType {
-    /// Not told.
+    /// Not known.
     Unknown = 0x0,
     /// Matsushita AM33.
     Am33 = 0x13,

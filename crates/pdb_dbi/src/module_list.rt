@@ -10,7 +10,7 @@ use crate::modules::ModuleIter;
 use pdb_base::Result;
 use pdb_base::part::part_of;
 
-/// The modules of a DBI stream of these bytes, which the modules' names borrow. It is refused as
+/// The modules of a DBI stream of these bytes, which the modules' names borrow. It fails as
 /// `DebugInformation::parse` and then `DebugInformation::modules`. No stream has 4294967295 bytes or more.
 #[tactic(auto, unfolding(crate::specs::Modules::modules_in, crate::specs::Modules::module_list_of))]
 pub fn modules_of_bytes(bytes: &[u8]) -> Result<ModuleIter<'_>>

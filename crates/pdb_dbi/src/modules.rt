@@ -120,7 +120,7 @@ impl Clone for Module<'_> {
 /// The size of a record's fields before its names.
 const RECORD_SIZE: usize = 64;
 
-/// The module at the buffer's place.
+/// The module at the buffer's offset.
 #[tactic(auto, unfolding(crate::specs::Modules::module_at))]
 fn read_module<'m>(buffer: &mut ParseBuffer<'m>) -> Result<Module<'m>>
     ensures { Reads (λ m. m) buffer.old buffer.new result (module_at buffer.old.bytes buffer.old.place) (module_length buffer.old.place) }

@@ -63,7 +63,7 @@ impl<'a, 's> IntoIterator for &'a StreamNames<'s> {
     }
 }
 
-/// A count of words of four bytes, and then these, which are lent.
+/// A count of words of four bytes, and then these, which are borrowed.
 #[tactic(auto, unfolding(crate::specs::Names::words_at))]
 pub(crate) fn skip_words<'b>(buffer: &mut ParseBuffer<'b>) -> Result<&'b [u8]>
     ensures { Reads (λ s. s.now) buffer.old buffer.new result (words_at buffer.old.bytes buffer.old.place) (λ s. 4 + length s) }
@@ -72,7 +72,7 @@ pub(crate) fn skip_words<'b>(buffer: &mut ParseBuffer<'b>) -> Result<&'b [u8]>
     buffer.take(4 * count as usize)
 }
 
-/// The pairs of the map at the buffer's place.
+/// The pairs of the map at the buffer's offset.
 #[tactic(auto, unfolding(crate::specs::Names::pairs_at))]
 fn read_pairs<'b>(buffer: &mut ParseBuffer<'b>) -> Result<&'b [u8]>
     ensures { Answers (λ s. s.now) result (pairs_at buffer.old.bytes buffer.old.place) }
@@ -98,7 +98,7 @@ fn read_name<'n>(part: &'n [u8], pairs: &[u8], k: usize) -> Result<StreamName<'n
     })
 }
 
-/// The names of the part of so many bytes at a place, by the map behind it.
+/// The names of the part of so many bytes at an offset, by the map behind it.
 #[tactic(auto, using(crate::proofs::NameList::part_refused, crate::proofs::NameList::one_more_name))]
 pub(crate) fn read_names<'n>(
     alloc: Global,

@@ -74,10 +74,10 @@ length-laid_all file (r ∷ rs) fits =
     let same = length-laid file r (All-head (λ r. end_of r ≤ length file) r rs fits) in
     length-laid_all (laid file r) rs (rw same (All-tail (λ r. end_of r ≤ length file) r rs fits)) ∙ same
 
-later : (r : Run) (rs : List Run) → AllPairs IsBefore (r ∷ rs) → All (IsBefore r) rs
+pub later : (r : Run) (rs : List Run) → AllPairs IsBefore (r ∷ rs) → All (IsBefore r) rs
 later r rs h = λ k d lt. h 0 (suc k) d (omega arith) (omega (arith, lt))
 
-rest : (r : Run) (rs : List Run) → AllPairs IsBefore (r ∷ rs) → AllPairs IsBefore rs
+pub rest : (r : Run) (rs : List Run) → AllPairs IsBefore (r ∷ rs) → AllPairs IsBefore rs
 rest r rs h = λ i j d lt within. h (suc i) (suc j) d (omega (arith, lt)) (omega (arith, within))
 
 laid_has : (file : List ℕ) (rs : List Run) → All (λ r. end_of r ≤ length file) rs → AllPairs IsBefore rs → All (IsRunOf (laid_all file rs)) rs
@@ -145,13 +145,13 @@ same_le n = omega arith
 same_place : (i : ℕ) → i + zero ≡ i
 same_place i = omega arith
 
-before_last : (xs : List Run) (i k : ℕ) (d r : Run) → k < i → i ≤ length xs → AllPairs IsBefore xs → IsBefore (get_or xs (i - 1) d) r → IsBefore (get_or xs k d) r
+pub before_last : (xs : List Run) (i k : ℕ) (d r : Run) → k < i → i ≤ length xs → AllPairs IsBefore xs → IsBefore (get_or xs (i - 1) d) r → IsBefore (get_or xs k d) r
 before_last xs i k d r small le h end = ⊎_elim
     (λ less. let b = h k (i - 1) d less (omega (arith, small, le)) in omega (arith, b, end))
     (λ more. let same : k ≡ i - 1 = omega (arith, small, more) in rw same end)
     (cases_lt k (i - 1))
 
-behind_next : (xs : List Run) (i k : ℕ) (d r : Run) → i + k < length xs → AllPairs IsBefore xs → IsBefore r (get_or xs i d) → IsBefore r (get_or xs (i + k) d)
+pub behind_next : (xs : List Run) (i k : ℕ) (d r : Run) → i + k < length xs → AllPairs IsBefore xs → IsBefore r (get_or xs i d) → IsBefore r (get_or xs (i + k) d)
 behind_next xs i zero d r small h start = rw (same_place i) start
 behind_next xs i (suc k) d r small h start = let b = h i (i + suc k) d (omega arith) small in omega (arith, b, start)
 
@@ -168,10 +168,11 @@ behind_it xs i r h next = λ k d lt.
     let there : get_or (drop i xs) k d ≡ get_or xs (i + k) d = grind (arith, common_steps) in
     rw there (behind_next xs i k d r small h (next d (omega (arith, small))))
 
-pub with_kept : (k : Kept) (i : ℕ) (r : Run) → IsKept k → end_of r ≤ k.size → i ≤ length k.runs
+pub with_kept : (k : Kept) (i : ℕ) (r : Run) → IsKept k → 0 < length r.bytes.items → end_of r ≤ k.size → i ≤ length k.runs
     → ((d : Run) → 0 < i → i ≤ length k.runs → IsBefore (get_or k.runs (i - 1) d) r) → ((d : Run) → i < length k.runs → IsBefore r (get_or k.runs i d))
     → IsKept (record { size = k.size; runs = insert k.runs i r })
-with_kept k i r h fits le last next = record {
+with_kept k i r h filled fits le last next = record {
+  filled = all_insert (λ r. 0 < length r.bytes.items) k.runs i r h.filled filled;
   fits = all_insert (λ r. end_of r ≤ k.size) k.runs i r h.fits fits;
   order = pairs_insert k.runs i r h.order (before_it k.runs i r h.order le last) (behind_it k.runs i r h.order next);
 }

@@ -2,3 +2,5 @@ pub mod Parts
 pub mod Files
 pub mod GivenBytes
 pub mod NoneHeld
+mod FreeRuns
+mod Groups

@@ -1,6 +1,6 @@
 -- What is held of a file.
-use Rattle.std.specs.Prelude.{◌≡◌, ℕ, ◌+◌, ◌<◌, ◌≤◌, ◌&&◌, Bool, Option, Some, None, List, [], ◌∷◌, ◌++◌, length, take, drop, replicate, nat_le, nat_eq, if◌then◌else◌}
-use Rattle.std.specs.List.{All, AllPairs, list_all, insert, sum_by}
+use Rattle.std.specs.Prelude.{◌≡◌, ℕ, ◌+◌, ◌<◌, ◌≤◌, ◌⊎◌, ◌&&◌, Bool, Option, Some, None, List, [], ◌∷◌, ◌++◌, length, min, take, drop, replicate, nat_le, nat_eq, if◌then◌else◌}
+use Rattle.std.specs.List.{All, AllPairs, Any, list_all, insert, sum_by}
 use Rattle.std.specs.Str.{bytes_eq}
 use Rattle.pdb_base.specs.declared.source.SourceSlice.{SourceSlice}
 use Rattle.pdb_file.specs.declared.run.Run.{Run}
@@ -35,14 +35,19 @@ end_of r = r.at + length r.bytes.items
 abbrev pub IsBefore : Run → Run → Type 0
 IsBefore r s = end_of r ≤ s.at
 
--- runs lie in the file, in their order, and no byte is held twice
+-- runs have bytes, lie in the file, in their order, and no byte is held twice
 pub record IsKept (k : Kept) : Type 0 where
+  pub filled : All (λ r. 0 < length r.bytes.items) k.runs
   pub fits : All (λ r. end_of r ≤ k.size) k.runs
   pub order : AllPairs IsBefore k.runs
 
 -- how many bytes are held
 abbrev pub held_bytes : Kept → ℕ
 held_bytes k = sum_by (λ r. length r.bytes.items) k.runs
+
+-- the same is held, or more bytes are
+abbrev pub IsSameOrMore : Kept → Kept → Type 0
+IsSameOrMore old new = (new ≡ old) ⊎ (held_bytes old < held_bytes new)
 
 -- one run more is held
 abbrev pub IsWith : Kept → Run → Kept → Type 0
@@ -51,6 +56,24 @@ IsWith old r new = (i : ℕ) × (i ≤ length old.runs) × (new ≡ record { siz
 -- a run has this byte of the file
 abbrev pub HasByte : ℕ → Run → Type 0
 HasByte at r = (r.at ≤ at) × (at < end_of r)
+
+-- the byte at an offset is held
+abbrev pub IsHeldAt : Kept → ℕ → Type 0
+IsHeldAt k at = Any (HasByte at) k.runs
+
+-- so is each byte from one offset to another
+abbrev pub AreHeld : Kept → ℕ → ℕ → Type 0
+AreHeld k from end = (at : ℕ) → from ≤ at → at < end → IsHeldAt k at
+
+-- so is each byte of a slice that the file has
+abbrev pub IsAllHeld : Kept → SourceSlice → Type 0
+IsAllHeld k s = AreHeld k s.offset (min (s.offset + s.size) k.size)
+
+-- a run can be held: it has a byte, lies in the file, and none of its bytes is held
+pub record IsFree (k : Kept) (r : Run) : Type 0 where
+  pub filled : 0 < length r.bytes.items
+  pub inside : end_of r ≤ k.size
+  pub apart : (at : ℕ) → HasByte at r → IsHeldAt k at → ⊥
 
 -- all of a slice stands in one run
 abbrev pub StandsIn : SourceSlice → Run → Type 0

@@ -12,8 +12,8 @@ use std::alloc::Global;
 
 /// What a program asks for of a file before it runs over it.
 pub trait Asks {
-    /// Asks for what wasn't asked for yet, as far as the answers tell what that is. What isn't held is missed, read, and
-    /// then held, so it needn't be asked for again. Answers whether nothing will be left to ask for then.
+    /// Asks for what wasn't asked for yet, as far as the results show what that is. What isn't held is missed, read,
+    /// and then held, so it needn't be asked for again. Returns whether nothing will be left to ask for then.
     fn ask(&mut self, alloc: Global, source: HeldSource<'_, '_, '_, AnyFile>) -> bool;
 }
 

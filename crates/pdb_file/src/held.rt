@@ -1,8 +1,8 @@
 //! The bytes of a file that are held.
 
-ghost use Rattle.std.specs.Prelude.{◌≡◌, ℕ, ◌+◌, ◌-◌, ◌<◌, ◌≤◌, ◌⊎◌, List, [], length, min, true, false, get_or, Bool, IfOk, IfErr, IfSome, IsSomeAnd, IsNone};
+ghost use Rattle.std.specs.Prelude.{◌≡◌, ◌↔◌, ℕ, ◌+◌, ◌-◌, ◌<◌, ◌≤◌, ◌⊎◌, List, [], length, min, true, false, get_or, Bool, IfOk, IfErr, IfSome, IsSomeAnd, IsNone};
 ghost use Rattle.std.specs.List.{All, AllWithin, Any};
-ghost use Rattle.pdb_file.specs.HeldBytes.{Agrees, IsPart, IsRunOf, IsBefore, IsKept, IsWith, HasByte, end_of, held_bytes};
+ghost use Rattle.pdb_file.specs.HeldBytes.{Agrees, IsPart, IsRunOf, IsBefore, IsFree, IsKept, IsWith, HasByte, end_of, held_bytes};
 ghost use Rattle.pdb_file.specs.declared.run.Run.{Run};
 
 use crate::run::Run;
@@ -28,21 +28,22 @@ impl Model for Held {
 
 /// Whether a run lies in a file of this size.
 fn fits(size: u64, run: &Run) -> bool
-    ensures { result ≡ true → end_of run.now ≤ size }
+    ensures { (result ≡ true) ↔ (end_of run.now ≤ size) }
 {
     run.at <= size && run.bytes.len() as u64 <= size - run.at
 }
 
 /// Whether the one run ends before the other begins.
 fn is_before(run: &Run, other: &Run) -> bool
-    ensures { result ≡ true → IsBefore run.now other.now }
+    ensures { (result ≡ true) ↔ IsBefore run.now other.now }
 {
     run.at <= other.at && run.bytes.len() as u64 <= other.at - run.at
 }
 
-/// Whether a run ends before the one with this place in the list begins, where there is one.
+/// Whether a run ends before the one with this index in the list begins, where there is one.
 fn is_before_next(runs: &[Run], index: usize, run: &Run) -> bool
-    ensures { result ≡ true → (d : Run) → index < length runs.now → IsBefore run.now (get_or runs.now index d) }
+    ensures before { result ≡ true → (d : Run) → index < length runs.now → IsBefore run.now (get_or runs.now index d) }
+    ensures reaches { result ≡ false → (index < length runs.now) × ((d : Run) → IsBefore run.now (get_or runs.now index d) → ⊥) }
 {
     match runs.get(index) {
         Some(next) => is_before(run, next),
@@ -50,9 +51,10 @@ fn is_before_next(runs: &[Run], index: usize, run: &Run) -> bool
     }
 }
 
-/// Whether a run begins behind the end of the one before this place in the list, where there is one.
+/// Whether a run begins behind the end of the one before this index in the list, where there is one.
 fn is_behind_last(runs: &[Run], index: usize, run: &Run) -> bool
-    ensures { result ≡ true → (d : Run) → 0 < index → index ≤ length runs.now → IsBefore (get_or runs.now (index - 1) d) run.now }
+    ensures behind { result ≡ true → (d : Run) → 0 < index → index ≤ length runs.now → IsBefore (get_or runs.now (index - 1) d) run.now }
+    ensures reached { result ≡ false → (0 < index) × (index ≤ length runs.now) × ((d : Run) → IsBefore (get_or runs.now (index - 1) d) run.now → ⊥) }
 {
     if index == 0 {
         return true;
@@ -63,12 +65,13 @@ fn is_behind_last(runs: &[Run], index: usize, run: &Run) -> bool
     }
 }
 
-/// The bytes of a run from a place of the file on; none where there is none.
+/// The bytes of a run from an offset of the file on; none where there is none.
 #[tactic(auto, using(crate::proofs::Parts::part_behind))]
 fn behind(run: &Run, at: u64) -> Option<&[u8]>
     ensures part { (F : List ℕ) → IsRunOf F run.now → IfSome result (λ p. IsPart F at p.now) }
     ensures some { IfSome result (λ p. 0 < length p.now) }
     ensures found { HasByte at run.now → IsSomeAnd result (λ p. at + length p.now ≡ end_of run.now) }
+    ensures held { IfSome result (λ p. (run.now.at ≤ at) × (at + length p.now ≡ end_of run.now)) }
 {
     let skip = at.checked_sub(run.at)?;
     if skip >= run.bytes.len() as u64 {
@@ -103,9 +106,10 @@ impl Held {
         self.runs.len()
     }
 
-    /// How many bytes are held, or 18446744073709551615 where these are more.
+    /// How many bytes are held: at most as many as the file has.
     pub fn bytes(&self) -> u64
-        ensures { result ≡ min (held_bytes self.now) 18446744073709551615 }
+        ensures bytes { result ≡ min (held_bytes self.now) 18446744073709551615 }
+        ensures within { held_bytes self.now ≤ self.now.size }
     {
         let mut bytes = 0u64;
         for run in &self.runs {
@@ -114,7 +118,7 @@ impl Held {
         bytes
     }
 
-    /// How many runs begin at or before a place.
+    /// How many runs begin at or before an offset.
     fn before(&self, at: u64) -> usize
         ensures bound { result ≤ length self.now.runs }
         ensures front { AllWithin (λ r. r.at ≤ at) self.now.runs 0 result }
@@ -123,17 +127,18 @@ impl Held {
         self.runs.partition_point(|run| run.at <= at)
     }
 
-    /// The bytes that are held from a place on, up to the end of their run; none where the byte there isn't held.
+    /// The bytes that are held from an offset on, up to the end of their run; none where the byte there isn't held.
     pub fn from_place(&self, at: u64) -> Option<&[u8]>
         ensures part { (F : List ℕ) → Agrees F self.now → IfSome result (λ p. IsPart F at p.now) }
         ensures some { IfSome result (λ p. 0 < length p.now) }
         ensures found { (i : ℕ) → (d : Run) → i < length self.now.runs → HasByte at (get_or self.now.runs i d) → IsSomeAnd result (λ p. at + length p.now ≡ end_of (get_or self.now.runs i d)) }
+        ensures held { IfSome result (λ p. Any (λ r. (r.at ≤ at) × (at + length p.now ≡ end_of r)) self.now.runs) }
     {
         let index = self.before(at).checked_sub(1)?;
         behind(self.runs.get(index)?, at)
     }
 
-    /// Where the next run begins behind a place, or this end where that comes first.
+    /// Where the next run begins behind an offset, or this end where that comes first.
     pub fn next_place(&self, at: u64, end: u64) -> u64
         ensures most { result ≤ end }
         ensures least { All (λ r. at < r.at → result ≤ r.at) self.now.runs }
@@ -145,17 +150,21 @@ impl Held {
         }
     }
 
-    /// Holds a run, unless it lies outside of the file, or a byte of it is held; answers whether it does.
+    /// Holds a run, unless it has no byte, lies outside of the file, or a byte of it is held; returns whether it does.
     pub fn insert(&mut self, run: Run) -> Result<bool, AllocError>
+        ensures exact { IfOk result (λ b. (b ≡ true) ↔ IsFree self.old run) }
         ensures held { IfOk result (λ b. b ≡ true → IsWith self.old run self.new) }
         ensures same { IfOk result (λ b. b ≡ false → self.new ≡ self.old) }
         ensures refused { IfErr result (λ _. self.new ≡ self.old) }
     {
+        if run.bytes.is_empty() || !fits(self.size, &run) {
+            return Ok(false);
+        }
         let index = self.before(run.at);
-        if !fits(self.size, &run)
-            || !is_behind_last(&self.runs, index, &run)
-            || !is_before_next(&self.runs, index, &run)
-        {
+        if !is_behind_last(&self.runs, index, &run) {
+            return Ok(false);
+        }
+        if !is_before_next(&self.runs, index, &run) {
             return Ok(false);
         }
         self.runs.insert(index, run)?;

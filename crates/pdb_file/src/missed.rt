@@ -21,6 +21,7 @@ impl Model for Missed {
 
 impl Missed {
     ghost use Rattle.std.specs.Prelude.{◌≡◌, ◌==◌, [], ◌∷◌, ◌++◌, length, OnOk, OnErr};
+    ghost use Rattle.std.specs.List.Sorted.{IsNonDecreasingBy, IsPermutation};
 
     /// Nothing was missed.
     pub fn new(alloc: Global) -> Missed
@@ -52,8 +53,11 @@ impl Missed {
         self.slices.clear();
     }
 
-    /// The slices in the order of their places.
-    pub(crate) fn sort(&mut self) {
+    /// The slices in the order of their offsets.
+    pub(crate) fn sort(&mut self)
+        ensures same { IsPermutation self.old self.new }
+        ensures rises { IsNonDecreasingBy (λ s. s.offset) self.new }
+    {
         self.slices.sort_unstable_by_key(|s| s.offset);
     }
 

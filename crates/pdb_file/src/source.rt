@@ -1,10 +1,10 @@
 //! A source over what is held of a file.
 
-ghost use Rattle.std.specs.Prelude.{◌≡◌, ◌≢◌, ℕ, ◌+◌, ◌<◌, ◌≤◌, ◌^◌, ◌++◌, ◌∷◌, [], ◌↔◌, List, length, take, drop, get_or, min, true, false, IsErrOf, IfOk, IfErr, IfSome, IsOk, IsSome, OnOk};
+ghost use Rattle.std.specs.Prelude.{◌≡◌, ◌≢◌, ℕ, ◌+◌, ◌<◌, ◌≤◌, ◌^◌, ◌++◌, ◌∷◌, [], ◌↔◌, List, length, take, drop, get_or, min, None, true, false, IsErrOf, IfOk, IfErr, IfSome, IsOk, IsSome, OnOk};
 ghost use Rattle.std.specs.List.{list_all, flat_map};
 ghost use Rattle.pdb_base.specs.Refusal.{Gives};
 ghost use Rattle.pdb_base.specs.Source.{State, Continues, MayFail, IsLent, in_memory, is_inside, slice_bytes, view_bytes, viewed};
-ghost use Rattle.pdb_file.specs.HeldBytes.{Agrees, IsOf, Seen, StandsIn, is_inside_of, known_or_empty, supposed};
+ghost use Rattle.pdb_file.specs.HeldBytes.{Agrees, AreHeld, IsHeldAt, IsOf, Seen, StandsIn, is_inside_of, known_or_empty, supposed};
 ghost use Rattle.pdb_file.specs.declared.run.Run.{Run};
 
 use crate::held::Held;
@@ -57,9 +57,9 @@ impl<'r, R: ReadAt> Meant for KnownFile<'r, R> {
     ghost file = { λ k. k };
 }
 
-/// A steady source of a file of which some runs of bytes are held. It lends a slice that stands in one run, and copies
-/// else. A view of what isn't held is refused as one for which there is no memory, and noted. The file that it means
-/// is `F`'s, where that has what is held: so each promise on a source's file is one on every file that has it.
+/// A steady source of a file of which some runs of bytes are held. It borrows a slice that stands in one run, and
+/// copies else. A view of what isn't held fails as one for which there is no memory, and is noted. The file that it
+/// means is `F`'s, where that has what is held: so each promise on a source's file is one on every file that has it.
 #[derive(Drop)]
 pub struct HeldSource<'s, 'm, 'f, F: Meant> {
     held: &'s Held,
@@ -136,19 +136,23 @@ fn lent<'s>(held: &'s Held, slice: SourceSlice) -> Option<&'s [u8]>
 }
 
 /// What is held of a slice behind its first bytes, up to the end of a run; none where nothing is.
-#[tactic(auto, using(crate::proofs::Parts::next_of))]
+#[tactic(auto, using(crate::proofs::Parts::next_of, crate::proofs::FreeRuns::past_end))]
 fn next_part(held: &Held, slice: SourceSlice, done: usize) -> Option<&[u8]>
     requires { done < slice.size }
     ensures same { (F : List ℕ) → Agrees F held.now → IfSome result (λ p. p.now ≡ take (length p.now) (drop (slice.offset + done) F)) }
     ensures some { IfSome result (λ p. 0 < length p.now) }
     ensures fits { IfSome result (λ p. done + length p.now ≤ slice.size) }
+    ensures held { IfSome result (λ p. AreHeld held.now (slice.offset + done) (slice.offset + done + length p.now)) }
+    ensures missing { result ≡ None → IsHeldAt held.now (slice.offset + done) → ⊥ }
 {
-    let at = slice.offset.checked_add(done as u64)?;
-    let bytes = held.from_place(at)?;
+    if done as u64 >= held.size().saturating_sub(slice.offset) {
+        return None;
+    }
+    let bytes = held.from_place(slice.offset + done as u64)?;
     Some(front(bytes, slice.size - done))
 }
 
-/// Puts the bytes of a slice behind those that are there, and answers whether all of it is held.
+/// Puts the bytes of a slice behind those that are there, and returns whether all of it is held.
 fn copy_slice(
     all: &mut Vec<u8>,
     held: &Held,
@@ -185,18 +189,20 @@ fn copied(
 }
 
 /// Whether all bytes of a slice are held.
-fn is_held(held: &Held, slice: SourceSlice) -> bool {
-    let mut done = 0usize;
-    while done < slice.size {
-        let Some(part) = next_part(held, slice, done) else {
+fn is_held(held: &Held, slice: SourceSlice) -> bool
+    ensures { (result ≡ true) ↔ AreHeld held.now slice.offset (slice.offset + slice.size) }
+{
+    let mut seen = 0usize;
+    while seen < slice.size {
+        let Some(part) = next_part(held, slice, seen) else {
             return false;
         };
-        done += part.len();
+        seen += part.len();
     }
     true
 }
 
-/// Notes the slices that aren't held, and answers whether there are any.
+/// Notes the slices that aren't held, and returns whether there are any.
 fn note_missed(
     missed: &mut Missed,
     held: &Held,

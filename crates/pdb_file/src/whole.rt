@@ -14,10 +14,10 @@ pub const MOST_BYTES: usize = 1099511627776;
 /// How many bytes are asked for at a time.
 const CHUNK: usize = 16384;
 
-/// By how many bytes the room for them grows at a time.
+/// By how many bytes the capacity for them grows at a time.
 const PIECE: usize = 2048;
 
-/// Room for the next bytes, behind those that are there.
+/// Capacity for the next bytes, behind those that are there.
 fn make_room(bytes: &mut Vec<u8>) -> Result<(), AllocError>
     ensures front { OnOk result (take (vec_len bytes.old) bytes.new.items ≡ bytes.old.items) }
     ensures len { OnOk result (vec_len bytes.new ≡ vec_len bytes.old + 16384) }
@@ -28,7 +28,7 @@ fn make_room(bytes: &mut Vec<u8>) -> Result<(), AllocError>
     Ok(())
 }
 
-/// The next bytes that a reader gives, put at a place; answers how many.
+/// The next bytes that a reader gives, put at an offset; returns how many.
 fn read_at<R: Read>(bytes: &mut [u8], at: usize, input: &mut R) -> io::Result<usize>
     requires { at < length bytes.old }
     ensures front { take at bytes.new ≡ take at bytes.old }
@@ -39,7 +39,7 @@ fn read_at<R: Read>(bytes: &mut [u8], at: usize, input: &mut R) -> io::Result<us
     input.read(&mut bytes[at..])
 }
 
-/// The next bytes that a reader gives, put behind those that are there; answers how many.
+/// The next bytes that a reader gives, put behind those that are there; returns how many.
 fn read_more<R: Read>(bytes: &mut Vec<u8>, input: &mut R) -> Result<usize, FetchError>
     ensures front { OnOk result (take (vec_len bytes.old) bytes.new.items ≡ bytes.old.items) }
     ensures told { OnOk result (Consumes (R.remaining input.old) (R.remaining input.new) (drop (vec_len bytes.old) bytes.new.items)) }
@@ -78,7 +78,7 @@ pub(crate) fn read_up_to<R: Read>(
     }
 }
 
-/// How many bytes a file has that can be read at a place; none for a pipe and the like.
+/// How many bytes a file has that can be read at an offset; none for a pipe and the like.
 pub fn size_of(file: &File) -> Option<u64> {
     let it = file.metadata().ok()?;
     if !it.is_file() {
@@ -88,7 +88,7 @@ pub fn size_of(file: &File) -> Option<u64> {
 }
 
 /// All bytes that a reader has left. `FetchError::Read` where it fails or gives more than `MOST_BYTES`,
-/// `FetchError::Memory` where a growth was refused.
+/// `FetchError::Memory` where a growth failed.
 pub fn read_all<R: Read>(alloc: Global, input: &mut R) -> Result<Vec<u8>, FetchError>
     ensures all { IfOk result (λ v. Consumes (R.remaining input.old) (R.remaining input.new) v.items × IsAtEnd (R.remaining input.new)) }
     ensures most { IfOk result (λ v. vec_len v ≤ 1099511627776) }

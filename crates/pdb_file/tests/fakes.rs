@@ -1,5 +1,7 @@
 //! Readers that fail, for tests.
 
+use crate::ReadAt;
+use std::cell::Cell;
 use std::fmt::Debug;
 use std::io::{self, ErrorKind, Read};
 use std::process::Abort;
@@ -97,5 +99,59 @@ impl Read for ThreeBytes {
             return Err(io::Error::from(ErrorKind::Other));
         }
         Ok(0)
+    }
+}
+
+/// A file in memory that counts its reads. One read fails, or the file ends early.
+#[derive(Drop)]
+pub struct Counted<'b> {
+    bytes: &'b [u8],
+    reads: Cell<u32>,
+    fails: Option<u32>,
+}
+
+impl<'b> Counted<'b> {
+    /// A file that no read fails of.
+    pub fn of(bytes: &'b [u8]) -> Self {
+        Counted {
+            bytes,
+            reads: Cell::new(0),
+            fails: None,
+        }
+    }
+
+    /// A file of which the read of this number fails, counted from 0, and no other.
+    pub fn failing(bytes: &'b [u8], read: u32) -> Self {
+        Counted {
+            bytes,
+            reads: Cell::new(0),
+            fails: Some(read),
+        }
+    }
+
+    /// How many reads there were.
+    pub fn reads(&self) -> u32 {
+        self.reads.get()
+    }
+}
+
+impl<'b> ReadAt for Counted<'b> {
+    ghost use Rattle.std.specs.Prelude.{None};
+
+    ghost known = { λ _. None };
+
+    fn read_bytes_at(&self, buf: &mut [u8], at: u64) -> io::Result<usize> {
+        let read = self.reads.get();
+        self.reads.set(read.saturating_add(1));
+        if self.fails == Some(read) {
+            return Err(io::Error::from(ErrorKind::Other));
+        }
+        if at >= self.bytes.len() as u64 {
+            return Ok(0);
+        }
+        let rest = self.bytes.split_at(at as usize).1;
+        let count = rest.len().min(buf.len());
+        buf[..count].copy_from_slice(&rest[..count]);
+        Ok(count)
     }
 }

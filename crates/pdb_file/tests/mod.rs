@@ -1,6 +1,7 @@
 //! Values from outside.
 
 mod fakes;
+mod parts;
 mod whole;
 
 use crate::{AnyFile, FetchError, Fetched, Held, HeldSource, Missed, Run, fetch};
@@ -24,7 +25,7 @@ fn three_runs(alloc: Global) -> Result<Held, Fail> {
     Ok(held)
 }
 
-fn slice(offset: u64, size: usize) -> SourceSlice {
+pub fn slice(offset: u64, size: usize) -> SourceSlice {
     SourceSlice { offset, size }
 }
 

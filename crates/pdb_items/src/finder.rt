@@ -22,7 +22,7 @@ fn push_place(places: &mut Vec<u32>, place: u32) -> Result<()>
     if count == places.capacity() {
         places.reserve_exact(count.max(1))?;
     }
-    // There is room: nothing grows.
+    // The capacity is there: nothing grows.
     places.push_reserved(place);
     Ok(())
 }
@@ -50,7 +50,7 @@ fn read_places(alloc: Global, records: &[u8]) -> Result<Vec<u32>>
 pub struct ItemFinder<'t> {
     first: u32,
     records: &'t [u8],
-    // The place of each item's length.
+    // The offset of each item's length.
     places: Vec<u32>,
 }
 
@@ -85,7 +85,7 @@ impl<'t> ItemFinder<'t> {
         })
     }
 
-    /// No items: what stands for a stream that is refused, or isn't there. It takes no memory.
+    /// No items: what stands for a stream that can't be read, or isn't there. It takes no memory.
     #[tactic(auto, using(crate::proofs::ItemPlaces::no_places, crate::proofs::ItemLists::no_items_left))]
     pub fn empty(alloc: Global) -> Self
         ensures { result ≡ [] }

@@ -54,7 +54,7 @@ impl<'t> Item<'t> {
 const INDEX_LIMIT: u64 = 0x1_0000_0000;
 
 /// The items of a stream, in their order. A record is a length of two bytes, which is at least 2, and then that many
-/// bytes; the first has the index that the header tells, and each other one the next. Where a record isn't there it is
+/// bytes; the first has the index that the header gives, and each other one the next. Where a record isn't there it is
 /// `UnexpectedEof`, and then the list has ended; it ends also behind the index 4294967295.
 #[derive(Drop)]
 pub struct ItemIter<'t> {

@@ -8,7 +8,7 @@ use Rattle.pdb.specs.ModuleStream.{ModuleBytes}
 use Rattle.pdb.specs.Answers.{debug_information_in, info_listed, item_at}
 use Rattle.pdb.specs.Listed.{Listed, listed}
 
--- the stream of the module with this place in a list of modules of a file
+-- the stream of the module with this index in a list of modules of a file
 unfoldable pub info_at : List ℕ → ℕ → Left ModuleEntry → Result (Option ModuleBytes) Error
 info_at file k left = item_at k left >>= info_listed file
 

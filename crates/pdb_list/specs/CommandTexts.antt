@@ -35,15 +35,15 @@ command_text file (Inlinees k) = module_text file k (of_module_text (Inlinees k)
 command_text file (Imports k i) = module_text file k (of_module_text (Imports k i))
 command_text file (Exports k) = module_text file k (of_module_text (Exports k))
 
--- the place in the list of modules of the one that a command names
-abbrev pub place_of : Command → Option ℕ
-place_of (Symbols k) = Some k
-place_of (Lines k) = Some k
-place_of (Files k) = Some k
-place_of (Inlinees k) = Some k
-place_of (Imports k i) = Some k
-place_of (Exports k) = Some k
-place_of command = None
+-- the index in the list of modules of the one that a command names
+abbrev pub module_index_of : Command → Option ℕ
+module_index_of (Symbols k) = Some k
+module_index_of (Lines k) = Some k
+module_index_of (Files k) = Some k
+module_index_of (Inlinees k) = Some k
+module_index_of (Imports k i) = Some k
+module_index_of (Exports k) = Some k
+module_index_of command = None
 
 -- the texts of commands, joined
 abbrev pub texts : List ℕ → List Command → List ℕ

@@ -5,8 +5,8 @@ use Rattle.pdb_list.specs.declared.report.Fault.{Fault}
 use Rattle.pdb_list.specs.declared.report.Fault.TheVariants.{Usage, Read, Open, Memory, Write}
 use Rattle.pdb_list.specs.declared.engine.RunError.{RunError}
 use Rattle.pdb_list.specs.declared.engine.RunError.TheVariants as run
-use Rattle.pdb_list.specs.declared.command.WordsError.{WordsError}
-use Rattle.pdb_list.specs.declared.command.WordsError.TheVariants as words
+use Rattle.pdb_text.specs.declared.words.WordsError.{WordsError}
+use Rattle.pdb_text.specs.declared.words.WordsError.TheVariants as words
 use Rattle.pdb_file.specs.declared.reading.FetchError.{FetchError}
 use Rattle.pdb_file.specs.declared.reading.FetchError.TheVariants as fetch
 use Rattle.pdb.specs.Refusal.{number_of}
@@ -24,7 +24,7 @@ fault_of_fetch fetch.Memory = Memory
 
 -- what words are that spell no commands
 abbrev pub fault_of_words : WordsError → Fault
-fault_of_words (words.BadWord place) = Usage
+fault_of_words (words.BadWord argument) = Usage
 fault_of_words words.OutOfMemory = Memory
 
 -- the line on standard error

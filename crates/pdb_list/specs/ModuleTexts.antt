@@ -84,7 +84,7 @@ checksum_text (md5 b) = codes "md5" ++ digest_text b
 checksum_text (sha1 b) = codes "sha1" ++ digest_text b
 checksum_text (sha256 b) = codes "sha256" ++ digest_text b
 
--- the line of a file: the place of its name, and its checksum
+-- the line of a file: the offset of its name, and its checksum
 unfoldable pub file_text : FileOf → List ℕ
 file_text f = codes "file " ++ decimal f.name ++ codes " " ++ checksum_text f.checksum ++ codes "\n"
 
@@ -111,7 +111,7 @@ exports_of_text m = told (exports_of m) (λ xs. export_list_text (record { items
 
 -- ---- imports
 
--- the line of what an index refers to: the place of the module's name, and the number that is local to it
+-- the line of what an index refers to: the offset of the module's name, and the number that is local to it
 unfoldable pub reference_text : Reference → List ℕ
 reference_text r = codes "import " ++ decimal r.name ++ codes " " ++ hex 8 r.local ++ codes "\n"
 

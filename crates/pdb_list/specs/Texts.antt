@@ -94,7 +94,7 @@ names_text file = told (information_in file >>= λ i. names_of i.bytes i.names_o
 unfoldable pub parts_text : ModuleEntry → List ℕ
 parts_text m = stream_text m.stream ++ codes " " ++ decimal m.symbols_size ++ codes " " ++ decimal m.lines_size ++ codes " " ++ decimal m.c13_lines_size
 
--- the line of the module with this place in the list
+-- the line of the module with this index in the list
 unfoldable pub module_line : ℕ → ModuleEntry → List ℕ
 module_line k m = codes "module " ++ decimal k ++ codes " " ++ parts_text m ++ codes " " ++ m.module_name ++ codes "\n"
 
@@ -102,7 +102,7 @@ module_line k m = codes "module " ++ decimal k ++ codes " " ++ parts_text m ++ c
 unfoldable pub object_line : ModuleEntry → List ℕ
 object_line m = codes "object " ++ m.object_file_name ++ codes "\n"
 
--- the lines of modules that begin at this place in the list
+-- the lines of modules that begin at this index in the list
 abbrev pub modules_text_from : ℕ → List ModuleEntry → List ℕ
 modules_text_from k [] = []
 modules_text_from k (m ∷ ms) = module_line k m ++ object_line m ++ modules_text_from (k + 1) ms
@@ -133,7 +133,7 @@ contributions_text file = told (debug_information_in file >>= contributions_in) 
 
 -- ---- sections
 
--- the line of a section header: its sizes and places, its characteristics, and its name
+-- the line of a section header: its sizes, address and offset, its characteristics, and its name
 unfoldable pub section_text : ImageSectionHeader → List ℕ
 section_text h = codes "section " ++ hex 8 h.virtual_size ++ codes " " ++ hex 8 h.virtual_address ++ codes " " ++ hex 8 h.size_of_raw_data ++ codes " " ++ hex 8 h.pointer_to_raw_data ++ codes " " ++ hex 8 h.characteristics.0 ++ codes " " ++ section_name h ++ codes "\n"
 

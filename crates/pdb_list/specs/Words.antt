@@ -4,8 +4,6 @@ use Rattle.std.specs.Str.{bytes_eq}
 use Rattle.pdb_text.specs.Numbers.{number_in}
 use Rattle.pdb_list.specs.declared.command.Command.{Command}
 use Rattle.pdb_list.specs.declared.command.Command.TheVariants.{Info, Names, Modules, Contributions, Sections, Globals, Symbols, Lines, Files, Inlinees, Imports, Exports}
-use Rattle.pdb_list.specs.declared.command.WordsError.{WordsError}
-use Rattle.pdb_list.specs.declared.command.WordsError.TheVariants.{BadWord, OutOfMemory}
 
 -- no words, or the one word `sample`: the program runs over the sample
 abbrev pub asks_for_sample : List (List ℕ) → Bool
@@ -42,7 +40,7 @@ module_command word k =
     else if bytes_eq word (codes "inlinees") then Inlinees k
     else Exports k
 
--- the number that the word at p is, or the place of the bad word
+-- the number that the word at p is, or the index of the bad word
 abbrev pub number_or : Option ℕ → ℕ → Result ℕ ℕ
 number_or (Some n) p = Ok n
 number_or None p = Err p
@@ -66,7 +64,7 @@ longer_at words p word =
     else if bytes_eq word (codes "imports") then with_number (number_at words (p + 1)) (λ k. with_number (number_at words (p + 2)) (λ i. Ok (Imports k i, 3)))
     else Err p
 
--- the command that begins with the word at p, and how many words spell it; or the place of the bad word
+-- the command that begins with the word at p, and how many words spell it; or the index of the bad word
 unfoldable pub command_at : List (List ℕ) → ℕ → Result (Command × ℕ) ℕ
 command_at words p = one_word_or (plain_command (word_at words p)) (longer_at words p (word_at words p))
 
@@ -86,12 +84,6 @@ commands_from zero words p = Ok []
 commands_from (suc n) words p =
     if nat_lt p (length words) then and_then (command_at words p) (λ c. commands_from n words (p + c.1)) else Ok []
 
--- the commands that the words spell, or the place of the first bad word
+-- the commands that the words spell, or the index of the first bad word
 unfoldable pub spelled : List (List ℕ) → Result (List Command) ℕ
 spelled words = commands_from (length words) words 0
-
--- a call answered what the words spell, seen by view, or wanted memory
-abbrev pub Tells : {X Y : Type 0} → (X → Y) → Result X WordsError → Result Y ℕ → Type 0
-Tells view (Ok x) told = told ≡ Ok (view x)
-Tells view (Err (BadWord p)) told = told ≡ Err p
-Tells view (Err OutOfMemory) told = Unit {0}

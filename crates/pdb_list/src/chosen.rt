@@ -1,4 +1,4 @@
-//! The modules that commands name by their places in the list of modules.
+//! The modules that commands name by their indices in the list of modules.
 
 ghost use Rattle.std.specs.Prelude.{◌≡◌, ◌≢◌, IfOk, IfErr};
 ghost use Rattle.pdb.specs.Error.TheVariants.{OutOfMemory};
@@ -9,7 +9,7 @@ ghost use Rattle.pdb_list.specs.Chosen.{info_at};
 
 use pdb::{ModuleInfo, ModuleList, PDB, Result, Source};
 
-/// The stream of the module with this place in a list; none where there is no such module, or it has no stream.
+/// The stream of the module with this index in a list; none where there is no such module, or it has no stream.
 #[tactic(auto, unfolding(crate::specs::Chosen::info_at))]
 pub fn module_info_in<'s, S: Source<'s>>(
     modules: &mut ModuleList<'_>,

@@ -2,11 +2,12 @@
 
 ghost use Rattle.std.specs.Prelude.{◌≡◌, ◌+◌, ◌<◌, ◌≤◌, length, map, string_bytes, IfOk};
 ghost use Rattle.std.specs.Option.{is_some};
-ghost use Rattle.pdb_list.specs.CommandTexts.{place_of};
-ghost use Rattle.pdb_list.specs.Words.{Tells, plain_command, takes_module, module_command, number_at, longer_at, command_at, spelled, asks_for_sample};
+ghost use Rattle.pdb_list.specs.CommandTexts.{module_index_of};
+ghost use Rattle.pdb_text.specs.Arguments.{Tells};
+ghost use Rattle.pdb_list.specs.Words.{plain_command, takes_module, module_command, number_at, longer_at, command_at, spelled, asks_for_sample};
 
-use pdb_text::number_in;
-use std::alloc::{AllocError, AllocFailed, Global};
+use pdb_text::{WordsError, number_in};
+use std::alloc::Global;
 
 /// A part of a file to be listed.
 #[derive(Clone, Copy, Debug, PartialEq, Eq)]
@@ -23,7 +24,7 @@ pub enum Command {
     Sections,
     /// The global symbols: `globals`.
     Globals,
-    /// The symbols of the module with this place in the list of modules, counted from 0: `symbols K`.
+    /// The symbols of the module with this index in the list of modules, counted from 0: `symbols K`.
     Symbols(u32),
     /// The line records of a module: `lines K`.
     Lines(u32),
@@ -39,12 +40,12 @@ pub enum Command {
 
 impl Command {
     ghost use Rattle.std.specs.Prelude.{IfSome, List, ℕ};
-    ghost use Rattle.pdb_list.specs.CommandTexts.{command_text, of_module_text, place_of};
+    ghost use Rattle.pdb_list.specs.CommandTexts.{command_text, of_module_text, module_index_of};
     ghost use Rattle.pdb_list.specs.ModuleTexts.{module_text};
 
-    /// The place in the list of modules of the one that the command names, where it names one.
-    pub fn module_place(self) -> Option<u32>
-        ensures place { result ≡ place_of self }
+    /// The index in the list of modules of the one that the command names, where it names one.
+    pub fn module_index(self) -> Option<u32>
+        ensures place { result ≡ module_index_of self }
         ensures text { IfSome result (λ k. (file : List ℕ) → command_text file self ≡ module_text file k (of_module_text self)) }
     {
         match self {
@@ -61,39 +62,9 @@ impl Command {
 
 /// Whether a command names a module.
 pub fn names_module(command: &Command) -> bool
-    ensures { result ≡ is_some (place_of command.now) }
+    ensures { result ≡ is_some (module_index_of command.now) }
 {
-    command.module_place().is_some()
-}
-
-/// Why words spell no commands.
-#[derive(Clone, Copy, Debug, PartialEq, Eq)]
-pub enum WordsError {
-    /// The word at this place, counted from 0, is no command's, or no number where a command wants one. It is the
-    /// number of words where a number is missing at their end.
-    BadWord(usize),
-    /// Memory was refused.
-    OutOfMemory,
-}
-
-impl From<AllocError> for WordsError {
-    ghost use Rattle.pdb_list.specs.declared.command.WordsError.TheVariants.{OutOfMemory};
-
-    ghost from_gives = { λ _ e. e ≡ OutOfMemory };
-
-    fn from(_e: AllocError) -> WordsError {
-        WordsError::OutOfMemory
-    }
-}
-
-impl<T: Drop> From<AllocFailed<T>> for WordsError {
-    ghost use Rattle.pdb_list.specs.declared.command.WordsError.TheVariants.{OutOfMemory};
-
-    ghost from_gives = { λ _ e. e ≡ OutOfMemory };
-
-    fn from(_e: AllocFailed<T>) -> WordsError {
-        WordsError::OutOfMemory
-    }
+    command.module_index().is_some()
 }
 
 /// The command of one word, where there is one.
@@ -139,7 +110,7 @@ fn module_command(word: &str, k: u32) -> Command
     }
 }
 
-/// The number that the word at a place is.
+/// The number that the argument of an index is.
 fn number_at(words: &[String], at: usize) -> Result<u32, WordsError>
     ensures number { Tells (λ n. n) result (number_at (map string_bytes words.now) at) }
     ensures there { IfOk result (λ _. at < length words.now) }
@@ -150,7 +121,7 @@ fn number_at(words: &[String], at: usize) -> Result<u32, WordsError>
     }
 }
 
-/// The command that begins with this word at a place and has numbers behind it, and how many words spell it.
+/// The command that begins with this word at an index and has numbers behind it, and how many words spell it.
 fn longer_from(words: &[String], at: usize, word: &str) -> Result<(Command, usize), WordsError>
     requires { at < length words.now }
     ensures command { Tells (λ c. c) result (longer_at (map string_bytes words.now) at word.now) }
@@ -168,7 +139,7 @@ fn longer_from(words: &[String], at: usize, word: &str) -> Result<(Command, usiz
     Err(WordsError::BadWord(at))
 }
 
-/// The command that begins at a place, and how many words spell it.
+/// The command that begins at an index, and how many words spell it.
 #[tactic(auto, unfolding(crate::specs::Words::command_at))]
 fn command_from(words: &[String], at: usize) -> Result<(Command, usize), WordsError>
     ensures command { Tells (λ c. c) result (command_at (map string_bytes words.now) at) }
@@ -183,7 +154,7 @@ fn command_from(words: &[String], at: usize) -> Result<(Command, usize), WordsEr
     }
 }
 
-/// The commands that the words spell, in their order, or the place of the first word that spells none.
+/// The commands that the words spell, in their order, or the index of the first word that spells none.
 pub fn parse_commands(alloc: Global, words: &[String]) -> Result<Vec<Command>, WordsError>
     ensures { Tells (λ v. v.items) result (spelled (map string_bytes words.now)) }
 {

@@ -96,7 +96,7 @@ fn put_list(
     }
 }
 
-/// The lines of the section contributions, or of their refusal.
+/// The lines of the section contributions, or of their error.
 #[tactic(auto, unfolding(crate::specs::Texts::contributions_text))]
 pub fn put_contributions<'s, S: Source<'s>>(
     out: &mut Vec<u8>,

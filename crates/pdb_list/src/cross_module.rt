@@ -45,7 +45,7 @@ fn put_list(out: &mut Vec<u8>, mut exports: CrossModuleExportIter<'_>) -> Result
     }
 }
 
-/// The lines of a module's exports, or of their refusal.
+/// The lines of a module's exports, or of their error.
 #[tactic(auto, unfolding(crate::specs::ModuleTexts::exports_of_text))]
 pub fn put_exports(
     alloc: Global,
@@ -72,7 +72,7 @@ fn put_reference(out: &mut Vec<u8>, reference: CrossModuleRef<IdIndex>) -> Resul
     put_line_end(out)
 }
 
-/// The line of what an index refers to in another module, or of the refusal of the imports or of the index.
+/// The line of what an index refers to in another module, or of the error of the imports or of the index.
 #[tactic(auto, unfolding(crate::specs::ModuleTexts::import_of_text))]
 pub fn put_import(
     alloc: Global,

@@ -35,7 +35,7 @@ use std::io::Write;
 /// Why a run stopped.
 #[derive(Clone, Copy, Debug, PartialEq, Eq)]
 pub enum RunError {
-    /// Memory was refused.
+    /// Out of memory.
     OutOfMemory,
     /// The file is no container that can be opened.
     Open(Error),
@@ -63,7 +63,7 @@ impl From<WriteFailed> for RunError {
     }
 }
 
-/// A file that can't be opened stops a run; want of memory is told as such.
+/// A file that can't be opened stops a run; out of memory is reported as such.
 fn open_error(e: Error) -> RunError
     ensures { result ≡ run_error_of e }
 {
@@ -110,7 +110,7 @@ fn put_found(
     }
 }
 
-/// The text of a command over the module with this place in the list of modules.
+/// The text of a command over the module with this index in the list of modules.
 fn put_of_chosen<'s, S: Source<'s>>(
     alloc: Global,
     out: &mut Vec<u8>,
@@ -181,7 +181,7 @@ fn put_next<'s, S: Source<'s>>(
     ensures kept { KeptOf pdb.old.file kept.old → OnOk result (KeptOf pdb.old.file kept.new) }
     ensures text { pdb.old.steady ≡ true → KeptOf pdb.old.file kept.old → OnOk result (out.new.items ≡ out.old.items ++ command_text pdb.old.file command) }
 {
-    match (kept, command.module_place()) {
+    match (kept, command.module_index()) {
         (Some(modules), Some(k)) => put_of_kept(alloc, out, pdb, modules, k, command),
         _ => put_text(alloc, out, pdb, command),
     }
@@ -213,7 +213,7 @@ fn write_texts<'s, S: Source<'s>, W: Write>(
     Ok(())
 }
 
-/// Writes the line of a refusal in place of a command's text, and the texts of the commands behind it.
+/// Writes the line of an error in place of a command's text, and the texts of the commands behind it.
 fn write_refused<'s, S: Source<'s>, W: Write>(
     alloc: Global,
     pdb: &mut PDB<'s, S>,
@@ -250,7 +250,7 @@ fn write_rest<'s, S: Source<'s>, W: Write>(
     let Some((first, others)) = commands.split_first() else {
         return Ok(());
     };
-    let Some(_) = first.module_place() else {
+    let Some(_) = first.module_index() else {
         return write_texts(alloc, pdb, &mut None, commands, out, written);
     };
     let information = match pdb.debug_information() {
@@ -277,7 +277,7 @@ fn plain_count(commands: &[Command]) -> usize
 }
 
 /// Opens the file of a source, and writes the commands' texts over it, one after the other. Each text is composed and
-/// then written. A command that is refused has its items before the fault and then the line `error N`, and the next
+/// then written. A command that fails has its items before the fault and then the line `error N`, and the next
 /// command follows. It counts the texts that were written, whole. The promises on the texts are made for a source that
 /// is steady.
 pub fn run_counted<'s, S: Source<'s>, W: Write>(

@@ -67,7 +67,7 @@ fn put_list(out: &mut Vec<u8>, mut files: FileIterator<'_>) -> Result<(), AllocE
     }
 }
 
-/// The lines of a module's files, or of the refusal of its line program.
+/// The lines of a module's files, or of the error of its line program.
 #[tactic(auto, unfolding(crate::specs::ModuleTexts::files_of_text))]
 pub fn put_files(alloc: Global, out: &mut Vec<u8>, info: &ModuleInfo<'_>) -> Result<(), AllocError>
     ensures { OnOk result (out.new.items ≡ out.old.items ++ files_of_text info.now) }

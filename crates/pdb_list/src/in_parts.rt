@@ -21,7 +21,7 @@ use std::alloc::Global;
 use std::io::Write;
 
 /// Writes the commands' texts over what is held, and counts them. They are those of each file that has what is held:
-/// where a text asks for more, the run stops as for want of memory, and nothing of that text was written.
+/// where a text asks for more, the run stops as with out of memory, and nothing of that text was written.
 fn run_held<F: Meant, W: Write>(
     alloc: Global,
     held: &Held,
@@ -64,7 +64,7 @@ pub fn run_in_parts<R: ReadAt, F: Meant, W: Write>(
     // The texts of some first commands were written, whole.
     ensures stopped { IsOf (F.file file.now) held.new → IsErrAnd result (λ e. (e ≡ Fault.Read) ⊎ (e ≡ Fault.Memory))
         → WroteFirst (command_text (F.file file.now)) (W.contents out.old) (W.contents out.new) commands.now }
-    // The file can't be opened, and the refusal is the container's.
+    // The file can't be opened, and the error is the container's.
     ensures refused { IsOf (F.file file.now) held.new → (n : ℕ) → IsErrOf result (Fault.Open n)
         → IsErrAnd (opens (F.file file.now)) (λ e. n ≡ number_of e) }
     // A beginning of the texts was written.

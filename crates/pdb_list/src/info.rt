@@ -58,7 +58,7 @@ fn put_debug_information(
     put_line_end(out)
 }
 
-/// Both lines, or the line of the refusal of the one or of the other.
+/// Both lines, or the line of the error of the one or of the other.
 #[tactic(auto, unfolding(crate::specs::Texts::info_text))]
 pub fn put_info<'s, S: Source<'s>>(
     alloc: Global,

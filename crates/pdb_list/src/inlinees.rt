@@ -52,7 +52,7 @@ enum Here<'t> {
     Passed,
 }
 
-/// What a symbol is here; want of memory is passed on. Both that count start a scope.
+/// What a symbol is here; out of memory is passed on. Both that count start a scope.
 fn here_of<'t>(alloc: Global, symbol: &Symbol<'t>) -> Result<Here<'t>, AllocError>
     ensures { IfOk result (λ h. shown_here h ≡ here (record_at (symbol_of symbol.now).bytes)) }
 {
@@ -68,7 +68,7 @@ fn here_of<'t>(alloc: Global, symbol: &Symbol<'t>) -> Result<Here<'t>, AllocErro
     }
 }
 
-/// The lines of the records that an iterator has left, and then that of its fault; answers whether there is no fault.
+/// The lines of the records that an iterator has left, and then that of its fault; returns whether there is no fault.
 fn put_records(out: &mut Vec<u8>, mut lines: InlineeLineIterator<'_>) -> Result<bool, AllocError>
     ensures lines { OnOk result (out.new.items ≡ out.old.items ++ line_list_text (inlined_left lines.entry)) }
     ensures goes_on { IfOk result (λ goes_on. goes_on ≡ is_none (inlined_left lines.entry).fault) }
@@ -85,7 +85,7 @@ fn put_records(out: &mut Vec<u8>, mut lines: InlineeLineIterator<'_>) -> Result<
     }
 }
 
-/// The lines of a site's records, and of the fault of its annotations; answers whether there is no fault.
+/// The lines of a site's records, and of the fault of its annotations; returns whether there is no fault.
 fn put_site_lines(
     out: &mut Vec<u8>,
     known: &InlineeFinder<'_>,
@@ -154,7 +154,7 @@ fn put_list(
     }
 }
 
-/// The sites of a module, or the line of the refusal of its symbols.
+/// The sites of a module, or the line of the error of its symbols.
 #[tactic(auto, unfolding(crate::specs::ModuleTexts::sites_of_text))]
 fn put_sites(
     alloc: Global,
@@ -195,7 +195,7 @@ fn put_whole(
     }
 }
 
-/// The lines of a module's inlined functions and of their sites, or of a refusal.
+/// The lines of a module's inlined functions and of their sites, or of an error.
 #[tactic(auto, unfolding(crate::specs::ModuleTexts::inlinees_of_text))]
 pub fn put_inlinees(
     alloc: Global,

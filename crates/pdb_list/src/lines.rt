@@ -95,7 +95,7 @@ fn put_list(out: &mut Vec<u8>, mut lines: LineIterator<'_>) -> Result<(), AllocE
     }
 }
 
-/// The lines of a module's line records, or of their refusal.
+/// The lines of a module's line records, or of their error.
 #[tactic(auto, unfolding(crate::specs::ModuleTexts::lines_of_text))]
 pub fn put_lines(alloc: Global, out: &mut Vec<u8>, info: &ModuleInfo<'_>) -> Result<(), AllocError>
     ensures { OnOk result (out.new.items ≡ out.old.items ++ lines_of_text info.now) }

@@ -65,7 +65,7 @@ fn list_sample<W: io::Write>(alloc: Global, out: &mut W) -> Result<(), Fault> {
 }
 
 /// Lists what the words ask for: their commands are taken first, then the file is read, as far as they ask for it where
-/// it can be read at a place, and else whole.
+/// it can be read at an offset, and else whole.
 fn list(rt: &(impl Env + Files<File = File> + Print + AllocGlobal)) -> Result<(), Fault> {
     let words = words_of(rt).map_err(|e| words_fault(&e))?;
     let mut out = io::writer(rt);

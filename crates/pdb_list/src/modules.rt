@@ -22,7 +22,7 @@ fn put_parts(out: &mut Vec<u8>, listed: &Module<'_>) -> Result<(), AllocError>
     put_field(out, u64::from(c13_lines))
 }
 
-/// The line of the module with this place in the list.
+/// The line of the module with this index in the list.
 #[tactic(auto, unfolding(crate::specs::Texts::module_line))]
 fn put_module(out: &mut Vec<u8>, k: u64, listed: &Module<'_>) -> Result<(), AllocError>
     ensures { OnOk result (out.new.items ≡ out.old.items ++ module_line k listed.now) }
@@ -65,7 +65,7 @@ fn put_list(out: &mut Vec<u8>, mut modules: ModuleIter<'_>) -> Result<(), AllocE
     }
 }
 
-/// The lines of the modules, or of their refusal.
+/// The lines of the modules, or of their error.
 #[tactic(auto, unfolding(crate::specs::Texts::modules_text))]
 pub fn put_modules<'s, S: Source<'s>>(
     out: &mut Vec<u8>,

@@ -32,7 +32,7 @@ fn put_list(out: &mut Vec<u8>, names: &StreamNames<'_>) -> Result<(), AllocError
     Ok(())
 }
 
-/// The lines of the names of streams, or of their refusal.
+/// The lines of the names of streams, or of their error.
 #[tactic(auto, unfolding(crate::specs::Texts::names_text))]
 pub fn put_names<'s, S: Source<'s>>(
     alloc: Global,

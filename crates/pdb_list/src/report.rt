@@ -6,10 +6,9 @@ ghost use Rattle.std.specs.Fmt.{decimal};
 ghost use Rattle.pdb_text.specs.Written.{WroteFront};
 ghost use Rattle.pdb_list.specs.Faults.{fault_line, status_of};
 
-use crate::command::WordsError;
 use crate::engine::RunError;
 use pdb_file::FetchError;
-use pdb_text::{WriteFailed, write_out};
+use pdb_text::{WordsError, WriteFailed, write_out};
 use std::alloc::AllocError;
 use std::io::Write;
 
@@ -20,9 +19,9 @@ pub enum Fault {
     Usage,
     /// The file can't be read, or has more than 1099511627776 bytes.
     Read,
-    /// The file can't be opened as a container, with the refusal's number.
+    /// The file can't be opened as a container, with the error's number.
     Open(u8),
-    /// Memory was refused.
+    /// Out of memory.
     Memory,
     /// Standard output failed.
     Write,
@@ -107,7 +106,7 @@ fn write_line<W: Write>(fault: &Fault, out: &mut W) -> Result<(), WriteFailed>
     }
 }
 
-/// Writes the fault's line and answers the exit status, from 2 to 6. Where `err` fails, a beginning of the line was
+/// Writes the fault's line and returns the exit status, from 2 to 6. Where `err` fails, a beginning of the line was
 /// written, and the status is the same.
 #[tactic(auto, using(pdb_text::proofs::Written::front_all))]
 pub fn report<W: Write>(fault: &Fault, err: &mut W) -> u8

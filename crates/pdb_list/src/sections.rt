@@ -9,7 +9,7 @@ use pdb::{ImageSectionHeader, PDB, Source};
 use pdb_text::{hex8, hex8_field, put_line_end};
 use std::alloc::AllocError;
 
-/// The line of a section header: its size and place in memory, its size and place in the image's file, its
+/// The line of a section header: its size and address in memory, its size and offset in the image's file, its
 /// characteristics, and its name.
 #[tactic(auto, unfolding(crate::specs::Texts::section_text))]
 fn put_section(out: &mut Vec<u8>, header: &ImageSectionHeader) -> Result<(), AllocError>
@@ -36,7 +36,7 @@ fn put_list(out: &mut Vec<u8>, headers: &[ImageSectionHeader]) -> Result<(), All
     Ok(())
 }
 
-/// The lines of the section headers, or `none`, or the line of their refusal.
+/// The lines of the section headers, or `none`, or the line of their error.
 #[tactic(auto, unfolding(crate::specs::Texts::sections_text))]
 pub fn put_sections<'s, S: Source<'s>>(
     out: &mut Vec<u8>,

@@ -24,7 +24,7 @@ pub(crate) struct StreamsAsked {
     sections: bool,
     globals: bool,
     modules: bool,
-    places: Vec<u32>,
+    indices: Vec<u32>,
 }
 
 impl StreamsAsked {
@@ -36,20 +36,20 @@ impl StreamsAsked {
             sections: false,
             globals: false,
             modules: false,
-            places: Vec::new(alloc),
+            indices: Vec::new(alloc),
         };
         for command in commands {
             asked.add(*command)?;
         }
-        asked.places.sort_unstable();
+        asked.indices.sort_unstable();
         Ok(asked)
     }
 
     /// Adds what a command reads.
     fn add(&mut self, command: Command) -> Result<(), AllocError> {
-        if let Some(k) = command.module_place() {
+        if let Some(k) = command.module_index() {
             self.modules = true;
-            self.places.push(k)?;
+            self.indices.push(k)?;
             return Ok(());
         }
         match command {
@@ -73,7 +73,7 @@ fn ask_stream<'s, S: Source<'s>>(msf: &mut Msf<'s, S>, index: StreamIndex) {
     }
 }
 
-/// Asks for the stream of global symbols, and answers whether it is known which that is.
+/// Asks for the stream of global symbols, and returns whether it is known which that is.
 fn ask_globals<'s, S: Source<'s>>(msf: &mut Msf<'s, S>) -> bool {
     let Ok(front) = msf.get(DBI_STREAM, Some(DBI_FRONT)) else {
         return false;
@@ -90,7 +90,7 @@ fn debug_information<'s, S: Source<'s>>(msf: &mut Msf<'s, S>) -> Option<DebugInf
     DebugInformation::parse(stream).ok()
 }
 
-/// Asks for the stream of section headers, and answers whether it is known which that is.
+/// Asks for the stream of section headers, and returns whether it is known which that is.
 fn ask_sections<'s, S: Source<'s>>(msf: &mut Msf<'s, S>) -> bool {
     let Some(information) = debug_information(msf) else {
         return false;
@@ -101,9 +101,9 @@ fn ask_sections<'s, S: Source<'s>>(msf: &mut Msf<'s, S>) -> bool {
     true
 }
 
-/// Asks for the streams of the modules with these places, and answers whether it is known which these are.
-fn ask_modules<'s, S: Source<'s>>(msf: &mut Msf<'s, S>, places: &[u32]) -> bool {
-    let Some(last) = places.last() else {
+/// Asks for the streams of the modules with these indices, and returns whether it is known which these are.
+fn ask_modules<'s, S: Source<'s>>(msf: &mut Msf<'s, S>, indices: &[u32]) -> bool {
+    let Some(last) = indices.last() else {
         return true;
     };
     let Some(information) = debug_information(msf) else {
@@ -116,7 +116,7 @@ fn ask_modules<'s, S: Source<'s>>(msf: &mut Msf<'s, S>, places: &[u32]) -> bool 
         let Ok(Some(module)) = modules.next() else {
             return true;
         };
-        if places.binary_search(&k).is_ok() {
+        if indices.binary_search(&k).is_ok() {
             ask_stream(msf, module.stream());
         }
     }
@@ -138,7 +138,7 @@ impl Asks for StreamsAsked {
         }
         self.globals = self.globals && !ask_globals(&mut msf);
         self.sections = self.sections && !ask_sections(&mut msf);
-        self.modules = self.modules && !ask_modules(&mut msf, &self.places);
+        self.modules = self.modules && !ask_modules(&mut msf, &self.indices);
         !self.globals && !self.sections && !self.modules
     }
 }

@@ -65,7 +65,7 @@ fn put_name(out: &mut Vec<u8>, name: Option<RawString<'_>>) -> Result<(), AllocE
     put_line_end(out)
 }
 
-/// A refusal in a symbol's line; want of memory is passed on.
+/// An error in a symbol's line; out of memory is passed on.
 fn put_refused(out: &mut Vec<u8>, e: Error) -> Result<(), AllocError>
     ensures { OnOk result ((e ≢ OutOfMemory) × (out.new.items ≡ out.old.items ++ refused_text e ++ codes "\n")) }
 {
@@ -83,7 +83,7 @@ fn put_heading(out: &mut Vec<u8>, heading: Heading<'_>) -> Result<(), AllocError
     put_name(out, heading.name)
 }
 
-/// What a symbol's record says: its form and name; or `refused` and the refusal's number; and the end of the line.
+/// What a symbol's record says: its form and name; or `refused` and the error's number; and the end of the line.
 fn put_record(alloc: Global, out: &mut Vec<u8>, symbol: &Symbol<'_>) -> Result<(), AllocError>
     ensures { OnOk result (out.new.items ≡ out.old.items ++ record_text (record_at (symbol_of symbol.now).bytes) ++ codes "\n") }
 {
@@ -133,7 +133,7 @@ fn put_symbols(
     }
 }
 
-/// The lines of the global symbols, or of their refusal.
+/// The lines of the global symbols, or of their error.
 #[tactic(auto, unfolding(crate::specs::Texts::globals_text))]
 pub fn put_globals<'s, S: Source<'s>>(
     alloc: Global,
@@ -149,7 +149,7 @@ pub fn put_globals<'s, S: Source<'s>>(
     }
 }
 
-/// The lines of a module's symbols, or of their refusal.
+/// The lines of a module's symbols, or of their error.
 #[tactic(auto, unfolding(crate::specs::ModuleTexts::symbols_of_text))]
 pub fn put_symbols_of(
     alloc: Global,

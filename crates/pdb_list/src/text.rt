@@ -70,7 +70,7 @@ pub fn put_none(out: &mut Vec<u8>) -> Result<(), AllocError>
     out.extend_from_slice(b"none\n")
 }
 
-/// The line of a refusal.
+/// The line of an error.
 pub fn put_error(out: &mut Vec<u8>, number: u8) -> Result<(), AllocError>
     ensures { OnOk result (out.new.items ≡ out.old.items ++ codes "error " ++ decimal number ++ codes "\n") }
 {
@@ -79,7 +79,7 @@ pub fn put_error(out: &mut Vec<u8>, number: u8) -> Result<(), AllocError>
     put_line_end(out)
 }
 
-/// The line of the refusal of a call that reads the file, but for want of memory.
+/// The line of the error of a call that reads the file, unless it is out of memory.
 pub fn put_refusal(out: &mut Vec<u8>, e: Error) -> Result<(), AllocError>
     ensures { OnOk result ((e ≢ OutOfMemory) × (out.new.items ≡ out.old.items ++ error_text e)) }
 {

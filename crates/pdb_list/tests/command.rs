@@ -1,7 +1,8 @@
 //! Tests of `command`.
 
-use crate::command::{Command, WordsError, asks_for_sample, names_module, parse_commands};
+use crate::command::{Command, asks_for_sample, names_module, parse_commands};
 use crate::tests::fakes::is;
+use pdb_text::WordsError;
 use std::alloc::{AllocError, Global};
 use std::test::Fail;
 

@@ -1,11 +1,11 @@
 //! Tests of `report`.
 
-use crate::command::WordsError;
 use crate::engine::RunError;
 use crate::report::{Fault, report};
 use crate::tests::fakes::{Slow, is};
 use pdb::Error;
 use pdb_file::FetchError;
+use pdb_text::WordsError;
 use std::alloc::AllocError;
 
 #[test]

@@ -25,7 +25,7 @@ pub(crate) fn entry_width(has_columns: bool) -> usize
     if has_columns { 12 } else { 8 }
 }
 
-/// The block at the buffer's place.
+/// The block at the buffer's offset.
 #[tactic(auto, unfolding(crate::specs::Blocks::block_at))]
 pub(crate) fn read_block<'a>(buffer: &mut ParseBuffer<'a>, has_columns: bool) -> Result<Block<'a>>
     ensures reads { Reads block_of buffer.old buffer.new result (block_at has_columns buffer.old.bytes buffer.old.place) (block_length buffer.old.place) }

@@ -254,7 +254,7 @@ impl CrossModuleExports {
         })
     }
 
-    /// The same exports once more. It is refused for want of memory alone.
+    /// The same exports once more. It fails with out of memory alone.
     pub fn try_clone(&self, alloc: Global) -> Result<Self>
         ensures same { IfOk result (λ x. x ≡ self.now) }
         ensures refused { IfErr result (λ e. e ≡ Error.OutOfMemory) }

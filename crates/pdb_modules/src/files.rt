@@ -25,7 +25,7 @@ pub enum FileChecksum<'a> {
 }
 
 /// Checksums are equal where both are of one kind and have the same bytes. No checksum equals nothing, itself
-/// neither: it tells nothing of a file's contents.
+/// neither: it says nothing of a file's contents.
 impl PartialEq for FileChecksum<'_> {
     ghost use Rattle.pdb_modules.specs.FileViews.{same_checksum, same_laws};
 
@@ -46,7 +46,7 @@ impl PartialEq for FileChecksum<'_> {
 /// A source file of a module.
 #[derive(Clone, Debug, Drop, PartialEq)]
 pub struct FileInfo<'a> {
-    /// Its name, by its place in the string table.
+    /// Its name, by its offset in the string table.
     pub name: StringRef,
     /// The checksum of its contents.
     pub checksum: FileChecksum<'a>,
@@ -100,7 +100,7 @@ fn file(entry: FileRecord<'_>) -> FileInfo<'_>
     }
 }
 
-/// The record at the place of a buffer over the checksums.
+/// The record at the offset of a buffer over the checksums.
 #[tactic(auto, unfolding(crate::specs::Files::entry_at))]
 pub fn read_file_record<'a>(buffer: &mut ParseBuffer<'a>) -> Result<FileRecord<'a>>
     ensures { Reads bytes_of_entry buffer.old buffer.new result (entry_at buffer.old.bytes buffer.old.place) (entry_length buffer.old.place) }
@@ -121,7 +121,7 @@ pub fn read_file_record<'a>(buffer: &mut ParseBuffer<'a>) -> Result<FileRecord<'
     })
 }
 
-/// The file of the record that begins at a place of the checksums.
+/// The file of the record that begins at an offset of the checksums.
 #[tactic(auto, unfolding(crate::specs::Files::file_at))]
 pub(crate) fn file_info(checksums: &[u8], place: u32) -> Result<FileInfo<'_>>
     ensures { Answers shown_file result (file_at checksums.entry.now place) }

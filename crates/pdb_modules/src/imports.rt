@@ -13,11 +13,11 @@ use std::alloc::Global;
 use std::fmt;
 use std::marker::Model;
 
-/// A module by its name, which is told by its place in the string table.
+/// A module by its name, which is given by its offset in the string table.
 #[derive(Clone, Copy, Debug, Eq, PartialEq, Ord, PartialOrd, Hash)]
 pub struct ModuleRef(pub StringRef);
 
-/// Shows the place of the name, as `StringRef` does.
+/// Shows the offset of the name, as `StringRef` does.
 impl fmt::Display for ModuleRef {
     ghost use Rattle.std.specs.Prelude.{Some};
     ghost use Rattle.pdb_base.specs.Index.{hex_of};
@@ -42,7 +42,7 @@ pub struct Imported<'a> {
     pub(crate) numbers: &'a [u8],
 }
 
-/// The module at the buffer's place.
+/// The module at the buffer's offset.
 #[tactic(auto, unfolding(crate::specs::CrossModule::imported_at))]
 fn read_imported<'a>(buffer: &mut ParseBuffer<'a>) -> Result<Imported<'a>>
     ensures { Reads module_of buffer.old buffer.new result (imported_at buffer.old.bytes buffer.old.place) (imported_length buffer.old.place) }
@@ -95,7 +95,7 @@ fn read_modules<'a>(alloc: Global, part: &'a [u8]) -> Result<Vec<Imported<'a>>>
 }
 
 /// What a module imports from other modules: `cvinfo.h`'s `CrossScopeReferences`. A contract sees it as the list of
-/// the modules, each by its name's place and the bytes of its numbers.
+/// the modules, each by its name's offset and the bytes of its numbers.
 #[derive(Drop)]
 pub struct CrossModuleImports<'a> {
     modules: Vec<Imported<'a>>,
@@ -156,7 +156,7 @@ impl<'a> CrossModuleImports<'a> {
         }
     }
 
-    /// The record of another module to which an index refers: bits 20 to 30 tell the place of that module among the
+    /// The record of another module to which an index refers: bits 20 to 30 are the index of that module among the
     /// imports, and bits 0 to 19 that of the number. An index without the top bit is `NotACrossModuleRef`; where the
     /// module or the number isn't there it is `CrossModuleRefNotFound`.
     #[tactic(auto, unfolding(crate::specs::CrossModule::reference_of))]
@@ -180,7 +180,7 @@ impl<'a> CrossModuleImports<'a> {
         Ok(CrossModuleRef(ModuleRef(StringRef(module.name)), Local(local)))
     }
 
-    /// The same imports once more. It is refused for want of memory alone.
+    /// The same imports once more. It fails with out of memory alone.
     pub fn try_clone(&self, alloc: Global) -> Result<Self>
         ensures same { IfOk result (λ x. x ≡ self.now) }
         ensures refused { IfErr result (λ e. e ≡ Error.OutOfMemory) }

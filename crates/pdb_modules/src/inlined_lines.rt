@@ -69,6 +69,7 @@ impl<'a> FallibleIterator for InlineeLineIterator<'a> {
     ghost left = { inlined_left };
 
     #[tactic(auto, using(crate::proofs::InlinedSteps::lines_few))]
+    #[inline(always)]
     fn next(&mut self) -> Result<Option<LineInfo>>
         ensures yields { Yields (λ l. l) (inlined_left self.old) result (inlined_left self.new) }
         ensures few { length (inlined_left self.old).items < 2 ^ 64 }

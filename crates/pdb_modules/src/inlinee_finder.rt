@@ -28,8 +28,8 @@ impl<'a> InlineeFinder<'a> {
     ghost use Rattle.std.specs.Prelude.{◌≡◌, IfOk, option_copied};
     ghost use Rattle.pdb_modules.specs.Inlinees.{inlinee_with};
 
-    /// The functions of a list, such as `ModuleInfo::inlinees` gives. They are sorted once, for which memory may be
-    /// refused.
+    /// The functions of a list, such as `ModuleInfo::inlinees` gives. They are sorted once, for which memory may run
+    /// out.
     pub fn new(mut inlinees: Vec<Inlinee<'a>>) -> Result<Self, AllocError>
         ensures { IfOk result (λ finder. inlinee_with finder ≡ inlinee_with inlinees.entry.items) }
     {

@@ -19,7 +19,7 @@ use std::marker::Model;
 /// `CV_INLINEE_SOURCE_LINE_SIGNATURE_EX`.
 const SIGNATURE_EX: u32 = 1;
 
-/// A function that is inlined in places: `cvinfo.h`'s `InlineeSourceLine`. A contract sees it as the index of its id,
+/// A function that is inlined somewhere: `cvinfo.h`'s `InlineeSourceLine`. A contract sees it as the index of its id,
 /// the file and the line in which it begins, and the bytes of further files.
 #[derive(Debug, Drop)]
 pub struct Inlinee<'a> {
@@ -49,7 +49,7 @@ impl<'a> Inlinee<'a> {
         self.index
     }
 
-    /// The file in which the function begins: the place of its record among the module's checksums of files.
+    /// The file in which the function begins: the offset of its record among the module's checksums of files.
     pub fn file_index(&self) -> FileIndex
         ensures { result.0 ≡ self.now.file_index }
     {
@@ -64,7 +64,7 @@ impl<'a> Inlinee<'a> {
     }
 
     /// The line records of an inline site of this function, in the procedure that begins at `parent`. Where the
-    /// site's annotations have a fault it comes in place of the last record before it.
+    /// site's annotations have a fault it comes instead of the last record before it.
     pub fn lines(
         &self,
         parent: PdbInternalSectionOffset,
@@ -109,7 +109,7 @@ impl Default for Inlinee<'_> {
     }
 }
 
-/// The further files at the buffer's place, where there may be any.
+/// The further files at the buffer's offset, where there may be any.
 fn read_extra_files<'a>(buffer: &mut ParseBuffer<'a>, extended: bool) -> Result<&'a [u8]>
     ensures { Reads (λ s. s.now) buffer.old buffer.new result (extra_files_at extended buffer.old.bytes buffer.old.place) (extra_length extended) }
 {
@@ -120,7 +120,7 @@ fn read_extra_files<'a>(buffer: &mut ParseBuffer<'a>, extended: bool) -> Result<
     buffer.take(4 * count as usize)
 }
 
-/// The inlined function at the buffer's place.
+/// The inlined function at the buffer's offset.
 #[tactic(auto, unfolding(crate::specs::Inlinees::inlinee_at))]
 fn read_inlinee<'a>(buffer: &mut ParseBuffer<'a>, extended: bool) -> Result<Inlinee<'a>>
     ensures { Reads (λ x. x) buffer.old buffer.new result (inlinee_at extended buffer.old.bytes buffer.old.place) (inlinee_length extended buffer.old.place) }

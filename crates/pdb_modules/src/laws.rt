@@ -62,7 +62,7 @@ pub fn checksum_equality()
     ensures { (a b : Checksum) → Decides (same_sums a b) (HaveOneDigest a b) }
 {}
 
-/// Export i of a part stands at its place 8 * i, and each eight bytes are one.
+/// Export i of a part stands at its offset 8 * i, and each eight bytes are one.
 pub fn exports_in_file_order()
     ensures count { (part : List ℕ) (xs : List (ℕ × ℕ)) → exports_in part ≡ Ok xs → 8 * length xs ≡ length part }
     ensures places { (part : List ℕ) (xs : List (ℕ × ℕ)) → exports_in part ≡ Ok xs → (i : ℕ) (d : ℕ × ℕ) → i < length xs → get_or xs i d ≡ (number part (8 * i) 4, number part (8 * i + 4) 4) }

@@ -1,4 +1,4 @@
-//! What a line entry tells.
+//! What a line entry says.
 
 use pdb_base::FileIndex;
 
@@ -11,7 +11,7 @@ pub struct Columns {
     pub end: u16,
 }
 
-/// What a line entry tells of the source.
+/// What a line entry says of the source.
 #[derive(Clone, Copy)]
 pub struct Line {
     /// The file.

@@ -33,15 +33,15 @@ pub struct LineInfo {
     pub offset: PdbInternalSectionOffset,
     /// How many bytes of code it is, where that is known.
     pub length: Option<u32>,
-    /// The file, by the place of its checksum in the module's checksums.
+    /// The file, by the offset of its checksum in the module's checksums.
     pub file_index: FileIndex,
     /// The first line.
     pub line_start: u32,
     /// The last line.
     pub line_end: u32,
-    /// The column at which it starts, where it is told.
+    /// The column at which it starts, where it is known.
     pub column_start: Option<u32>,
-    /// The column at which it ends, where it is told.
+    /// The column at which it ends, where it is known.
     pub column_end: Option<u32>,
     /// What the code is.
     pub kind: LineInfoKind,

@@ -117,7 +117,7 @@ impl<'a> LinePlaces<'a> {
         self.checksums
     }
 
-    /// The file of an index, as `LineProgram::get_file_info` answers it.
+    /// The file of an index, as `LineProgram::get_file_info` returns it.
     pub fn get_file_info(&self, index: FileIndex) -> Result<FileInfo<'a>>
         ensures { Answers shown_file result (file_at self.now.checksums index.0) }
     {

@@ -19,9 +19,9 @@ use std::marker::Model;
 #[derive(Clone, Copy)]
 pub struct Listed<'a> {
     part: LineSubsection<'a>,
-    // The place of its first row.
+    // The index of its first row.
     from: usize,
-    // The place behind the last of its rows that are given.
+    // The index behind the last of its rows that are given.
     to: usize,
     // The fault behind them.
     fault: Option<Error>,

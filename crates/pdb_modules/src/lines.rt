@@ -10,12 +10,12 @@ use pdb_base::{Error, FallibleIterator, Result, Steps};
 use std::alloc::AllocError;
 
 /// Line records, in the order of their subsections. Where a block is damaged, the last record before it isn't given;
-/// its fault comes in that record's place, and then the list has ended. It is `UnexpectedEof` where the block isn't
+/// its fault comes instead of that record, and then the list has ended. It is `UnexpectedEof` where the block isn't
 /// all there, and `InvalidStreamLength(LinesBlock)` where its size is below 12 or its entries don't fit.
 #[derive(Drop)]
 pub struct LineIterator<'a> {
     pub(crate) rows: &'a [Row],
-    // Whether the records are told as if their subsection were the only one.
+    // Whether the records are given as if their subsection were the only one.
     pub(crate) is_own: bool,
     pub(crate) fault: Option<Error>,
     pub(crate) steps: Steps,

@@ -24,7 +24,7 @@ use std::marker::Model;
 const SIGNATURE_C13: u32 = 4;
 
 /// The stream of a module: its symbols, and then its lines data. A contract sees it as its bytes and the sizes of its
-/// three parts, which the module's record tells.
+/// three parts, which the module's record says.
 #[derive(Drop)]
 pub struct ModuleInfo<'s> {
     stream: Stream<'s>,
@@ -56,7 +56,7 @@ fn checked_part(part: &[u8]) -> Result<&[u8]>
 }
 
 impl<'s> ModuleInfo<'s> {
-    /// The stream of a module, whose record tells the sizes of its parts. Nothing of it is read yet.
+    /// The stream of a module, whose record has the sizes of its parts. Nothing of it is read yet.
     pub fn parse(stream: Stream<'s>, module: &Module<'_>) -> Self
         ensures { result ≡ record { bytes = stream.entry; symbols_size = «module».now.symbols_size; lines_size = «module».now.lines_size; c13_lines_size = «module».now.c13_lines_size } }
     {
@@ -88,7 +88,7 @@ impl<'s> ModuleInfo<'s> {
 
     // The symbols part.
     #[tactic(auto, unfolding(crate::specs::ModuleStream::symbols_part_of))]
-    fn symbols_part(&self) -> Result<&[u8]>
+    pub fn symbols_part(&self) -> Result<&[u8]>
         ensures part { Answers (λ s. s.now) result (symbols_part_of self.now) }
         ensures small { IfOk result (λ s. length s.now ≤ 4294967295) }
     {
@@ -106,8 +106,8 @@ impl<'s> ModuleInfo<'s> {
         self.symbols_at(SymbolIndex(4))
     }
 
-    /// The module's symbols from an index on, whatever stands there; none where the index is past their end. It is
-    /// refused where `symbols` is.
+    /// The module's symbols from an index on, whatever stands there; none where the index is past their end. It
+    /// fails as `symbols` does.
     #[tactic(auto, unfolding(crate::specs::ModuleStream::symbols_at_of))]
     pub fn symbols_at(&self, index: SymbolIndex) -> Result<SymbolIter<'_>>
         ensures left { Answers symbols_left result (symbols_at_of index.0 self.now) }
@@ -144,11 +144,11 @@ impl<'s> ModuleInfo<'s> {
         first_of_kind(self.lines_data()?, kind)
     }
 
-    /// The module's line records and files, resolved once. It is refused with `UnimplementedFeature(C11LinePrograms)`
+    /// The module's line records and files, resolved once. It fails with `UnimplementedFeature(C11LinePrograms)`
     /// where the module has lines of the older form (C11); with `UnexpectedEof` where the lines data isn't all there,
     /// where a subsection isn't, or one of lines is shorter than its header; with `UnimplementedDebugSubsection` for a
-    /// kind that isn't known; and for want of memory. A damaged block of lines doesn't refuse it: the list of records
-    /// tells it where it is reached.
+    /// kind that isn't known; and with out of memory. A damaged block of lines is no error of it: the list of
+    /// records returns that error where it is reached.
     #[tactic(auto, unfolding(crate::specs::ModuleStream::line_program_of, crate::specs::ModuleStream::line_subsections_of))]
     pub fn line_program(&self, alloc: Global) -> Result<LineProgram<'_>>
         ensures program { Gives (λ p. p) ⊥ result (line_program_of self.now) }
@@ -161,7 +161,7 @@ impl<'s> ModuleInfo<'s> {
         LineProgram::parse(alloc, self.lines_data()?)
     }
 
-    /// The module's line subsections, in which the record of a place is found as it stands. It is refused as
+    /// The module's line subsections, in which the record of a place is found as it stands. It fails as
     /// `line_program` is.
     #[tactic(auto, unfolding(crate::specs::ModuleStream::line_program_of, crate::specs::ModuleStream::line_subsections_of))]
     pub fn line_places(&self, alloc: Global) -> Result<LinePlaces<'_>>
@@ -177,7 +177,7 @@ impl<'s> ModuleInfo<'s> {
 
     /// The module's inlined functions. It is `UnexpectedEof` where the lines data isn't all there, or its first part
     /// of inlined functions is shorter than four bytes; and where no such part stands before a subsection that isn't
-    /// all there or of a kind that isn't known, that subsection's refusal. There are none where the module has lines
+    /// all there or of a kind that isn't known, that subsection's error. There are none where the module has lines
     /// of the older form.
     #[tactic(auto, unfolding(crate::specs::ModuleStream::inlinees_of, crate::specs::ModuleStream::inlinees_part_of))]
     pub fn inlinees(&self) -> Result<InlineeIterator<'_>>
@@ -191,8 +191,8 @@ impl<'s> ModuleInfo<'s> {
         }
     }
 
-    /// What the module imports from others, by its first part of imports. It is refused as `inlinees` is, where that
-    /// part isn't whole (`UnexpectedEof`), and for want of memory.
+    /// What the module imports from others, by its first part of imports. It fails as `inlinees` does, where that
+    /// part isn't whole (`UnexpectedEof`), and with out of memory.
     #[tactic(auto, unfolding(crate::specs::ModuleStream::imports_of))]
     pub fn imports(&self, alloc: Global) -> Result<CrossModuleImports<'_>>
         ensures imports { Gives (λ x. x) ⊥ result (imports_of self.now) }
@@ -207,7 +207,7 @@ impl<'s> ModuleInfo<'s> {
         }
     }
 
-    /// What the module exports to others, by its first part of exports. It is refused as `inlinees` is, with
+    /// What the module exports to others, by its first part of exports. It fails as `inlinees` does, with
     /// `InvalidStreamLength(CrossScopeExports)` where that part's size is no multiple of eight, and for want of
     /// memory.
     #[tactic(auto, unfolding(crate::specs::ModuleStream::exports_of))]

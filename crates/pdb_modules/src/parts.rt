@@ -27,7 +27,7 @@ pub struct Parts<'a> {
     pub(crate) checksums: &'a [u8],
 }
 
-/// The subsection at the buffer's place, where one of lines has its whole header.
+/// The subsection at the buffer's offset, where one of lines has its whole header.
 #[tactic(auto, unfolding(crate::specs::ProgramParts::whole_piece_at))]
 fn read_whole_piece<'a>(buffer: &mut ParseBuffer<'a>) -> Result<Piece<'a>>
     ensures reads { Reads bytes_of_piece buffer.old buffer.new result (whole_piece_at buffer.old.bytes buffer.old.place) (piece_length buffer.old.place) }

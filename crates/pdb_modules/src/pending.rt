@@ -42,7 +42,7 @@ impl Lines {
         self.pending.replace(line)
     }
 
-    // Takes in one more annotation. Answers whether it emits a record, and then the length that it says of it.
+    // Takes in one more annotation. Returns whether it emits a record, and then the length that it says of it.
     #[inline]
     pub(crate) fn take_in(&mut self, annotation: BinaryAnnotation) -> Option<Option<u32>>
         ensures section { self.new.section ≡ self.old.section }

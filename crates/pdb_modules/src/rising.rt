@@ -28,7 +28,8 @@ fn count_rising(from: PdbInternalSectionOffset, block: Block<'_>, has_columns: b
     block.count
 }
 
-/// How many entries of a subsection's first block are so. Each subsection is read once: the loop keeps registers of its own.
+/// How many entries of a subsection's first block are so. Each subsection is read once: the loop keeps registers of its
+/// own.
 #[inline(never)]
 pub(crate) fn rising_in_front(
     from: PdbInternalSectionOffset,

@@ -1,12 +1,12 @@
-//! Room for what is read.
+//! Capacity for what is read.
 
 ghost use Rattle.std.specs.Prelude.{◌≡◌, ◌≤◌, [], length, IfOk, IfErr, IsOk};
 
 use pdb_base::{Error, Result};
 use std::alloc::Global;
 
-/// Room for so many items, each of which has a byte of its own among those that were seen: no number that a file tells
-/// is room by itself.
+/// Capacity for so many items, each of which has a byte of its own among those that were seen: no number that a file
+/// says is capacity by itself.
 pub(crate) fn room<T: Drop>(alloc: Global, count: usize, seen: &[u8]) -> Result<Vec<T>>
     requires { count ≤ length seen.now }
     ensures empty { IfOk result (λ items. items.items ≡ []) }

@@ -14,7 +14,7 @@ use crate::line_info::{LineInfo, LineInfoKind};
 use crate::line_subsection::LineSubsection;
 use pdb_base::{Error, FileIndex, ParseBuffer, PdbInternalSectionOffset, Result};
 
-/// A line record as it is kept. The fields stand so that there is no room between them.
+/// A line record as it is kept. The fields stand so that there is no capacity between them.
 #[derive(Clone, Copy)]
 pub struct Row {
     offset: u32,
@@ -42,6 +42,10 @@ fn is_upto(length: Option<u32>, distance: u32) -> bool
 pub(crate) fn is_marker(flags: u32) -> bool
     ensures { result ≡ is_marker flags }
 {
+    // Few lines have numbers as great as those of markers.
+    if flags / 0x10_0000 % 16 < 15 {
+        return false;
+    }
     let line = flags % 0x100_0000;
     line == 0xfe_efee || line == 0xf0_0f00
 }
@@ -212,7 +216,7 @@ fn column(columns: Option<Columns>, is_end: bool) -> Option<u32>
     }
 }
 
-/// The kind that flags tell.
+/// The kind that flags say.
 fn kind(flags: u32) -> LineInfoKind
     ensures { result ≡ (if nat_le (2 ^ 31) flags then LineInfoKind.Statement else LineInfoKind.Expression) }
 {

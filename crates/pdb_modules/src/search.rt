@@ -8,7 +8,7 @@ ghost use Rattle.pdb_modules.specs.LineProgram.{listed_subsections};
 use crate::line_program::Listed;
 use pdb_base::{PdbInternalSectionOffset, Steps};
 
-/// The place of a section's offset among those of all sections.
+/// The rank of a section's offset among those of all sections.
 pub(crate) fn order_of(place: PdbInternalSectionOffset) -> u64
     ensures { result ≡ order_of place }
 {

@@ -6,7 +6,7 @@ use crate::line_info::{LineInfo, LineInfoKind};
 use pdb_base::{FileIndex, PdbInternalSectionOffset};
 use pdb_symbols::BinaryAnnotation;
 
-// What the annotations so far say of the code: what the next record tells.
+// What the annotations so far say of the code: what the next record says.
 #[derive(Clone, Copy)]
 pub(crate) struct Seen {
     pub offset: u32,

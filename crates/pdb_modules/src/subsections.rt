@@ -33,7 +33,7 @@ fn is_known(kind: u32) -> bool
     (kind >= 0xf1 && kind <= 0xfd) || kind >= 0x8000_0000
 }
 
-/// The subsection at the buffer's place.
+/// The subsection at the buffer's offset.
 #[tactic(auto, unfolding(crate::specs::Subsections::piece_at))]
 pub(crate) fn read_piece<'a>(buffer: &mut ParseBuffer<'a>) -> Result<Piece<'a>>
     ensures reads { Reads bytes_of_piece buffer.old buffer.new result (piece_at buffer.old.bytes buffer.old.place) (piece_length buffer.old.place) }

@@ -6,7 +6,7 @@ ghost use Rattle.pdb_names.specs.declared.pieces.Stop.TheVariants.{OutOfMemory};
 
 use std::alloc::{AllocError, AllocFailed, Global};
 
-/// Why there is no name: no rule answers, or memory ran out.
+/// Why there is no name: no rule applies, or memory ran out.
 #[derive(Clone, Copy)]
 pub(crate) enum Stop {
     NoAnswer,

@@ -50,7 +50,7 @@ fn ruled(alloc: Global, decorated: &[u8], x86: bool) -> Result<Vec<u8>, Stop>
     }
 }
 
-/// Whether a rule may answer a name: but on x86 each has an underscore or a question mark first.
+/// Whether a rule may apply to a name: but on x86 each has an underscore or a question mark first.
 #[tactic(auto, unfolding(crate::specs::Spelling::spelled, crate::specs::Spelling::prefixed, crate::specs::Spelling::ruled))]
 fn has_rule(decorated: &[u8], x86: bool) -> bool
     ensures { result ≡ false → spelled decorated.now x86 ≡ None }
@@ -75,7 +75,7 @@ fn prefixed(alloc: Global, decorated: &[u8], x86: bool) -> Result<Vec<u8>, Stop>
     Ok(whole)
 }
 
-/// The name that a decorated name spells, where a rule answers it.
+/// The name that a decorated name spells, where a rule applies.
 #[tactic(auto, unfolding(crate::specs::Spelling::spelled))]
 fn spell(alloc: Global, decorated: &[u8], x86: bool) -> Result<Vec<u8>, Stop>
     ensures { Gives (λ t. t.items) result (spelled decorated.now x86) }
@@ -90,7 +90,7 @@ fn spell(alloc: Global, decorated: &[u8], x86: bool) -> Result<Vec<u8>, Stop>
     Ok(name)
 }
 
-/// Appends the name that a decorated name spells, or its bytes as they are. The result is whether a rule answered.
+/// Appends the name that a decorated name spells, or its bytes as they are. The result is whether a rule applied.
 /// `x86` says that the file is for x86, where names of C are decorated. Where memory runs out `out` is as it was.
 pub fn put_name(out: &mut Vec<u8>, decorated: &[u8], x86: bool) -> Result<bool, AllocError>
     ensures ok { OnOk result (out.new.items ≡ out.old.items ++ text_of decorated.now (spelled decorated.now x86)) }

@@ -102,7 +102,7 @@ impl EntryKind {
 /// A jump by a table: `ARMSWITCHTABLE` of `cvinfo.h`, in records `S_ARMSWITCHTABLE` (0x1159), of all processors.
 #[derive(Clone, Copy, Debug, Eq, PartialEq)]
 pub struct JumpTable {
-    /// The place to which an entry is added.
+    /// The `section:offset` to which an entry is added.
     pub base: PdbInternalSectionOffset,
     /// What an entry is.
     pub entry_kind: EntryKind,
@@ -136,8 +136,8 @@ pub struct HotPatchFunction<'t> {
     pub name: RawString<'t>,
 }
 
-/// Strings that the program's text gave for a place (`__annotation`): `ANNOTATIONSYM` of `cvinfo.h`, in records
-/// `S_ANNOTATION` (0x1019).
+/// Strings that the program's text gave for a `section:offset` (`__annotation`): `ANNOTATIONSYM` of `cvinfo.h`, in
+/// records `S_ANNOTATION` (0x1019).
 #[derive(Clone, Copy, Debug, Eq, PartialEq)]
 pub struct Annotation<'t> {
     /// Where the annotation stands.

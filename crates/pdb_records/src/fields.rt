@@ -74,7 +74,7 @@ pub(crate) fn parse_rest<'t>(buffer: &mut ParseBuffer<'t>) -> Result<&'t [u8]>
     buffer.take(count)
 }
 
-// Two places: the offset of each, and behind them the section of each.
+// Two `section:offset`s: the offset of each, and behind them the section of each.
 #[inline]
 #[tactic(auto, unfolding(pdb_base::specs::Layouts::together_at))]
 pub(crate) fn parse_two_places(

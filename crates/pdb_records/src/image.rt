@@ -53,7 +53,7 @@ pub struct EnvironmentBlock<'t> {
     pub strings: Strings<'t>,
 }
 
-// Two numbers, and a place.
+// Two numbers, and a `section:offset`.
 #[inline]
 #[tactic(auto, unfolding(pdb_base::specs::Layouts::together_at))]
 fn parse_group_place(buffer: &mut ParseBuffer<'_>) -> Result<(u32, u32, PdbInternalSectionOffset)>

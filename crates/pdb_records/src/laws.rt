@@ -14,7 +14,7 @@ pub fn no_kind_is_read_twice()
     ensures { (kind : ℕ) (f : Form) (g : RecordForm) → row kind ≡ Some f → record_row kind ≡ Some g → ⊥ }
 {}
 
-/// What is read of a record, or its error, is what its bytes say by the places of its fields, and nothing else.
+/// What is read of a record, or its error, is what its bytes say by the offsets of its fields, and nothing else.
 pub fn further_reading_is_what_the_bytes_say()
     ensures says { (b : List ℕ) (d : Says) → further_at b ≡ Ok d → SaysOf b d }
     ensures reads { (b : List ℕ) (d : Says) → SaysOf b d → further_at b ≡ Ok d }

@@ -1,4 +1,4 @@
-//! Address ranges, and lists of gaps and of numbers that are lent.
+//! Address ranges, and lists of gaps and of numbers that are borrowed.
 
 ghost use Rattle.std.specs.Prelude.{◌≡◌, ◌==◌, ◌<◌, ◌≤◌, ◌+◌, ◌^◌, length};
 ghost use Rattle.pdb_records.specs.RecordFlags.{relation_of};

@@ -97,7 +97,7 @@ fn parse_body(buffer: &mut ParseBuffer<'_>) -> Result<(u32, u32, u32)>
     Ok((len, start, end))
 }
 
-// A token, a place, flags, and a register.
+// A token, a `section:offset`, flags, and a register.
 #[inline]
 #[tactic(auto, unfolding(pdb_base::specs::Layouts::together_at))]
 fn parse_managed(

@@ -88,7 +88,8 @@ fn high_processor(number: u16) -> Option<&'static str>
 }
 
 /// The name of a processor, by its number in a record of how a module was compiled: `CV_CPU_TYPE_e` of `cvconst.h`.
-/// None for a number without a name. `pdb_symbols::CPUType` has another name for 0x69 and for some numbers from 0xf6 on.
+/// None for a number without a name. `pdb_symbols::CPUType` has another name for 0x69 and for some numbers from 0xf6
+/// on.
 pub fn processor_name(number: u16) -> Option<&'static str>
     ensures { option_map (λ s. s.now) result ≡ processor_name_of number }
 {

@@ -90,7 +90,7 @@ pub enum Record<'t> {
     Section(Section<'t>),
     /// The environment in which a module was compiled.
     EnvironmentBlock(EnvironmentBlock<'t>),
-    /// Strings that the program's text gave for a place.
+    /// Strings that the program's text gave for a `section:offset`.
     Annotation(Annotation<'t>),
     /// What a profile says of a procedure.
     PogoData(PogoData),
@@ -172,7 +172,7 @@ fn parse_record(kind: u16, bytes: &[u8]) -> Result<Record<'_>>
     parse_fields(kind, &mut buffer)
 }
 
-// What a record of a kind says, its fields at the buffer's place.
+// What a record of a kind says, its fields at the buffer's offset.
 #[tactic(auto, using(crate::proofs::LaidRecords::end_of_arguments_read))]
 fn parse_fields<'t>(kind: u16, buffer: &mut ParseBuffer<'t>) -> Result<Record<'t>>
     requires { buffer.old.place ≡ 2 }

@@ -1,4 +1,4 @@
-//! Names that stand one behind another in a record, and are lent.
+//! Names that stand one behind another in a record, and are borrowed.
 
 ghost use Rattle.std.specs.Prelude.{◌≡◌, ◌<◌, ◌^◌, length};
 ghost use Rattle.pdb_base.specs.Refusal.{Answers};

@@ -26,7 +26,7 @@ pub struct BasePointerRelative<'t> {
 }
 
 /// A static variable of a file that is kept in registers: `FILESTATICSYM` of `cvinfo.h`, in records `S_FILESTATIC`
-/// (0x1153). The records behind it tell where it lives.
+/// (0x1153). The records behind it have its locations.
 #[derive(Clone, Copy, Debug, Eq, PartialEq)]
 pub struct FileStatic<'t> {
     /// The variable's type.

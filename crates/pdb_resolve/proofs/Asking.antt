@@ -1,9 +1,9 @@
 -- What an accessor answered, as if it weren't there where it is refused.
-use Rattle.std.proofs.Common.{◌≡◌, Result, Ok, Err, ◌⊎◌, inl, inr, false, true, ◌<◌, length, Option, Bor, ap, ◌∙◌, arith}
+use Rattle.std.proofs.Common.{◌≡◌, Result, Ok, Err, ◌⊎◌, inl, inr, false, true, ◌<◌, length, Option, Some, None, Bor, refl, ap, ◌∙◌, arith}
 use Rattle.std.specs.Prelude.{option_copied, IfOk, IfErr, OnOk}
 use Rattle.pdb.specs.Error.{Error}
 use Rattle.pdb.specs.Error.TheVariants.{IoError, OutOfMemory}
-use Rattle.pdb.specs.Refusal.{Gives, Fails}
+use Rattle.pdb.specs.Refusal.{Gives, Fails, ◌>>=◌}
 use Rattle.pdb_resolve.specs.AsIfEmpty.{if_read, OnlyFails}
 use Rattle.pdb_resolve.specs.declared.part.Part.{Part}
 use Rattle.pdb_resolve.specs.KeptParts.{IsAskedOf}
@@ -25,6 +25,21 @@ failed view io (Err d) reading h e = absurd cc
 pub only_fails : {X Y : Type 0} (view : X → Y) (io : Type 0) (r : Result X Error) (reading : Result Y Error) (e : Error) → Gives view io r reading → (e ≡ OutOfMemory) ⊎ ((e ≡ IoError) × (r ≡ Err IoError)) → OnlyFails io e
 only_fails view io r reading e h (inl memory) = rw memory tt
 only_fails view io r reading e h (inr same) = rw same.0 (failed view io r reading h same.1)
+
+-- what was read, and what then can't be read
+pub read_is : {A : Type 0} (r : Result A Error) (x : A) → if_read r ≡ Some x → r ≡ Ok x
+read_is (Ok y) x e = cc
+read_is (Err d) x e = absurd cc
+
+pub not_read : {A B : Type 0} (r : Result A Error) (next : A → Result B Error) → if_read r ≡ None → if_read (r >>= next) ≡ None
+not_read (Ok y) next e = absurd cc
+not_read (Err d) next e = refl
+
+-- the same where the call's error was passed on
+pub passed : {X Y : Type 0} (view : X → Y) (io : Type 0) (r : Result X Error) (reading : Result Y Error) (e : Error) → Gives view io r reading → (r ≡ Err e) × OnlyFails (Unit {0}) e → OnlyFails io e
+passed view io r reading IoError h p = failed view io r reading h p.0
+passed view io r reading OutOfMemory h p = tt
+passed view io r reading e h p = absurd p.1
 
 -- what was kept is what was read
 pub asked_then : {A : Type 0} (part : Part A) (r : Result (Option (Bor A)) Error) (reading : Result A Error)

@@ -8,7 +8,8 @@ use Rattle.pdb.specs.PdbInternalSectionOffset.{PdbInternalSectionOffset}
 use Rattle.pdb.specs.DBISectionContribution.{DBISectionContribution}
 use Rattle.pdb_resolve.specs.declared.range.CodeRange.{CodeRange}
 use Rattle.pdb_resolve.specs.RangeOrder.{InOrder}
-use Rattle.pdb_resolve.specs.ModuleCode.{Code, code_covers, covers_place, index_of, SameCode, ApartCode, AreCodesApart}
+use Rattle.pdb.specs.LineCover.{bytes_cover}
+use Rattle.pdb_resolve.specs.ModuleCode.{Code, code_covers, index_of, SameCode, ApartCode, AreCodesApart}
 use Rattle.pdb_resolve.specs.Kept.{range_parts, code_parts, AreRangesOf}
 use Rattle.pdb_resolve.specs.Covering.{covers}
 use Rattle.pdb_resolve.specs.ModulePlaces.{contributes, none_listed, reaches_by, module_of, module_among, SameBytes, NoCommonByte, AreContributionsApart}
@@ -90,7 +91,7 @@ some_among q n (c ∷ cs) k e = by_head (contributes q c) refl e (some_among q (
 -- ---- whether the contribution that is found has another place
 
 abbrev parts_cover : PdbInternalSectionOffset → Parts → Bool
-parts_cover q p = covers_place q p.1.0 p.1.1
+parts_cover q p = bytes_cover q p.1.0 p.1.1
 
 -- the range of this number covers the place where the contribution has it
 pub record IsReached (p q : PdbInternalSectionOffset) (n : ℕ) (cs : List DBISectionContribution) (rs : List CodeRange) (k : ℕ) : Type 0 where

@@ -4,15 +4,17 @@ use Rattle.std.proofs.Math.Path.{fun_ext}
 use Rattle.std.proofs.lemmas.Bool.{le-ltb, ltb-true}
 use Rattle.std.proofs.lemmas.List.{get_or-map, get_or-take, length-take}
 use Rattle.std.proofs.lemmas.Nat.{mod_below}
-use Rattle.std.specs.Prelude.{nat_lt}
+use Rattle.std.specs.Prelude.{IfOk, nat_lt}
 use Rattle.pdb.specs.Error.{Error}
 use Rattle.pdb.specs.Error.TheVariants.{NotACrossModuleRef, CrossModuleRefNotFound}
 use Rattle.pdb.specs.Refusal.{◌>>=◌}
 use Rattle.pdb.specs.Modules.{ModuleEntry}
-use Rattle.pdb.specs.ModuleStream.{ModuleBytes, imports_of}
+use Rattle.pdb.specs.Answers.{module_info_in}
+use Rattle.pdb.specs.ModuleStream.{ModuleBytes, exports_of, imports_of}
 use Rattle.pdb.specs.CrossModule.{ImportedModule, Reference, reference_of, number_in, nothing, global_of}
-use Rattle.pdb_resolve.specs.AsIfEmpty.{if_read}
-use Rattle.pdb_resolve.specs.AcrossModules.{exported_id, global_id, is_imported, reference_in}
+use Rattle.pdb_resolve.specs.AsIfEmpty.{if_found, if_read, read_or}
+use Rattle.pdb_resolve.specs.FileParts.{module_read}
+use Rattle.pdb_resolve.specs.AcrossModules.{exported_id, exports_where, global_id, is_imported, reference_in}
 use Rattle.pdb_resolve.specs.ImportTables.{ImportTable, exports_for, id_among, ids_by, imports_or_none}
 
 module _ (file : List ℕ) (strings : Option (List ℕ)) (ms : List ModuleEntry) where
@@ -72,3 +74,8 @@ module _ (file : List ℕ) (strings : Option (List ℕ)) (ms : List ModuleEntry)
       (ap (λ (l : List (List (ℕ × ℕ))). id_among (get_or l (n / 2 ^ 20 % 2 ^ 11) []) (if_read (reference_of n t.imports))) are
       ∙ ap (λ (x : List ImportedModule). id_among (get_or (map exports (take 2048 x)) (n / 2 ^ 20 % 2 ^ 11) []) (if_read (reference_of n x))) is
       ∙ of_imports n (imports_of m)))
+
+-- the exports of a listed module whose stream is there
+pub exports_known : (file : List ℕ) (o : Option ModuleEntry) (m : ModuleEntry) (info : ModuleBytes) (none : List (ℕ × ℕ)) (r : Result (List (ℕ × ℕ)) Error) → o ≡ Some m
+    → if_found (module_info_in file m) ≡ Some info → none ≡ [] → IfOk r (λ x. x ≡ read_or (exports_of info) none) → IfOk r (λ x. x ≡ exports_where (module_read file o))
+exports_known file o m info none r listed found empty h = rw (listed, found) (rw empty at h)

@@ -1,4 +1,4 @@
-pub mod ScopeKinds
+pub mod VariableKinds
 pub mod Coverings
 pub mod Orders
 pub mod Halves
@@ -19,13 +19,16 @@ pub mod FirstSections
 pub mod ContributionPieces
 pub mod OtherNames
 pub mod PublicKinds
+pub mod CodeRecords
 pub mod CodeKinds
 pub mod Nearest
 pub mod PublicRows
+pub mod PublicPlaces
 pub mod PublicCount
 pub mod PublicSymbols
 pub mod FirstContributions
 pub mod Sites
+pub mod ProcedureNames
 pub mod BackAgain
 pub mod ImportLaws
 pub mod OpenScopeStack
@@ -35,3 +38,4 @@ pub mod RecordsBehind
 pub mod WalkSteps
 pub mod VariablesFound
 pub mod CallNumbers
+mod WholeParts

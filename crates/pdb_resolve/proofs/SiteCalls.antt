@@ -144,7 +144,7 @@ pub function_listed : (q : PdbInternalSectionOffset) (m : ModuleBytes) (i : ℕ)
 function_listed q m i e = function_by q m i (option_map index_of (procedure_at q m)) refl e
 
 -- the symbol of an index is the first of that index, as indices rise
-find_index : (i : ℕ) (before : List Entry) (s : Entry) (after : List Entry) → s.index ≡ i → Rises (before ++ s ∷ after) → find (λ s. s.index == i) (before ++ s ∷ after) ≡ Some s
+pub find_index : (i : ℕ) (before : List Entry) (s : Entry) (after : List Entry) → s.index ≡ i → Rises (before ++ s ∷ after) → find (λ s. s.index == i) (before ++ s ∷ after) ≡ Some s
 find_index i [] s after e r = ap (λ (b : Bool). cond b (Some s) (find (λ s. s.index == i) after)) (eq-eqb s.index i e)
 find_index i (x ∷ before) s after e r =
     let lower = above_there before r.0 in

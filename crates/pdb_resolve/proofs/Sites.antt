@@ -1,12 +1,14 @@
 -- A site's record says the function and the annotations that stand in it.
-use Rattle.std.proofs.Common.{◌≡◌, ◌≤◌, ℕ, Bool, true, false, List, length, refl, ap, ◌∙◌, arith, leb}
-use Rattle.pdb.specs.Fields.{number_at}
+use Rattle.std.proofs.Common.{◌≡◌, ◌≤◌, ℕ, Bool, true, false, cond, List, length, drop, None, refl, ap, ◌∙◌, arith, leb}
+use Rattle.pdb.specs.Fields.{number, number_at}
 use Rattle.pdb.specs.Forms.{kind_at, record_at, fields_at}
+use Rattle.pdb.specs.SymbolList.{Entry}
 use Rattle.pdb_base.specs.Layouts.{together_at}
 use Rattle.pdb_symbols.specs.Kinds.{row}
 use Rattle.pdb_symbols.specs.FormTable.{read_of}
-use Rattle.pdb_resolve.specs.ModuleCode.{role}
-use Rattle.pdb_resolve.specs.Kept.{site_role}
+use Rattle.pdb_resolve.specs.ModuleCode.{other_of, other_of_role, procedure_of, procedure_of_role, role}
+use Rattle.pdb_resolve.specs.ModuleCode.Role.{at_site, passed}
+use Rattle.pdb_resolve.specs.Kept.{site_if, site_of, site_role}
 
 less : (m n l : ℕ) → m ≤ n → leb m l ≡ false → leb n l ≡ false
 less m n l h e = grind arith
@@ -33,3 +35,19 @@ counted_by b true true true true p q r w = rw (p, q, r, w) refl
 
 pub counted_site_read : (b : List ℕ) → kind_at b ≡ 0x115d → role (record_at b) ≡ site_role 18 b
 counted_site_read b e = ap (λ (k : ℕ). role (fields_at (row k) k b)) e ∙ counted_by b _ _ _ _ refl refl refl refl
+
+-- ---- a site is no other code
+
+module _ (s : Entry) (from : ℕ) (is : role (record_at s.bytes) ≡ site_role from s.bytes) where
+  none_by : (t : Bool) → (procedure_of_role s.index (cond t (at_site (number s.bytes 10 4) (drop from s.bytes)) passed) ≡ None) × (other_of_role s.index (cond t (at_site (number s.bytes 10 4) (drop from s.bytes)) passed) ≡ None)
+  none_by true = (refl, refl)
+  none_by false = (refl, refl)
+
+  pub site_no_procedure : procedure_of s ≡ None
+  site_no_procedure = ap (procedure_of_role s.index) is ∙ (none_by (leb from (length s.bytes))).0
+
+  pub site_no_other : other_of s ≡ None
+  site_no_other = ap (other_of_role s.index) is ∙ (none_by (leb from (length s.bytes))).1
+
+  pub site_is : site_of s ≡ site_if s (site_role from s.bytes)
+  site_is = ap (site_if s) is

@@ -1,5 +1,5 @@
 -- Which id the whole file knows by an id in a module: a module may name an id of another module.
-use Rattle.std.specs.Prelude.{ℕ, ◌^◌, nat_le, if◌then◌else◌, Bool, List, [], Option, Some, None, Result, Ok, Err, find}
+use Rattle.std.specs.Prelude.{ℕ, ◌^◌, nat_le, if◌then◌else◌, Bool, List, [], Option, Some, None, Result, find}
 use Rattle.std.specs.Str.{bytes_eq}
 use Rattle.pdb.specs.Error.{Error}
 use Rattle.pdb.specs.Refusal.{◌>>=◌}
@@ -7,7 +7,7 @@ use Rattle.pdb.specs.Modules.{ModuleEntry}
 use Rattle.pdb.specs.ModuleStream.{ModuleBytes, imports_of, exports_of}
 use Rattle.pdb.specs.CrossModule.{Reference, reference_of, global_of}
 use Rattle.pdb.specs.Answers.{string_table_in}
-use Rattle.pdb_resolve.specs.AsIfEmpty.{if_read}
+use Rattle.pdb_resolve.specs.AsIfEmpty.{if_read, read_or}
 use Rattle.pdb.specs.Items.{ItemEntry}
 use Rattle.pdb.specs.Qualified.{Qualified}
 use Rattle.pdb_resolve.specs.Frames.{named_id, string_in}
@@ -26,8 +26,7 @@ abbrev pub module_named : List ModuleEntry → List ℕ → Option ModuleEntry
 module_named ms name = find (λ m. bytes_eq m.module_name name) ms
 
 abbrev pub pairs_or_none : Result (List (ℕ × ℕ)) Error → List (ℕ × ℕ)
-pairs_or_none (Ok pairs) = pairs
-pairs_or_none (Err e) = []
+pairs_or_none pairs = read_or pairs []
 
 -- the exports of a module; none where its stream isn't there
 abbrev pub exports_where : Option ModuleBytes → List (ℕ × ℕ)

@@ -14,6 +14,11 @@ abbrev pub if_read : {A : Type 0} → Result A Error → Option A
 if_read (Ok x) = Some x
 if_read (Err e) = None
 
+-- the same, and else another one
+abbrev pub read_or : {A : Type 0} → Result A Error → A → A
+read_or (Ok x) other = x
+read_or (Err e) other = other
+
 -- what was found, where it wasn't refused
 abbrev pub if_found : {A : Type 0} → Result (Option A) Error → Option A
 if_found (Ok x) = x

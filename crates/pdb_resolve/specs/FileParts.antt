@@ -1,5 +1,5 @@
 -- The parts of a file, each as if it weren't there where it is refused.
-use Rattle.std.specs.Prelude.{ℕ, List, [], Option, Some, None, Result, Ok, Err}
+use Rattle.std.specs.Prelude.{ℕ, List, [], Option, Some, None, Result}
 use Rattle.std.specs.List.{slice_get}
 use Rattle.pdb.specs.Error.{Error}
 use Rattle.pdb.specs.Container.{stream_of}
@@ -7,7 +7,7 @@ use Rattle.pdb.specs.Items.{ItemEntry, known_items_in}
 use Rattle.pdb.specs.Modules.{ModuleEntry, modules_in}
 use Rattle.pdb.specs.ModuleStream.{ModuleBytes}
 use Rattle.pdb.specs.Answers.{debug_information_in, module_info_in, string_table_in}
-use Rattle.pdb_resolve.specs.AsIfEmpty.{items_of, if_read, if_found}
+use Rattle.pdb_resolve.specs.AsIfEmpty.{items_of, if_read, if_found, read_or}
 use Rattle.pdb_resolve.specs.Frames.{Names}
 
 -- the list of modules, where the DBI stream is there
@@ -27,8 +27,7 @@ unfoldable pub module_numbered : List ℕ → ℕ → Option ModuleBytes
 module_numbered file k = module_read file (slice_get (modules_listed file) k)
 
 abbrev pub items_or_none : Result (List ItemEntry) Error → List ItemEntry
-items_or_none (Ok items) = items
-items_or_none (Err e) = []
+items_or_none items = read_or items []
 
 -- the items of a stream of types or ids, where it is there
 abbrev pub items_where : Option (List ℕ) → List ItemEntry

@@ -1,15 +1,14 @@
 -- The ids of other modules, by the imports of a module and by what each of the modules exports from which it imports.
-use Rattle.std.specs.Prelude.{ℕ, ◌/◌, ◌%◌, ◌^◌, if◌then◌else◌, List, [], get_or, Option, Some, None, Result, Ok, Err}
+use Rattle.std.specs.Prelude.{ℕ, ◌/◌, ◌%◌, ◌^◌, if◌then◌else◌, List, [], get_or, Option, Some, None, Result}
 use Rattle.pdb.specs.Error.{Error}
 use Rattle.pdb.specs.Modules.{ModuleEntry}
 use Rattle.pdb.specs.CrossModule.{ImportedModule, Reference, reference_of, global_of}
-use Rattle.pdb_resolve.specs.AsIfEmpty.{if_read}
+use Rattle.pdb_resolve.specs.AsIfEmpty.{if_read, read_or}
 use Rattle.pdb_resolve.specs.AcrossModules.{exports_named, is_imported}
 use Rattle.pdb_resolve.specs.Frames.{string_in}
 
 abbrev pub imports_or_none : Result (List ImportedModule) Error → List ImportedModule
-imports_or_none (Ok imports) = imports
-imports_or_none (Err e) = []
+imports_or_none imports = read_or imports []
 
 -- what a module exports from which is imported
 abbrev pub exports_for : List ℕ → Option (List ℕ) → List ModuleEntry → ImportedModule → List (ℕ × ℕ)

@@ -7,8 +7,11 @@ pub mod Leading
 pub mod Machines
 pub mod Frames
 pub mod FileParts
+pub mod FromSecond
 pub mod AcrossModules
 pub mod ImportTables
+pub mod CodeRecords
+pub mod SaidNames
 pub mod Kept
 pub mod Listed
 pub mod KeptFrames
@@ -18,9 +21,11 @@ pub mod PlaceAddresses
 pub mod Behind
 pub mod AskedStream
 pub mod ModulePlaces
+pub mod Whole
 pub mod ModuleTable
 pub mod PublicNames
 pub mod PublicTable
+pub mod PublicPlaces
 pub mod Resolved
 pub mod KeptParts
 pub mod KeptNames

@@ -1,5 +1,5 @@
 -- What stands at a place of a module's code: the function, the line, the inlined calls.
-use Rattle.std.specs.Prelude.{◌≡◌, ◌⊎◌, All, ℕ, Bool, true, false, ◌+◌, ◌&&◌, ◌==◌, ◌-◌, nat_le, nat_lt, if◌then◌else◌, List, [], ◌∷◌, Option, Some, None, Result, Ok, find, filter_map}
+use Rattle.std.specs.Prelude.{◌≡◌, ◌⊎◌, All, ℕ, Bool, true, ◌&&◌, ◌==◌, ◌-◌, nat_lt, if◌then◌else◌, List, [], ◌∷◌, Option, Some, None, Result, Ok, find, filter_map}
 use Rattle.std.specs.Option.{is_some, option_map, option_or, unwrap_or}
 use Rattle.pdb.specs.Error.{Error}
 use Rattle.pdb.specs.PdbInternalSectionOffset.{PdbInternalSectionOffset}
@@ -10,6 +10,7 @@ use Rattle.pdb.specs.SymbolList.{Entry}
 use Rattle.pdb.specs.ModuleStream.{ModuleBytes, symbols_of, line_program_of, inlinees_of}
 use Rattle.pdb.specs.Inlinees.{InlineeEntry, inlinee_with}
 use Rattle.pdb.specs.Inlined.{lines_of_site}
+use Rattle.pdb.specs.LineCover.{bytes_cover, line_covers}
 use Rattle.pdb.specs.LineInfo.{LineInfo}
 use Rattle.pdb.specs.LineProgram.{ProgramOf}
 use Rattle.pdb.specs.LineOrder.{lines_for}
@@ -32,10 +33,6 @@ unfoldable pub program_in : ModuleBytes → Option ProgramOf
 program_in m = if_read (line_program_of m)
 
 -- ---- pieces of code
-
--- so many bytes from a place on cover the place q
-abbrev pub covers_place : PdbInternalSectionOffset → PdbInternalSectionOffset → ℕ → Bool
-covers_place q p n = (p.section == q.section) && (nat_le p.offset q.offset && nat_lt q.offset (p.offset + n))
 
 -- a piece of code: its symbol's index, where it begins, how many bytes it has, and the index of the symbol that ends its scope
 pub record Code : Type 0 where
@@ -98,7 +95,7 @@ trampoline_of s = if is_trampoline (kind_at s.bytes) then trampoline_said s.inde
 -- ---- the function at a place
 
 abbrev pub code_covers : PdbInternalSectionOffset → Code → Bool
-code_covers q c = covers_place q c.place c.length
+code_covers q c = bytes_cover q c.place c.length
 
 -- the procedures of a module; its thunks and separated code; its managed procedures; its trampolines
 abbrev pub procedures_in : ModuleBytes → List Code
@@ -135,7 +132,7 @@ function_at q m = option_or (option_map index_of (procedure_at q m)) (option_or 
 
 -- the place is where the piece begins
 abbrev pub begins_at : PdbInternalSectionOffset → Code → Bool
-begins_at q c = covers_place q c.place 1
+begins_at q c = bytes_cover q c.place 1
 
 -- a procedure begins at the place
 abbrev pub begins : PdbInternalSectionOffset → List Code → Bool
@@ -154,13 +151,6 @@ abbrev pub AreCodesApart : List Code → Type 0
 AreCodesApart cs = All (λ c. All (λ d. SameCode c d ⊎ ApartCode c d) cs) cs
 
 -- ---- the line at a place
-
-abbrev pub length_covers : PdbInternalSectionOffset → PdbInternalSectionOffset → Option ℕ → Bool
-length_covers q p None = false
-length_covers q p (Some n) = covers_place q p n
-
-abbrev pub line_covers : PdbInternalSectionOffset → LineInfo → Bool
-line_covers q r = length_covers q r.offset r.length
 
 -- the first record that has a length and covers the place
 abbrev pub first_line : PdbInternalSectionOffset → List LineInfo → Option LineInfo

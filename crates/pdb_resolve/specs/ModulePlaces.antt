@@ -5,7 +5,7 @@ use Rattle.pdb.specs.PdbInternalSectionOffset.{PdbInternalSectionOffset}
 use Rattle.pdb.specs.DBISectionContribution.{DBISectionContribution}
 use Rattle.pdb.specs.Contributions.{contributions_in}
 use Rattle.pdb_resolve.specs.AsIfEmpty.{items_of}
-use Rattle.pdb_resolve.specs.ModuleCode.{covers_place}
+use Rattle.pdb.specs.LineCover.{bytes_cover}
 
 -- the contributions of a DBI stream: none without one or where they are refused, and those before a fault
 unfoldable pub contributions_known : Option (List ℕ) → List DBISectionContribution
@@ -30,7 +30,7 @@ pub record IsFirstContribution (q : PdbInternalSectionOffset) (cs : List DBISect
 -- ---- computed
 
 abbrev pub contributes : PdbInternalSectionOffset → DBISectionContribution → Bool
-contributes q c = covers_place q c.offset c.size
+contributes q c = bytes_cover q c.offset c.size
 
 abbrev pub module_of : DBISectionContribution → ℕ
 module_of c = c.«module»

@@ -1,10 +1,11 @@
 -- Words of private functions: the contributions as they are kept.
-use Rattle.std.specs.Prelude.{◌≡◌, ℕ, ◌+◌, List, [], ◌∷◌, map, Option, Some, None}
+use Rattle.std.specs.Prelude.{◌≡◌, ℕ, ◌+◌, Bool, true, List, [], ◌∷◌, map, Option, Some, None}
 use Rattle.pdb.specs.DBISectionContribution.{DBISectionContribution}
 use Rattle.pdb_resolve.specs.declared.range.CodeRange.{CodeRange}
+use Rattle.pdb_resolve.specs.declared.module_places.LastFound.{LastFound}
 use Rattle.pdb_resolve.specs.declared.module_places.ModuleTable.{ModuleTable}
 use Rattle.pdb_resolve.specs.ModuleCode.{Code}
-use Rattle.pdb_resolve.specs.ModulePlaces.{module_of}
+use Rattle.pdb_resolve.specs.ModulePlaces.{module_number_at, module_of}
 use Rattle.pdb_resolve.specs.Kept.{AreRangesOf, IsKeptOf}
 
 -- contribution number k as a piece of code, of which no scope is known
@@ -24,3 +25,8 @@ pub record IsTableOf (cs : List DBISectionContribution) (rs : List CodeRange) (m
 abbrev pub IsTableIfMade : List DBISectionContribution → Option ModuleTable → Type 0
 IsTableIfMade cs None = Unit {0}
 IsTableIfMade cs (Some t) = IsTableOf cs t.ranges t.modules.items × AreRangesOf (pieces_from 0 cs) t.listed.items
+
+-- what the last question found, if there was one
+abbrev pub IsLastFound : Option (List ℕ) → Bool → Option LastFound → Type 0
+IsLastFound stream asked None = Unit {0}
+IsLastFound stream asked (Some last) = (last.«module» ≡ module_number_at last.place stream) × (asked ≡ true)

@@ -18,7 +18,8 @@ use Rattle.pdb_records.specs.RecordReading.{further_at}
 use Rattle.pdb_records.specs.RecordSays.{Says}
 use Rattle.pdb_records.specs.RecordSays.Says.{With}
 use Rattle.pdb_resolve.specs.Kept.{site_of}
-use Rattle.pdb_resolve.specs.ModuleCode.{Call, Code, call_in, covers_place, function_at, inlinees_in, procedure_at, symbols_in}
+use Rattle.pdb.specs.LineCover.{bytes_cover}
+use Rattle.pdb_resolve.specs.ModuleCode.{Call, Code, call_in, function_at, inlinees_in, procedure_at, symbols_in}
 use Rattle.pdb_resolve.specs.VariableRecords.{Declares, Place, bases_at, declared_at, held_place, is_in_one, is_separated, key_of, no_bases, told_key}
 use Rattle.pdb_resolve.specs.declared.frame_bases.Bases.{Bases}
 use Rattle.pdb_resolve.specs.declared.variable_records.VariableKind.{VariableKind}
@@ -135,8 +136,8 @@ module _ (q : PdbInternalSectionOffset) (listed : ℕ → Option InlineeEntry) (
   has_call s = is_some (call_of_site s)
 
   abbrev pub enters_by : Entry → Result Data Error → Bool
-  enters_by s (Ok (Block parent end len offset name)) = covers_place q offset len
-  enters_by s (Ok (SeparatedCode c)) = covers_place q c.offset c.len
+  enters_by s (Ok (Block parent end len offset name)) = bytes_cover q offset len
+  enters_by s (Ok (SeparatedCode c)) = bytes_cover q c.offset c.len
   enters_by s (Ok (InlineSite c)) = has_call s
   enters_by s (Ok d) = false
   enters_by s (Err e) = enters_further (further_at s.bytes)

@@ -13,6 +13,7 @@ ghost use Rattle.pdb_resolve.specs.Frames.{string_in};
 ghost use Rattle.pdb_resolve.specs.FileParts.{module_read, modules_where};
 ghost use Rattle.pdb_resolve.specs.AcrossModules.{exported_id, exports_named, exports_where, global_id, module_named, pairs_or_none, reference_in};
 
+use crate::as_if_empty::{if_read, read_or};
 use crate::modules::module_info;
 use pdb::{
     CrossModuleExports, CrossModuleRef, DebugInformation, Error, FallibleIterator, IdIndex, Local,
@@ -30,10 +31,9 @@ fn reference_in(
     ensures reference { IfOk result (λ r. option_map (λ x. record { name = x.0.0.0; local = x.1.0.0 }) r ≡ reference_in info.now id.0) }
     ensures refused { IfErr result (λ e. e ≡ Error.OutOfMemory) }
 {
-    match info.imports(alloc) {
-        Ok(imports) => Ok(imports.resolve_import(id).ok()),
-        Err(Error::OutOfMemory) => Err(Error::OutOfMemory),
-        Err(_) => Ok(None),
+    match if_read(info.imports(alloc))? {
+        Some(imports) => Ok(imports.resolve_import(id).ok()),
+        None => Ok(None),
     }
 }
 
@@ -77,19 +77,8 @@ fn module_named<'a>(
     }
 }
 
-/// What was read of exports; none where they have an error. Out of memory is passed on.
-fn or_empty(alloc: Global, exports: Result<CrossModuleExports>) -> Result<CrossModuleExports>
-    ensures exports { (pairs : Result (List (ℕ × ℕ)) Error) → Gives (λ x. x) ⊥ exports pairs → IfOk result (λ x. x ≡ pairs_or_none pairs) }
-    ensures refused { IfErr result (λ e. e ≡ Error.OutOfMemory) }
-{
-    match exports {
-        Ok(exports) => Ok(exports),
-        Err(Error::OutOfMemory) => Err(Error::OutOfMemory),
-        Err(_) => Ok(CrossModuleExports::empty(alloc)),
-    }
-}
-
 /// The exports of a listed module; none where its stream isn't there.
+#[tactic(auto, using(crate::proofs::Asking::passed, crate::proofs::Asking::told))]
 fn exports_of<'s, S: Source<'s>>(
     alloc: Global,
     pdb: &mut PDB<'s, S>,
@@ -103,7 +92,7 @@ fn exports_of<'s, S: Source<'s>>(
         return Ok(CrossModuleExports::empty(alloc));
     };
     match module_info(pdb, &module)? {
-        Some(info) => or_empty(alloc, info.exports(alloc)),
+        Some(info) => read_or(info.exports(alloc), CrossModuleExports::empty(alloc)),
         None => Ok(CrossModuleExports::empty(alloc)),
     }
 }

@@ -57,7 +57,7 @@ pub(crate) fn has_line<'a>(
     site_line(known, place, parent, site).is_some()
 }
 
-/// How many calls there is room for once the first comes: few procedures have more at one place.
+/// How many calls there is capacity for once the first comes: few procedures have more at one place.
 const USUAL_CALLS: usize = 16;
 
 /// One more call.

@@ -41,7 +41,7 @@ impl Bases {
     }
 }
 
-/// The registers that a frame's record tells; none for other records.
+/// The registers that a frame's record says; none for other records.
 fn bases_at(symbol: &Symbol<'_>) -> Option<Bases>
     ensures { result ≡ bases_at (symbol_of symbol.now) }
 {
@@ -55,8 +55,8 @@ fn bases_at(symbol: &Symbol<'_>) -> Option<Bases>
     }
 }
 
-/// The registers of the first frame's record that stands directly in a scope, of which an iterator has left the symbols.
-/// It has then gone on.
+/// The registers of the first frame's record that stands directly in a scope, of which an iterator has left the
+/// symbols. It has then gone on.
 fn bases_ahead(symbols: &mut SymbolIter<'_>) -> Bases
     ensures is { result ≡ bases_ahead 0 (symbols_left symbols.old).items }
     ensures bytes { symbols_bytes symbols.new ≡ symbols_bytes symbols.old }
@@ -92,8 +92,8 @@ pub(crate) fn bases_of(mut symbols: SymbolIter<'_>) -> Bases
     bases_ahead(&mut symbols)
 }
 
-/// In how many scopes separated code may stand whose frame is looked for: else a file of separated code in separated code
-/// takes time by the square of its length.
+/// In how many scopes separated code may stand whose frame is looked for: else a file of separated code in separated
+/// code takes time by the square of its length.
 const DEPTH: usize = 8;
 
 /// The registers in the scope that a symbol starts in so many others. An iterator stands behind the symbol, and stands

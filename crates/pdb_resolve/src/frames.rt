@@ -26,16 +26,17 @@ use std::alloc::Global;
 /// A function whose code stands at a place, and the line there. Names are bytes as the file has them.
 #[derive(Drop)]
 pub struct Frame<'a> {
-    /// The function's name; none where the file tells none.
+    /// The function's name; none where the file says none.
     pub name: Option<FunctionName<'a>>,
     /// How many bytes the place is behind the record that has the name: of the function itself, but for separated code,
-    /// of a jump that the linker made, or of the public symbol. None of an inlined call, and where nothing has the name.
+    /// of a jump that the linker made, or of the public symbol. None of an inlined call, and where nothing has the
+    /// name.
     pub displacement: Option<u32>,
-    /// The name of the source file; none where no line is told, or the name isn't there.
+    /// The name of the source file; none where no line is known, or the name isn't there.
     pub file: Option<RawString<'a>>,
-    /// The line, counted from 1; 0 where none is told.
+    /// The line, counted from 1; 0 where none is known.
     pub line: u32,
-    /// The column, counted from 1; 0 where none is told.
+    /// The column, counted from 1; 0 where none is known.
     pub column: u32,
 }
 

@@ -15,6 +15,7 @@ ghost use Rattle.pdb_resolve.specs.AcrossModules.{global_id_in, is_imported, nam
 ghost use Rattle.pdb_resolve.specs.ImportTables.{exports_for, ids_by, imports_or_none};
 
 use crate::across_modules::{exports_named, name_of};
+use crate::as_if_empty::{if_read, read_or};
 use pdb::{
     CrossModuleExports, CrossModuleImports, DebugInformation, Error, IdIndex, ItemFinder,
     ModuleInfo, PDB, QualifiedName, Result, Source, StringTable, qualified_name,
@@ -43,47 +44,24 @@ impl<'a> Model for GlobalIds<'a> {
     ghost view = { λ g. record { imports = g.imports; exports = g.exports.items } };
 }
 
-/// What was read of imports; none where they have an error. Out of memory is passed on.
-fn or_empty<'a>(
-    alloc: Global,
-    imports: Result<CrossModuleImports<'a>>,
-) -> Result<CrossModuleImports<'a>>
-    ensures imports { (modules : Result (List ImportedModule) Error) → Gives (λ x. x) ⊥ imports.entry modules → IfOk result (λ x. x ≡ imports_or_none modules) }
-    ensures refused { IfErr result (λ e. e ≡ Error.OutOfMemory) }
-{
-    match imports {
-        Ok(imports) => Ok(imports),
-        Err(Error::OutOfMemory) => Err(Error::OutOfMemory),
-        Err(_) => Ok(CrossModuleImports::empty(alloc)),
-    }
-}
-
 /// The string table; none where it has an error.
+#[tactic(auto, using(crate::proofs::Asking::passed, crate::proofs::Asking::told))]
 fn strings_of<'s, S: Source<'s>>(pdb: &mut PDB<'s, S>) -> Result<Option<StringTable<'s>>>
     ensures continues { Continues pdb.old pdb.new }
     ensures is { IfOk result (λ o. o ≡ if_read (string_table_in pdb.old.file)) }
     ensures refused { IfErr result (λ e. OnlyFails (MayFail pdb.old pdb.new) e) }
 {
-    match pdb.string_table() {
-        Ok(strings) => Ok(Some(strings)),
-        Err(Error::OutOfMemory) => Err(Error::OutOfMemory),
-        Err(Error::IoError) => Err(Error::IoError),
-        Err(_) => Ok(None),
-    }
+    if_read(pdb.string_table())
 }
 
 /// The DBI stream; none where it has an error.
+#[tactic(auto, using(crate::proofs::Asking::passed, crate::proofs::Asking::told))]
 fn information_of<'s, S: Source<'s>>(pdb: &mut PDB<'s, S>) -> Result<Option<DebugInformation<'s>>>
     ensures continues { Continues pdb.old pdb.new }
     ensures is { IfOk result (λ o. o ≡ if_read (debug_information_in pdb.old.file)) }
     ensures refused { IfErr result (λ e. OnlyFails (MayFail pdb.old pdb.new) e) }
 {
-    match pdb.debug_information() {
-        Ok(information) => Ok(Some(information)),
-        Err(Error::OutOfMemory) => Err(Error::OutOfMemory),
-        Err(Error::IoError) => Err(Error::IoError),
-        Err(_) => Ok(None),
-    }
+    if_read(pdb.debug_information())
 }
 
 /// What these modules export, from which is imported.
@@ -150,7 +128,7 @@ impl<'a> GlobalIds<'a> {
         ensures ids { IfOk result (λ g. ids_by g ≡ global_id_in pdb.old.file info.entry.now) }
         ensures refused { IfErr result (λ e. OnlyFails (MayFail pdb.old pdb.new) e) }
     {
-        let imports = or_empty(alloc, info.imports(alloc))?;
+        let imports = read_or(info.imports(alloc), CrossModuleImports::empty(alloc))?;
         let exports = exports_for(alloc, pdb, &imports)?;
         Ok(GlobalIds { imports, exports })
     }
@@ -212,7 +190,8 @@ impl<'x, 'a> CallNames<'x, 'a> {
         CallNames { ids, types, global }
     }
 
-    /// The name of the function of a call, by the id that the call has; none where the function or its name isn't there.
+    /// The name of the function of a call, by the id that the call has; none where the function or its name isn't
+    /// there.
     #[tactic(auto, unfolding(crate::specs::AcrossModules::names_by))]
     pub fn find(&self, id: IdIndex) -> Option<QualifiedName<'a>>
         ensures { option_map shown_qualified result ≡ names_of_calls self.now id.0 }

@@ -17,6 +17,7 @@ ghost use Rattle.pdb_resolve.specs.PublicTable.{shown_found};
 ghost use Rattle.pdb_resolve.specs.KeptFrames.{IsNamed, IsNameOf, shown_frame, shown_function_name};
 ghost use Rattle.pdb_resolve.specs.Listed.{shown_procedure};
 ghost use Rattle.pdb_resolve.specs.VariableViews.{shown_variable};
+ghost use Rattle.pdb_resolve.specs.Whole.{is_whole_at};
 ghost use Rattle.pdb_resolve.specs.KeptParts.{code_kept, code_where, codes_of};
 
 use crate::frames::{Frame, frame_without, push_frame};
@@ -59,7 +60,7 @@ fn bare_frames<'a>(
 impl<'a, 's> KeptFile<'a, 's> {
     ghost use Rattle.pdb_resolve.specs.KeptNames.{IsFileKept};
 
-    /// Reads the module from which the bytes at a place come, unless it was read, and tells its number.
+    /// Reads the module from which the bytes at a place come, unless it was read, and returns its number.
     fn module_at<S: Source<'s>>(
         &mut self,
         alloc: Global,
@@ -222,7 +223,8 @@ impl<'a, 's> KeptFile<'a, 's> {
         }
     }
 
-    /// The name of what begins at a place to which a linker's jump leads. The module there is read; what was read stays.
+    /// The name of what begins at a place to which a linker's jump leads. The module there is read; what was read
+    /// stays.
     fn target_name<S: Source<'s>>(
         &mut self,
         alloc: Global,
@@ -369,6 +371,25 @@ impl<'a, 's> KeptFile<'a, 's> {
         match self.modules.code(number) {
             Some(code) => Ok(code.variables_at(alloc, place)?),
             None => Ok(Vec::new(alloc)),
+        }
+    }
+
+    /// Whether what is read of the module from which the bytes at a place come has no error.
+    pub(crate) fn is_whole_at<S: Source<'s>>(
+        &mut self,
+        alloc: Global,
+        pdb: &mut PDB<'s, S>,
+        place: PdbInternalSectionOffset,
+    ) -> Result<bool>
+        requires { IsFileKept pdb.old.file self.old }
+        ensures continues { Continues pdb.old pdb.new }
+        ensures kept { IsFileKept pdb.old.file self.new }
+        ensures whole { IfOk result (λ b. b ≡ is_whole_at pdb.old.file place) }
+        ensures refused { IfErr result (λ e. OnlyFails (MayFail pdb.old pdb.new) e) }
+    {
+        match self.module_at(alloc, pdb, place)? {
+            Some(number) => Ok(self.modules.is_whole(number)),
+            None => Ok(true),
         }
     }
 

@@ -11,8 +11,8 @@ use pdb::{Error, PdbInternalSectionOffset, Result, TrampolineType};
 use std::alloc::Global;
 use std::collections::BTreeMap;
 
-/// A jump that a linker made: what for, where its code begins, how far that is behind the first of its section, and where
-/// it leads.
+/// A jump that a linker made: what for, where its code begins, how far that is behind the first of its section, and
+/// where it leads.
 #[derive(Clone, Copy)]
 pub(crate) struct Leading {
     pub(crate) kind: TrampolineType,

@@ -3,9 +3,12 @@
 
 mod across_modules;
 mod address_places;
+mod as_if_empty;
 mod calls;
+mod code_records;
 mod frame_bases;
 mod frames;
+mod from_second;
 mod function_names;
 mod global_ids;
 mod global_names;

@@ -27,7 +27,7 @@ pub enum Storage {
     /// In memory, so many bytes behind the value of the base pointer.
     BasePointerRelative(i32),
     /// In memory, so many bytes behind the value of the register from which a frame counts. Its number is what
-    /// `pdb_records::Machine::frame_register` takes; 0 where the function tells none.
+    /// `pdb_records::Machine::frame_register` takes; 0 where the function says none.
     FrameRelative(u8, i32),
     /// What a program of this number computes.
     Program(u32),

@@ -7,17 +7,20 @@ ghost use Rattle.pdb.specs.FileViews.{shown_file};
 ghost use Rattle.pdb.specs.Text.{name_bytes};
 ghost use Rattle.pdb_resolve.specs.Frames.{file_in};
 ghost use Rattle.pdb_resolve.specs.Kept.{shown_call, shown_leading, IsListed};
+ghost use Rattle.pdb_resolve.specs.SaidNames.{name_said};
 ghost use Rattle.pdb_resolve.specs.KeptFrames.{shown_naming};
 ghost use Rattle.pdb_resolve.specs.Listed.{shown_procedure};
 ghost use Rattle.pdb_resolve.specs.Variables.{variables_at};
 ghost use Rattle.pdb_resolve.specs.VariableViews.{shown_variable};
+ghost use Rattle.pdb_resolve.specs.Whole.{is_whole};
 ghost use Rattle.pdb_resolve.specs.ModuleCode.{AreCodesApart, begins, begins_at, begun_name, function_at, further_in, index_of, inlined_at, leading_at, least_in, line_at, managed_at, managed_in, managed_named, name_at, named_by, named_in, other_at, others_in, procedure_at, procedure_name, procedure_name_at, procedures_in, program_in, says_at, symbols_in, trampolines_in};
 
 use crate::calls::{InlinedCall, calls_of, count_upto};
 use crate::function_names::{NamedCode, named_code};
 use crate::leading::{Leading, least_of};
 use crate::module_parts::{
-    first_managed, first_said, read_known, read_program, read_rows, starts_of,
+    KnownInlinees, are_all, first_managed, first_name, first_said, read_inlinees, read_program,
+    read_rows, starts_of,
 };
 use crate::open_scopes::CodePlace;
 use crate::procedures::{ListedProcedure, procedure_with, ranges_of};
@@ -49,6 +52,8 @@ pub struct ModuleCode<'a> {
     sites: Vec<KeptSite<'a>>,
     program: Option<LinePlaces<'a>>,
     known: InlineeFinder<'a>,
+    // Whether what is read of the module has no error.
+    whole: bool,
 }
 
 impl<'a> Model for ModuleCode<'a> {
@@ -59,16 +64,17 @@ impl<'a> Model for ModuleCode<'a> {
     ghost use Rattle.std.specs.Prelude.{map};
     ghost use Rattle.pdb_resolve.specs.Kept.{AreLeastIn, AreStartsIfMade, IsKeptOf, sites_in};
     ghost use Rattle.pdb_resolve.specs.Listed.{shown_procedure, entry_of, AreBounded};
+    ghost use Rattle.pdb_resolve.specs.Whole.{is_whole};
 
     ghost Value = { ModuleBytes };
 
     ghost view = { λ x. x.info.now };
 
-    ghost invariant = { λ x. IsKeptOf (procedures_in x.info.now) x.procedures × IsKeptOf (others_in x.info.now) x.others × (x.program ≡ program_in x.info.now) × (inlinee_with x.known ≡ inlinee_with (inlinees_in x.info.now)) × (map entry_of x.sites.items ≡ sites_in x.info.now) × (map shown_procedure x.listed.items ≡ procedures_in x.info.now) × AreStartsIfMade (procedures_in x.info.now) x.starts × AreBounded (inlinee_with x.known) x.sites.items × IsKeptOf (managed_in x.info.now) x.managed × IsKeptOf (trampolines_in x.info.now) x.trampolines × AreLeastIn (trampolines_in x.info.now) x.least };
+    ghost invariant = { λ x. IsKeptOf (procedures_in x.info.now) x.procedures × IsKeptOf (others_in x.info.now) x.others × (x.program ≡ program_in x.info.now) × (inlinee_with x.known ≡ inlinee_with (inlinees_in x.info.now)) × (map entry_of x.sites.items ≡ sites_in x.info.now) × (map shown_procedure x.listed.items ≡ procedures_in x.info.now) × AreStartsIfMade (procedures_in x.info.now) x.starts × AreBounded (inlinee_with x.known) x.sites.items × IsKeptOf (managed_in x.info.now) x.managed × IsKeptOf (trampolines_in x.info.now) x.trampolines × AreLeastIn (trampolines_in x.info.now) x.least × (x.whole ≡ is_whole x.info.now) };
 }
 
 impl<'a> ModuleCode<'a> {
-    /// The code of a module, whose symbols are read once. A part that is refused is as if it were empty; want of
+    /// The code of a module, whose symbols are read once. A part that can't be read is as if it were empty; out of
     /// memory is passed on.
     pub fn new(alloc: Global, info: &'a ModuleInfo<'a>) -> Result<Self>
         ensures is { IfOk result (λ code. code ≡ info.entry.now) }
@@ -82,7 +88,11 @@ impl<'a> ModuleCode<'a> {
         let least = least_of(alloc, rows.trampolines.as_slice())?;
         let trampolines = Ranges::new(alloc, rows.trampolines.as_slice())?;
         let program = read_program(alloc, info)?;
-        let known = read_known(alloc, info)?;
+        let KnownInlinees {
+            known,
+            is_whole: are_inlinees_whole,
+        } = read_inlinees(alloc, info)?;
+        let whole = are_all(rows.is_whole, program.is_some(), are_inlinees_whole);
         Ok(ModuleCode {
             info,
             procedures,
@@ -95,12 +105,20 @@ impl<'a> ModuleCode<'a> {
             sites: rows.sites,
             program,
             known,
+            whole,
         })
     }
 
+    /// Whether the symbols, the lines and the inlined functions of the module are there and have no error.
+    pub fn is_whole(&self) -> bool
+        ensures { result ≡ is_whole self.now }
+    {
+        self.whole
+    }
+
     /// The symbol of the function at a place, as `function`, with a step for each look at a piece of code. Where the
-    /// procedures don't overlap, nor the thunks and separated code, nor the managed procedures, there are at most as many
-    /// as the numbers of the three have binary digits; and never more than all three.
+    /// procedures don't overlap, nor the thunks and separated code, nor the managed procedures, there are at most as
+    /// many as the numbers of the three have binary digits; and never more than all three.
     pub fn function_counted(
         &self,
         place: PdbInternalSectionOffset,
@@ -223,8 +241,8 @@ impl<'a> ModuleCode<'a> {
         calls_of(alloc, &self.known, behind, place, procedure)
     }
 
-    /// The variables that are in scope at a place, in the order of their records. They are those of the function there and
-    /// of the calls that are inlined there. It is refused for want of memory alone.
+    /// The variables that are in scope at a place, in the order of their records. They are those of the function there
+    /// and of the calls that are inlined there. It fails with out of memory alone.
     #[tactic(auto, unfolding(crate::specs::Variables::variables_at))]
     pub fn variables_at(
         &self,
@@ -261,7 +279,7 @@ impl<'a> ModuleCode<'a> {
         Some(procedure)
     }
 
-    // The symbol of the first procedure that begins at a place. At the first question a table is made, and kept.
+    // The symbol of the first procedure that begins at a place. At the first call a table is made, and kept.
     fn begun(&mut self, alloc: Global, place: PdbInternalSectionOffset) -> Result<Option<u32>>
         ensures stays { self.new ≡ self.old }
         ensures found { IfOk result (λ o. o ≡ option_map index_of (find (begins_at place) (procedures_in self.old))) }
@@ -277,8 +295,8 @@ impl<'a> ModuleCode<'a> {
         Ok(begun)
     }
 
-    /// Whether a procedure begins at a place. At the first question a table is made, and kept. It is refused for want of
-    /// memory alone, and may then be asked again.
+    /// Whether a procedure begins at a place. At the first call a table is made, and kept. It fails with out of
+    /// memory alone, and may then be called again.
     pub fn begins(&mut self, alloc: Global, place: PdbInternalSectionOffset) -> Result<bool>
         ensures stays { self.new ≡ self.old }
         ensures begins { IfOk result (λ b. b ≡ begins place (procedures_in self.old)) }
@@ -370,6 +388,35 @@ impl<'a> ModuleCode<'a> {
         }
     }
 
+    // The name that the symbol of an index has; none where it can't be read.
+    fn titled(&self, alloc: Global, index: u32) -> Result<Option<RawString<'a>>>
+        requires { IsListed index (symbols_in self.now) }
+        ensures name { IfOk result (λ n. option_map name_bytes n ≡ name_said (says_at self.now index)) }
+        ensures refused { IfErr result (λ e. e ≡ Error.OutOfMemory) }
+    {
+        match self.info.symbols_at(SymbolIndex(index)) {
+            Ok(symbols) => first_name(alloc, symbols),
+            Err(_) => Ok(None),
+        }
+    }
+
+    // What names the procedure at a place, by its name alone: the list says where it begins.
+    fn procedure_naming(
+        &self,
+        alloc: Global,
+        place: PdbInternalSectionOffset,
+        procedure: ListedProcedure,
+    ) -> Result<Option<NamedCode<'a>>>
+        requires { procedure_at place self.now ≡ Some (shown_procedure procedure) }
+        ensures named { IfOk result (λ n. option_map shown_naming n ≡ named_in self.now (function_at place self.now)) }
+        ensures refused { IfErr result (λ e. e ≡ Error.OutOfMemory) }
+    {
+        match self.titled(alloc, procedure.index)? {
+            Some(name) => Ok(Some(named_code(name, procedure.place))),
+            None => Ok(None),
+        }
+    }
+
     // What names the function at a place, where this is the procedure there.
     pub(crate) fn naming_in(
         &self,
@@ -381,6 +428,9 @@ impl<'a> ModuleCode<'a> {
         ensures named { IfOk result (λ n. option_map shown_naming n ≡ named_in self.now (function_at place self.now)) }
         ensures refused { IfErr result (λ e. e ≡ Error.OutOfMemory) }
     {
+        if let Some(procedure) = procedure {
+            return self.procedure_naming(alloc, place, procedure);
+        }
         let Some(index) = self.function_in(place, procedure) else {
             return Ok(None);
         };
@@ -391,7 +441,7 @@ impl<'a> ModuleCode<'a> {
         }
     }
 
-    /// The name of the function at a place; that of separated code is its parent's. It is refused for want of memory
+    /// The name of the function at a place; that of separated code is its parent's. It fails with out of memory
     /// alone.
     pub fn function_name(
         &self,

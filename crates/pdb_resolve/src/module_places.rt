@@ -1,6 +1,6 @@
 //! The modules at places.
 
-ghost use Rattle.std.specs.Prelude.{find, ◌≡◌, ◌+◌, ◌++◌, [], ◌∷◌, ◌≤◌, ◌<◌, ◌^◌, ℕ, true, false, length, map, List, IfOk, IfErr, IsOk, OnOk};
+ghost use Rattle.std.specs.Prelude.{find, ◌≡◌, ◌+◌, ◌++◌, [], ◌∷◌, ◌≤◌, ◌<◌, ◌^◌, ℕ, true, false, length, map, List, IfOk, IfErr, IfSome, IsOk, IsSome, OnOk};
 ghost use Rattle.std.specs.Option.{option_map};
 ghost use Rattle.pdb.specs.DBISectionContribution.{DBISectionContribution};
 ghost use Rattle.pdb.specs.DbiViews.{contributions_left, contributions_steps};
@@ -8,7 +8,8 @@ ghost use Rattle.pdb_resolve.specs.ModulePlaces.{contributions_known, contribute
 ghost use Rattle.pdb_resolve.specs.ModuleTable.{pieces_from, IsTableOf};
 ghost use Rattle.pdb_resolve.specs.Kept.{range_parts, AreRangesOf};
 
-use crate::range::CodeRange;
+use crate::from_second::FromSecond;
+use crate::range::{CodeRange, bytes_cover};
 use crate::ranges::{Ranges, covers};
 use pdb::{
     DBISectionContribution, DBISectionContributionIter, DebugInformation, Error, FallibleIterator,
@@ -21,10 +22,7 @@ use std::marker::Model;
 fn contributes(place: PdbInternalSectionOffset, contribution: &DBISectionContribution) -> bool
     ensures { result ≡ contributes place contribution.now }
 {
-    contribution.offset.section == place.section
-        && contribution.offset.offset <= place.offset
-        && u64::from(place.offset)
-            < u64::from(contribution.offset.offset) + u64::from(contribution.size)
+    bytes_cover(place, contribution.offset, contribution.size)
 }
 
 /// The module of the first contribution that has a place, of those that an iterator has left. Each look at one takes a
@@ -263,27 +261,34 @@ fn find_in(table: &ModuleTable, place: PdbInternalSectionOffset, steps: &mut Ste
     }
 }
 
+/// The place of the last question, and the module there.
+#[derive(Clone, Copy)]
+struct LastFound {
+    place: PdbInternalSectionOffset,
+    module: Option<usize>,
+}
+
 /// The contributions of an image's sections to their bytes, of which the module at a place is found. A contract sees it
 /// as the DBI stream that lists them, if there is one, and whether it was asked for a place.
 #[derive(Drop)]
 pub struct ModulePlaces<'a> {
     information: Option<&'a DebugInformation<'a>>,
-    asked: bool,
-    // It is made at the second question.
-    table: Option<ModuleTable>,
+    table: FromSecond<ModuleTable>,
+    last: Option<LastFound>,
 }
 
 impl<'a> Model for ModulePlaces<'a> {
     ghost use Rattle.std.specs.Option.{option_map};
     ghost use Rattle.pdb_resolve.specs.AskedStream.{AskedStream};
+    ghost use Rattle.pdb_resolve.specs.FromSecond.{made_of, was_asked};
     ghost use Rattle.pdb_resolve.specs.ModulePlaces.{contributions_known};
-    ghost use Rattle.pdb_resolve.specs.ModuleTable.{IsTableIfMade};
+    ghost use Rattle.pdb_resolve.specs.ModuleTable.{IsLastFound, IsTableIfMade};
 
     ghost Value = { AskedStream };
 
-    ghost view = { λ m. record { stream = option_map (λ d. d.now) m.information; asked = m.asked } };
+    ghost view = { λ m. record { stream = option_map (λ d. d.now) m.information; asked = was_asked m.table } };
 
-    ghost invariant = { λ m. IsTableIfMade (contributions_known (option_map (λ d. d.now) m.information)) m.table };
+    ghost invariant = { λ m. IsTableIfMade (contributions_known (option_map (λ d. d.now) m.information)) (made_of m.table) × IsLastFound (option_map (λ d. d.now) m.information) (was_asked m.table) m.last };
 }
 
 impl<'a> ModulePlaces<'a> {
@@ -293,9 +298,21 @@ impl<'a> ModulePlaces<'a> {
     {
         ModulePlaces {
             information,
-            asked: false,
-            table: None,
+            table: FromSecond::new(),
+            last: None,
         }
+    }
+
+    /// What the last question found, where it was for this place.
+    fn last_found(&self, place: PdbInternalSectionOffset) -> Option<Option<usize>>
+        ensures found { IfSome result (λ m. m ≡ module_number_at place self.now.stream) }
+        ensures asked { IsSome result → self.now.asked ≡ true }
+    {
+        let last = self.last?;
+        if last.place.section == place.section && last.place.offset == place.offset {
+            return Some(last.module);
+        }
+        None
     }
 
     /// The module at a place, as `find`, with a step for each look at a contribution: never more than there are. From
@@ -315,24 +332,30 @@ impl<'a> ModulePlaces<'a> {
             → steps.new.count ≤ steps.old.count + digits }
         ensures few { steps.new.count ≤ steps.old.count + length (contributions_known self.old.stream) }
     {
-        let asked = self.asked;
-        self.asked = true;
-        if let Some(table) = &self.table {
-            return Ok(find_in(table, place, steps));
+        if let Some(module) = self.last_found(place) {
+            return Ok(module);
         }
-        if !asked {
-            return Ok(find_listed(self.information, place, steps));
+        if self.table.ask() {
+            self.table.keep(table_of(alloc, self.information)?);
         }
-        let table = table_of(alloc, self.information)?;
-        let found = find_in(&table, place, steps);
-        self.table = Some(table);
-        Ok(found)
+        match self.table.made() {
+            Some(table) => {
+                let module = find_in(table, place, steps);
+                self.last = Some(LastFound { place, module });
+                Ok(module)
+            }
+            None => {
+                let module = find_listed(self.information, place, steps);
+                self.last = Some(LastFound { place, module });
+                Ok(module)
+            }
+        }
     }
 
     /// The number of the module at a place: that of the first listed contribution which has it, and none where none
-    /// does, or where the contributions are refused. The first question is one pass over the list, which takes no
-    /// memory; at the second a table is made and kept, and later ones are looked up there. It is refused for want of
-    /// memory alone, and may then be asked again.
+    /// does, or where the contributions can't be read. The first call is one pass over the list, which takes no
+    /// memory; at the second a table is made and kept, and later ones are looked up there. The same place once more is
+    /// no further question. It fails with out of memory alone, and may then be called again.
     pub fn find(&mut self, alloc: Global, place: PdbInternalSectionOffset) -> Result<Option<usize>>
         ensures found { IfOk result (λ m. m ≡ module_number_at place self.old.stream) }
         ensures kept { self.new ≡ record { stream = self.old.stream; asked = true } }
@@ -346,7 +369,7 @@ impl<'a> ModulePlaces<'a> {
     pub fn reaches(&self, from: PdbInternalSectionOffset, place: PdbInternalSectionOffset) -> bool
         ensures { result ≡ reaches from place (contributions_known self.now.stream) }
     {
-        match &self.table {
+        match self.table.made() {
             Some(table) => reaches_in(table, from, place),
             None => reaches_listed(self.information, from, place),
         }

@@ -1,6 +1,6 @@
 //! The modules of a file, each of which is read once.
 
-ghost use Rattle.std.specs.Prelude.{◌≡◌, ◌+◌, ℕ, List, map, replicate, None, ◌<◌, length, option_copied, slice_get, slice_set, vec_len, Some, IfOk, IfErr, OnOk, OnErr};
+ghost use Rattle.std.specs.Prelude.{◌≡◌, ◌+◌, ◌==◌, ℕ, List, map, replicate, None, ◌<◌, length, option_copied, slice_get, slice_set, vec_len, Some, IfOk, IfErr, OnOk, OnErr};
 ghost use Rattle.pdb.specs.Error.TheVariants.{OutOfMemory};
 ghost use Rattle.pdb.specs.ModuleStream.{ModuleBytes};
 ghost use Rattle.pdb.specs.Answers.{module_info_in, debug_information_in};
@@ -13,8 +13,10 @@ ghost use Rattle.pdb_resolve.specs.Resolved.{begun_where, procedure_where, proce
 ghost use Rattle.pdb_resolve.specs.Listed.{shown_procedure};
 ghost use Rattle.std.specs.Option.{option_map};
 ghost use Rattle.pdb.specs.Text.{name_bytes};
+ghost use Rattle.pdb_resolve.specs.Whole.{is_whole_numbered};
 ghost use Rattle.pdb_resolve.specs.KeptParts.{AreModulesOf, boxed, code_kept, codes_of, rooms_left, stream_kept, streams_of};
 
+use crate::as_if_empty::if_read;
 use crate::module_code::ModuleCode;
 use crate::part::put_down;
 use crate::procedures::ListedProcedure;
@@ -23,6 +25,13 @@ use pdb::{
     PdbInternalSectionOffset, RawString, Result, Source,
 };
 use std::alloc::Global;
+
+/// Whether a listed module has no stream.
+fn has_no_stream(module: &Module<'_>) -> bool
+    ensures { result ≡ («module».now.stream == 0xffff) }
+{
+    module.stream().0 == 0xffff
+}
 
 /// The list of modules, and the code of those that were read.
 #[derive(Drop)]
@@ -67,7 +76,8 @@ fn modules_of<'a>(
     }
 }
 
-/// The stream of a listed module; none where it has none, or where it is refused.
+/// The stream of a listed module; none where it has none, or where it has an error.
+#[tactic(auto, using(crate::proofs::Asking::passed, crate::proofs::Asking::told))]
 pub(crate) fn module_info<'s, S: Source<'s>>(
     pdb: &mut PDB<'s, S>,
     module: &Module<'_>,
@@ -76,15 +86,13 @@ pub(crate) fn module_info<'s, S: Source<'s>>(
     ensures is { IfOk result (λ i. i ≡ if_found (module_info_in pdb.old.file «module».now)) }
     ensures refused { IfErr result (λ e. OnlyFails (MayFail pdb.old pdb.new) e) }
 {
-    match pdb.module_info(module) {
-        Ok(info) => Ok(info),
-        Err(Error::OutOfMemory) => Err(Error::OutOfMemory),
-        Err(Error::IoError) => Err(Error::IoError),
-        Err(_) => Ok(None),
+    match if_read(pdb.module_info(module))? {
+        Some(info) => Ok(info),
+        None => Ok(None),
     }
 }
 
-/// So many rooms for modules.
+/// So many buffers for modules.
 fn rooms_of<'a, 's>(
     rooms: &'a mut Vec<Option<Box<ModuleInfo<'s>>>>,
     count: usize,
@@ -201,7 +209,7 @@ impl<'a, 's> Modules<'a, 's> {
         self.infos[number]
     }
 
-    /// Puts the stream of the module of a number into the next room.
+    /// Puts the stream of the module of a number into the next buffer.
     fn put(
         &mut self,
         alloc: Global,
@@ -275,7 +283,8 @@ impl<'a, 's> Modules<'a, 's> {
         }
     }
 
-    /// The name of the first procedure of the module of a number that begins at a place; none where its code wasn't read.
+    /// The name of the first procedure of the module of a number that begins at a place; none where its code wasn't
+    /// read.
     pub(crate) fn begun_name(
         &mut self,
         alloc: Global,
@@ -318,6 +327,20 @@ impl<'a, 's> Modules<'a, 's> {
         match &mut self.codes[number] {
             Some(code) => code.measure(alloc, place),
             None => None,
+        }
+    }
+
+    /// Whether what is read of the module of a number, which was asked for, has no error; so it is where no such module
+    /// is listed.
+    pub(crate) fn is_whole(&self, number: usize) -> bool
+        ensures { (file : List ℕ) → AreModulesOf file self.now → code_kept self.now number ≡ module_numbered file number → result ≡ is_whole_numbered file number }
+    {
+        if let Some(code) = self.code(number) {
+            return code.is_whole();
+        }
+        match self.module_at(number) {
+            Some(module) => has_no_stream(module),
+            None => true,
         }
     }
 

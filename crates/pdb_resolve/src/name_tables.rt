@@ -10,6 +10,7 @@ ghost use Rattle.pdb_resolve.specs.AsIfEmpty.{if_read, OnlyFails};
 ghost use Rattle.pdb_resolve.specs.FileParts.{items_or_none, items_where};
 ghost use Rattle.pdb_resolve.specs.KeptParts.{IsAskedOf, AreTablesOf};
 
+use crate::as_if_empty::read_or;
 use crate::frames::FunctionNames;
 use crate::part::Part;
 use pdb::{
@@ -26,37 +27,27 @@ pub(crate) struct NameTables<'a, 's> {
     pub(crate) information: Option<&'a DebugInformation<'a>>,
 }
 
-/// What was answered where a stream's table was made; an empty one where the stream is refused.
-fn or_empty<'a>(alloc: Global, finder: Result<ItemFinder<'a>>) -> Result<ItemFinder<'a>>
-    ensures made { (items : Result (List ItemEntry) Error) → Gives (λ f. f) ⊥ finder.entry items → IfOk result (λ f. f ≡ items_or_none items) }
-    ensures refused { IfErr result (λ e. e ≡ Error.OutOfMemory) }
-{
-    match finder {
-        Ok(finder) => Ok(finder),
-        Err(Error::OutOfMemory) => Err(Error::OutOfMemory),
-        Err(_) => Ok(ItemFinder::empty(alloc)),
-    }
-}
-
-/// The ids of a stream, by their indices: those before a fault, none where the stream isn't there or is refused. Want of
-/// memory is its only refusal.
+/// The ids of a stream, by their indices: those before a fault, none where the stream isn't there or has an error. Out
+/// of memory is its only error.
+#[tactic(auto, using(crate::proofs::Asking::passed, crate::proofs::Asking::told))]
 pub fn ids_of<'a>(alloc: Global, ids: Option<&'a IdInformation<'a>>) -> Result<ItemFinder<'a>>
     ensures made { IfOk result (λ f. f ≡ items_where (option_copied ids.entry)) }
     ensures refused { IfErr result (λ e. e ≡ Error.OutOfMemory) }
 {
     match ids {
-        Some(ids) => or_empty(alloc, ids.finder(alloc)),
+        Some(ids) => read_or(ids.finder(alloc), ItemFinder::empty(alloc)),
         None => Ok(ItemFinder::empty(alloc)),
     }
 }
 
 /// The types of a stream, by their indices, in the same way.
+#[tactic(auto, using(crate::proofs::Asking::passed, crate::proofs::Asking::told))]
 pub fn types_of<'a>(alloc: Global, types: Option<&'a TypeInformation<'a>>) -> Result<ItemFinder<'a>>
     ensures made { IfOk result (λ f. f ≡ items_where (option_copied types.entry)) }
     ensures refused { IfErr result (λ e. e ≡ Error.OutOfMemory) }
 {
     match types {
-        Some(types) => or_empty(alloc, types.finder(alloc)),
+        Some(types) => read_or(types.finder(alloc), ItemFinder::empty(alloc)),
         None => Ok(ItemFinder::empty(alloc)),
     }
 }

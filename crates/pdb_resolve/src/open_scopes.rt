@@ -9,8 +9,8 @@ ghost use Rattle.pdb_resolve.specs.VariableWalk.{function_scope, innermost, scop
 
 use crate::calls::has_line;
 use crate::frame_bases::Bases;
-use crate::lines::bytes_cover;
 use crate::procedures::ListedProcedure;
+use crate::range::bytes_cover;
 use crate::role::{Role, role_of};
 use pdb::{Error, InlineeFinder, PdbInternalSectionOffset, Result, Symbol, SymbolData};
 use pdb_records::Record;
@@ -27,7 +27,8 @@ pub(crate) struct OpenScope {
     pub(crate) bases: Bases,
 }
 
-/// The innermost of the scopes that are open; the function's own, in a frame of these registers, where there is no other.
+/// The innermost of the scopes that are open; the function's own, in a frame of these registers, where there is no
+/// other.
 #[tactic(auto, using(crate::proofs::OpenScopeStack::last_is))]
 pub(crate) fn innermost(bases: Bases, around: &[OpenScope]) -> OpenScope
     ensures { result ≡ innermost bases (reverse around.now) }
@@ -53,7 +54,7 @@ fn is_with(symbol: &Symbol<'_>) -> bool
     }
 }
 
-/// A place, with what tells of which inlined calls it is: the procedure there, and the inlined functions of the module.
+/// A place, with what shows which inlined calls have it: the procedure there, and the inlined functions of the module.
 #[derive(Clone, Copy)]
 pub(crate) struct CodePlace<'k, 'a> {
     pub(crate) place: PdbInternalSectionOffset,

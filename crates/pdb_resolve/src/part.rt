@@ -6,9 +6,10 @@ ghost use Rattle.pdb_resolve.specs.AsIfEmpty.{if_read};
 ghost use Rattle.pdb.specs.Error.{Error};
 ghost use Rattle.pdb.specs.Error.TheVariants.{IoError, OutOfMemory};
 
+use crate::as_if_empty::if_read;
 use pdb::{Error, Result};
 
-/// A part of a file. It is asked for once, and what is there is kept in a room outside.
+/// A part of a file. It is asked for once, and what is there is kept in a buffer outside.
 #[derive(Drop)]
 pub(crate) struct Part<'a, T> {
     // Where it will be put.
@@ -18,10 +19,10 @@ pub(crate) struct Part<'a, T> {
     pub(crate) there: Option<&'a T>,
 }
 
-/// Puts a value into the next room.
+/// Puts a value into the next buffer.
 pub(crate) fn put_down<'a, T: Drop>(rooms: &mut &'a mut [Option<T>], value: T) -> Result<&'a T>
     ensures put { IfOk result (λ r. r.now ≡ value) }
-    // It takes one room, and is refused only where there is none.
+    // It takes one buffer, and fails only where there is none.
     ensures taken { OnOk result (length rooms.old.now ≡ length rooms.new.now + 1) }
     ensures refused { IfErr result (λ e. (e ≡ Error.OutOfMemory) × (length rooms.old.now ≡ 0) × (length rooms.new.now ≡ 0)) }
 {
@@ -45,33 +46,25 @@ impl<'a, T: Drop> Part<'a, T> {
         }
     }
 
-    /// Keeps what an accessor answered. Want of memory and a failed view are passed on, and then the file will be
-    /// asked again; what is refused for something else isn't there.
+    /// Keeps what an accessor returned. Out of memory and a failed view are passed on, and then the file will be
+    /// asked again; what has another error isn't there.
     pub(crate) fn keep(&mut self, answer: Result<T>) -> Result<Option<&'a T>>
         requires { self.old.asked ≡ false }
         ensures is { (reading : Result T Error) → Gives (λ x. x) Unit answer reading → IfOk result (λ o. option_copied o ≡ if_read reading) }
         ensures kept { IfOk result (λ o. self.new.there ≡ o) }
         ensures asked { OnOk result (self.new.asked ≡ true) }
         ensures again { IfErr result (λ _. self.new.asked ≡ false) }
-        // What is refused takes no room, and is refused where the answer was, or no room is left.
+        // An error takes no buffer, and comes where the result was one, or no buffer is left.
         ensures rooms { IfErr result (λ _. length self.new.rooms.now ≡ length self.old.rooms.now) }
         ensures passed { IfErr result (λ e. (answer ≡ Err e) ⊎ (length self.old.rooms.now ≡ 0)) }
         ensures refused { IfErr result (λ e. (e ≡ OutOfMemory) ⊎ ((e ≡ IoError) × (answer ≡ Err IoError))) }
     {
-        match answer {
-            Ok(value) => {
-                let there = put_down(&mut self.rooms, value)?;
-                self.asked = true;
-                self.there = Some(there);
-                Ok(Some(there))
-            }
-            Err(Error::OutOfMemory) => Err(Error::OutOfMemory),
-            Err(Error::IoError) => Err(Error::IoError),
-            Err(_) => {
-                self.asked = true;
-                self.there = None;
-                Ok(None)
-            }
-        }
+        let there = match if_read(answer)? {
+            Some(value) => Some(put_down(&mut self.rooms, value)?),
+            None => None,
+        };
+        self.asked = true;
+        self.there = there;
+        Ok(there)
     }
 }

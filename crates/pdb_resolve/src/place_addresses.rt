@@ -106,9 +106,9 @@ impl<'s> PlaceAddresses<'s> {
     }
 
     /// The relative virtual address of a place: its section's address and its offset, led on by the last listed pair at
-    /// or before that where the image was rearranged. None where there is no such section, where the offset is not below
-    /// its size in memory, where no pair leads on, and where the address would need more than four bytes. It takes no
-    /// memory.
+    /// or before that where the image was rearranged. None where there is no such section, where the offset is not
+    /// below its size in memory, where no pair leads on, and where the address would need more than four bytes. It
+    /// takes no memory.
     #[tactic(auto, unfolding(crate::specs::PlaceAddresses::address_in))]
     pub fn address(&self, place: PdbInternalSectionOffset) -> Option<u32>
         ensures { result ≡ address_for self.now place }

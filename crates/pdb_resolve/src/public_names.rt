@@ -6,6 +6,7 @@ ghost use Rattle.pdb.specs.Views.{symbols_left};
 ghost use Rattle.pdb_resolve.specs.PublicNames.{publics_in, public_at};
 ghost use Rattle.pdb_resolve.specs.PublicTable.{head_public, shown_found, IsPublicTable};
 
+use crate::from_second::FromSecond;
 use crate::public_table::{PublicTable, find_in, table_of};
 use crate::publics::{nearest, public_of};
 use pdb::{
@@ -85,22 +86,21 @@ fn public_in<'a>(
 #[derive(Drop)]
 pub struct PublicNames<'a> {
     symbols: Option<&'a SymbolTable<'a>>,
-    asked: bool,
-    // It is made at the second question.
-    table: Option<PublicTable>,
+    table: FromSecond<PublicTable>,
 }
 
 impl<'a> Model for PublicNames<'a> {
     ghost use Rattle.std.specs.Option.{option_map};
     ghost use Rattle.pdb_resolve.specs.AskedStream.{AskedStream};
+    ghost use Rattle.pdb_resolve.specs.FromSecond.{made_of, was_asked};
     ghost use Rattle.pdb_resolve.specs.PublicNames.{publics_in};
     ghost use Rattle.pdb_resolve.specs.PublicTable.{IsPublicTableIfMade};
 
     ghost Value = { AskedStream };
 
-    ghost view = { λ n. record { stream = option_map (λ s. s.now) n.symbols; asked = n.asked } };
+    ghost view = { λ n. record { stream = option_map (λ s. s.now) n.symbols; asked = was_asked n.table } };
 
-    ghost invariant = { λ n. IsPublicTableIfMade (publics_in (option_map (λ s. s.now) n.symbols)) n.table };
+    ghost invariant = { λ n. IsPublicTableIfMade (publics_in (option_map (λ s. s.now) n.symbols)) (made_of n.table) };
 }
 
 impl<'a> PublicNames<'a> {
@@ -110,8 +110,7 @@ impl<'a> PublicNames<'a> {
     {
         PublicNames {
             symbols,
-            asked: false,
-            table: None,
+            table: FromSecond::new(),
         }
     }
 
@@ -132,29 +131,25 @@ impl<'a> PublicNames<'a> {
             → steps.new.count ≤ steps.old.count + digits }
         ensures few { steps.new.count ≤ steps.old.count + length (publics_in self.old.stream) }
     {
-        let asked = self.asked;
-        self.asked = true;
+        let is_wanted = self.table.ask();
         let symbols = match self.symbols {
             Some(symbols) => symbols,
             None => return Ok(None),
         };
-        if let Some(table) = &self.table {
-            return Ok(public_in(alloc, symbols, table, place, steps));
+        if is_wanted {
+            self.table.keep(table_of(alloc, symbols)?);
         }
-        if !asked {
-            return Ok(public_listed(alloc, symbols, place, steps));
+        match self.table.made() {
+            Some(table) => Ok(public_in(alloc, symbols, table, place, steps)),
+            None => Ok(public_listed(alloc, symbols, place, steps)),
         }
-        let table = table_of(alloc, symbols)?;
-        let public = public_in(alloc, symbols, &table, place, steps);
-        self.table = Some(table);
-        Ok(public)
     }
 
-    /// The public symbol before a place: of those in its section that stand there or before it, the one of
-    /// the greatest offset, and of several at one offset the first listed; none where there is none. A symbol that can't
-    /// be read is as if it weren't there. The first question is one pass over the symbols, which takes no memory; at the
-    /// second a table is made and kept, and later ones are looked up there. It is refused for want of memory alone, and
-    /// may then be asked again.
+    /// The public symbol before a place: of those in its section that stand there or before it, the one of the greatest
+    /// offset, and of several at one offset the first listed; none where there is none. A symbol that can't be read is
+    /// as if it weren't there. The first call is one pass over the symbols, which takes no memory; at the second a
+    /// table is made and kept, and later ones are looked up there. It fails with out of memory alone, and may then be
+    /// called again.
     pub fn find(
         &mut self,
         alloc: Global,

@@ -8,7 +8,7 @@ ghost use Rattle.pdb_resolve.specs.PublicNames.{PublicAt, public_of, publics_amo
 ghost use Rattle.pdb_resolve.specs.PublicTable.{place_parts, public_parts, public_index, key_of, key_upto, IsUptoCount, IsPublicTable};
 
 use crate::public_place::PublicPlace;
-use crate::publics::public_of;
+use crate::publics::{public_of, quick_place};
 use crate::range::order_of;
 use pdb::{
     Error, FallibleIterator, PdbInternalSectionOffset, Result, Steps, Symbol, SymbolIter,
@@ -40,6 +40,9 @@ fn add(alloc: Global, rows: &mut Vec<PublicPlace>, symbol: &Symbol<'_>) -> Resul
     ensures added { OnOk result (map place_parts rows.new.items ≡ map place_parts rows.old.items ++ map public_parts (option_to_list (public_of (symbol_of symbol.now)))) }
     ensures refused { IfErr result (λ e. e ≡ Error.OutOfMemory) }
 {
+    if let Some(place) = quick_place(symbol.raw_bytes()) {
+        return push(rows, place, symbol.index().0);
+    }
     match public_of(alloc, symbol) {
         Some(public) => push(rows, public.place, public.index.0),
         None => Ok(()),

@@ -6,7 +6,7 @@ ghost use Rattle.pdb_resolve.specs.RangeOrder.{Same, Goes, InOrder};
 ghost use Rattle.pdb_resolve.specs.Covering.{payload_upto, covers, first_covering, AreApart};
 ghost use Rattle.pdb_resolve.specs.Sorting.{has_bytes, IsSortOf};
 
-use crate::range::{CodeRange, order_of};
+use crate::range::{CodeRange, bytes_cover, order_of};
 use pdb::{Error, PdbInternalSectionOffset, Result, Steps};
 use std::alloc::Global;
 use std::marker::Model;
@@ -72,9 +72,7 @@ fn is_in_order(ranges: &[CodeRange]) -> bool
 pub(crate) fn covers(range: CodeRange, place: PdbInternalSectionOffset) -> bool
     ensures { result ≡ covers place range }
 {
-    range.place.section == place.section
-        && range.place.offset <= place.offset
-        && u64::from(place.offset) < u64::from(range.place.offset) + u64::from(range.length)
+    bytes_cover(place, range.place, range.length)
 }
 
 /// What stands for a range, where it begins at or before a place.
@@ -160,7 +158,7 @@ impl Ranges {
         Ranges { ranges, in_order }
     }
 
-    /// The ranges that are listed in `rows`. It is refused for want of memory alone.
+    /// The ranges that are listed in `rows`. It fails with out of memory alone.
     pub fn new(alloc: Global, rows: &[CodeRange]) -> Result<Self>
         // What is found at a place is what stands for the first listed range that covers it.
         ensures same { IfOk result (λ ranges. (q : PdbInternalSectionOffset) → first_covering q ranges ≡ first_covering q rows.now) }

@@ -8,8 +8,10 @@ ghost use Rattle.pdb_resolve.specs.Frames.{displaced_frames, frames_text};
 ghost use Rattle.pdb_resolve.specs.Resolved.{place_of_file, frames_of_file, module_of_place, variables_of_file};
 ghost use Rattle.pdb_resolve.specs.KeptFrames.{shown_frame};
 ghost use Rattle.pdb_resolve.specs.VariableViews.{shown_variable};
+ghost use Rattle.pdb_resolve.specs.Whole.{is_whole_at};
 
 use crate::address_places::AddressPlaces;
+use crate::as_if_empty::if_read;
 use crate::frames::{Frame, frame_nowhere, push_frame};
 use crate::global_names::GlobalNames;
 use crate::kept_file::KeptFile;
@@ -31,7 +33,7 @@ use std::slice;
 
 /// What code stands at the addresses of a file: which functions, inlined ones too, and which lines. What is read of the
 /// file is kept: the list of modules and the address map from the start, all else from where it is first needed. Each
-/// answer is that of the file's bytes, whatever was asked before. A contract sees it as the state of its source.
+/// result is that of the file's bytes, whatever was asked before. A contract sees it as the state of its source.
 #[derive(Drop)]
 pub struct Resolver<'a, 's, S: Meaning> {
     alloc: Global,
@@ -57,7 +59,7 @@ impl<'a, 's, S: Meaning> Model for Resolver<'a, 's, S> {
     ghost invariant = { λ r. (r.places ≡ if_read (address_map_in r.pdb.file)) × IsFileKept r.pdb.file r.kept.value };
 }
 
-/// The DBI stream; none where it is refused.
+/// The DBI stream; none where it can't be read.
 fn information_of<'a, 's, S: Source<'s>>(
     pdb: &mut PDB<'s, S>,
     room: &'a mut Option<DebugInformation<'s>>,
@@ -69,22 +71,18 @@ fn information_of<'a, 's, S: Source<'s>>(
     Part::unasked(slice::from_mut(room)).keep(pdb.debug_information())
 }
 
-/// The address map; none where it is refused.
+/// The address map; none where it has an error.
+#[tactic(auto, using(crate::proofs::Asking::passed, crate::proofs::Asking::told))]
 fn address_map_of<'s, S: Source<'s>>(pdb: &mut PDB<'s, S>) -> Result<Option<AddressMap<'s>>>
     ensures continues { Continues pdb.old pdb.new }
     ensures is { IfOk result (λ o. o ≡ if_read (address_map_in pdb.old.file)) }
     ensures refused { IfErr result (λ e. OnlyFails (MayFail pdb.old pdb.new) e) }
 {
-    match pdb.address_map() {
-        Ok(map) => Ok(Some(map)),
-        Err(Error::OutOfMemory) => Err(Error::OutOfMemory),
-        Err(Error::IoError) => Err(Error::IoError),
-        Err(_) => Ok(None),
-    }
+    if_read(pdb.address_map())
 }
 
 impl<'a, 's, S: Source<'s>> Resolver<'a, 's, S> {
-    /// Reads the address map and the list of modules of an opened file; a part that is refused is as if it weren't
+    /// Reads the address map and the list of modules of an opened file; a part that can't be read is as if it weren't
     /// there. `OutOfMemory`, and `IoError` where the source failed, are passed on. What `streams` held is dropped.
     pub fn new(alloc: Global, pdb: PDB<'s, S>, streams: &'a mut Streams<'s>) -> Result<Self>
         ensures continues { IfOk result (λ r. Continues pdb.entry r) }
@@ -131,9 +129,9 @@ impl<'a, 's, S: Source<'s>> Resolver<'a, 's, S> {
     }
 
     /// The frames of a place, from the innermost outwards: the functions that were inlined there, and then the function
-    /// itself; where none is known, one frame with the name of the public symbol before the place. Without a place it is
-    /// one frame that tells nothing. `OutOfMemory`, and `IoError` where the source failed, are passed on; the same call
-    /// may then be made again.
+    /// itself; where none is known, one frame with the name of the public symbol before the place. Without a place it
+    /// is one frame that says nothing. `OutOfMemory`, and `IoError` where the source failed, are passed on; the same
+    /// call may then be made again.
     #[tactic(auto, unfolding(crate::specs::Resolved::frames_of_file))]
     pub fn frames(&mut self, place: Option<PdbInternalSectionOffset>) -> Result<Vec<Frame<'a>>>
         ensures continues { Continues self.old self.new }
@@ -151,7 +149,7 @@ impl<'a, 's, S: Source<'s>> Resolver<'a, 's, S> {
     }
 
     /// Puts the text of the frames of a place behind what is there: of each frame the function's name on a line, and
-    /// the file, the line and the column on the next, with `:` between them; then an empty line. It is refused as
+    /// the file, the line and the column on the next, with `:` between them; then an empty line. It fails as
     /// `frames` is; then `out` has what it had.
     pub fn put_text(
         &mut self,
@@ -170,8 +168,8 @@ impl<'a, 's, S: Source<'s>> Resolver<'a, 's, S> {
         Ok(())
     }
 
-    /// The same as `put_text`, where the name of the function itself, or of the public symbol, has behind it `+0x` and how
-    /// far the place is behind what has the name, in hex digits, unless it is there.
+    /// The same as `put_text`, where the name of the function itself, or of the public symbol, has behind it `+0x` and
+    /// how far the place is behind what has the name, in hex digits, unless it is there.
     pub fn put_displaced_text(
         &mut self,
         out: &mut Vec<u8>,
@@ -189,8 +187,8 @@ impl<'a, 's, S: Source<'s>> Resolver<'a, 's, S> {
         Ok(())
     }
 
-    /// The variables that are in scope at a place, in the order of their records: those of the function there and of the
-    /// calls that are inlined there. Without a place there are none. `OutOfMemory`, and `IoError` where the source
+    /// The variables that are in scope at a place, in the order of their records: those of the function there and of
+    /// the calls that are inlined there. Without a place there are none. `OutOfMemory`, and `IoError` where the source
     /// failed, are passed on; the same call may then be made again.
     pub fn variables(
         &mut self,
@@ -206,8 +204,8 @@ impl<'a, 's, S: Source<'s>> Resolver<'a, 's, S> {
         }
     }
 
-    /// The stream of the module from which the bytes at a place come; none where no module is there, or where its stream
-    /// can't be read. It is refused as `variables` is.
+    /// The stream of the module from which the bytes at a place come; none where no module is there, or where its
+    /// stream can't be read. It fails as `variables` does.
     pub fn module_info_at(
         &mut self,
         place: PdbInternalSectionOffset,
@@ -219,7 +217,18 @@ impl<'a, 's, S: Source<'s>> Resolver<'a, 's, S> {
         self.kept.module_info_at(self.alloc, &mut self.pdb, place)
     }
 
-    /// The DBI stream; none where it is refused.
+    /// Whether what a resolver reads of the module from which the bytes at a place come has no error: its stream, its
+    /// symbols, its lines and its inlined functions. So it is where no module is there, or one without a stream. It
+    /// fails as `variables` does.
+    pub fn is_whole_at(&mut self, place: PdbInternalSectionOffset) -> Result<bool>
+        ensures continues { Continues self.old self.new }
+        ensures whole { IfOk result (λ b. b ≡ is_whole_at self.old.file place) }
+        ensures refused { IfErr result (λ e. OnlyFails (MayFail self.old self.new) e) }
+    {
+        self.kept.is_whole_at(self.alloc, &mut self.pdb, place)
+    }
+
+    /// The DBI stream; none where it can't be read.
     pub fn information_read(&self) -> Option<&'a DebugInformation<'a>>
         ensures { option_copied result ≡ if_read (debug_information_in self.now.file) }
     {

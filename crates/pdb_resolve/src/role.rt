@@ -1,13 +1,13 @@
 //! The role of a symbol record in the code of a module.
 
-ghost use Rattle.std.specs.Prelude.{◌≡◌, ◌≤◌, false, None, IfOk, IfErr, IsTrue};
-ghost use Rattle.pdb_symbols.specs.Scopes.{starts_of};
-ghost use Rattle.pdb.specs.Forms.{kind_at, record_at};
+ghost use Rattle.std.specs.Prelude.{◌≡◌, ◌≤◌, false, IfOk, IfErr};
+ghost use Rattle.pdb.specs.Forms.{record_at};
 ghost use Rattle.pdb.specs.Views.{symbol_of};
-ghost use Rattle.pdb_resolve.specs.ModuleCode.{is_managed, is_trampoline, managed_of, role, trampoline_of};
+ghost use Rattle.pdb_resolve.specs.ModuleCode.{is_managed, is_trampoline, role};
 ghost use Rattle.pdb_resolve.specs.ModuleCode.Role.{passed};
 ghost use Rattle.pdb_resolve.specs.Kept.{shown_role, site_role};
 
+use crate::code_records::may_be_code;
 use pdb::{
     BinaryAnnotations, Error, IdIndex, InlineSiteSymbol, PdbInternalSectionOffset, Result, Symbol,
     SymbolData, SymbolIndex,
@@ -36,7 +36,7 @@ pub(crate) enum Role<'t> {
     Passed,
 }
 
-/// The role of a site's record, whose annotations begin at `from`. There are many, so no more is read than what tells
+/// The role of a site's record, whose annotations begin at `from`. There are many, so no more is read than what shows
 /// its lines.
 #[inline]
 fn site_role(bytes: &[u8], from: usize) -> Role<'_>
@@ -56,7 +56,7 @@ fn site_role(bytes: &[u8], from: usize) -> Role<'_>
     })
 }
 
-/// The role of a symbol, by all that its record says; want of memory is passed on.
+/// The role of a symbol, by all that its record says; out of memory is passed on.
 fn parsed_role<'t>(alloc: Global, symbol: &Symbol<'t>) -> Result<Role<'t>>
     ensures is { IfOk result (λ h. shown_role h ≡ role (record_at (symbol_of symbol.now).bytes)) }
     ensures refused { IfErr result (λ e. e ≡ Error.OutOfMemory) }
@@ -84,25 +84,13 @@ fn parsed_role<'t>(alloc: Global, symbol: &Symbol<'t>) -> Result<Role<'t>>
     }
 }
 
-/// Whether a kind is one of variables and of their ranges, as most symbols of a module have it.
+/// Whether a symbol may have a role.
 #[inline(always)]
-#[tactic(auto, using(crate::proofs::ScopeKinds::variables_start_none))]
-fn is_of_variables(kind: u16) -> bool
-    ensures { IsTrue result → starts_of kind ≡ false }
+#[tactic(auto, using(crate::proofs::CodeKinds::passed_over))]
+fn has_role(symbol: &Symbol<'_>) -> bool
+    ensures { result ≡ false → role (record_at (symbol_of symbol.now).bytes) ≡ passed }
 {
-    0x1133 <= kind && kind < 0x1146
-}
-
-/// Whether a symbol may have a role: all that have one start a scope.
-#[inline(always)]
-pub(crate) fn has_role(symbol: &Symbol<'_>) -> bool
-    ensures role { result ≡ false → role (record_at (symbol_of symbol.now).bytes) ≡ passed }
-    ensures kind { result ≡ false → starts_of (kind_at (symbol_of symbol.now).bytes) ≡ false }
-{
-    if is_of_variables(symbol.raw_kind()) {
-        return false;
-    }
-    symbol.starts_scope()
+    may_be_code(symbol.raw_kind())
 }
 
 /// Whether a kind is that of managed procedures.
@@ -121,18 +109,7 @@ pub(crate) fn is_trampoline(kind: u16) -> bool
     kind == 0x112c
 }
 
-/// Whether a symbol may be code: all that is but trampolines starts a scope.
-#[inline(always)]
-#[tactic(auto, using(crate::proofs::CodeKinds::managed_none, crate::proofs::CodeKinds::trampoline_none))]
-pub(crate) fn may_be_code(symbol: &Symbol<'_>) -> bool
-    ensures role { result ≡ false → role (record_at (symbol_of symbol.now).bytes) ≡ passed }
-    ensures managed { result ≡ false → managed_of (symbol_of symbol.now) ≡ None }
-    ensures trampoline { result ≡ false → trampoline_of (symbol_of symbol.now) ≡ None }
-{
-    has_role(symbol) || is_trampoline(symbol.raw_kind())
-}
-
-/// The role of a symbol that starts no site; want of memory is passed on. All that have one start a scope.
+/// The role of a symbol that starts no site; out of memory is passed on.
 #[inline(always)]
 fn other_role<'t>(alloc: Global, symbol: &Symbol<'t>) -> Result<Role<'t>>
     ensures is { IfOk result (λ h. shown_role h ≡ role (record_at (symbol_of symbol.now).bytes)) }
@@ -144,7 +121,7 @@ fn other_role<'t>(alloc: Global, symbol: &Symbol<'t>) -> Result<Role<'t>>
     parsed_role(alloc, symbol)
 }
 
-/// The role of a symbol; want of memory is passed on.
+/// The role of a symbol; out of memory is passed on.
 #[inline(always)]
 pub(crate) fn role_of<'t>(alloc: Global, symbol: &Symbol<'t>) -> Result<Role<'t>>
     ensures is { IfOk result (λ h. shown_role h ≡ role (record_at (symbol_of symbol.now).bytes)) }

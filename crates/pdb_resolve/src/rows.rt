@@ -1,25 +1,27 @@
 //! The ranges of a module's code, by its symbols.
 
-ghost use Rattle.std.specs.Prelude.{◌≡◌, ◌++◌, [], ◌∷◌, map, filter_map, IfOk, IfErr, OnOk};
-ghost use Rattle.std.specs.Option.{option_map, option_to_list};
+ghost use Rattle.std.specs.Prelude.{◌≡◌, ◌&&◌, ◌^◌, ◌<◌, ◌++◌, [], ◌∷◌, length, map, filter_map, IfOk, IfErr, OnOk};
+ghost use Rattle.std.specs.Option.{is_none, option_map, option_to_list};
 ghost use Rattle.pdb.specs.Forms.{record_at};
-ghost use Rattle.pdb.specs.Views.{symbol_of, symbols_left};
+ghost use Rattle.pdb.specs.SymbolList.{symbols_from};
+ghost use Rattle.pdb.specs.Views.{symbol_of};
 ghost use Rattle.pdb_records.specs.RecordReading.{further_at};
 ghost use Rattle.pdb_resolve.specs.ModuleCode.{procedure_of, other_of, managed_of, managed_said, trampoline_of, trampoline_said};
 ghost use Rattle.std.specs.List.{All};
-ghost use Rattle.pdb_resolve.specs.Kept.{range_parts, code_parts, AreRangesOf, site_of};
+ghost use Rattle.pdb_resolve.specs.Kept.{range_parts, code_parts, AreRangesOf, site_if, site_of, site_role};
 ghost use Rattle.pdb_resolve.specs.Listed.{shown_procedure, entry_of, IsBounded};
 
+use crate::code_records::next_code;
 use crate::procedures::ListedProcedure;
 use crate::range::CodeRange;
-use crate::role::{Role, Span, is_managed, is_trampoline, may_be_code, role_of};
+use crate::role::{Role, Span, is_managed, is_trampoline, role_of};
 use crate::site::KeptSite;
-use pdb::{Error, FallibleIterator, Result, Symbol, SymbolData, SymbolIndex, SymbolIter};
+use pdb::{Error, Result, Symbol, SymbolData, SymbolIndex};
 use pdb_records::Record;
 use std::alloc::Global;
 
-/// A module's procedures; the ranges of its thunks and separated code, of its managed procedures and of its trampolines,
-/// whose payload is the symbol's index; and the sites of its inlined functions.
+/// A module's procedures; the ranges of its thunks and separated code, of its managed procedures and of its
+/// trampolines, whose payload is the symbol's index; and the sites of its inlined functions.
 #[derive(Drop)]
 pub(crate) struct Rows<'t> {
     pub(crate) procedures: Vec<ListedProcedure>,
@@ -27,7 +29,12 @@ pub(crate) struct Rows<'t> {
     pub(crate) managed: Vec<CodeRange>,
     pub(crate) trampolines: Vec<CodeRange>,
     pub(crate) sites: Vec<KeptSite<'t>>,
+    /// Whether the list of symbols is there and has no fault.
+    pub(crate) is_whole: bool,
 }
+
+/// How many bytes of symbols there are for a site at least, where there are many sites.
+const BYTES_OF_A_SITE: usize = 128;
 
 /// One more range.
 fn push(rows: &mut Vec<CodeRange>, span: Span, index: SymbolIndex) -> Result<()>
@@ -89,7 +96,7 @@ fn managed_span(symbol: &Symbol<'_>) -> Option<Span>
     }
 }
 
-/// The code of a trampoline; want of memory is passed on.
+/// The code of a trampoline; out of memory is passed on.
 fn trampoline_span(alloc: Global, symbol: &Symbol<'_>) -> Result<Option<Span>>
     ensures is { IfOk result (λ o. option_map (λ s. record { index = (symbol_of symbol.now).index; place = s.place; length = s.length; end = s.end.0 }) o ≡ trampoline_said (symbol_of symbol.now).index (record_at (symbol_of symbol.now).bytes)) }
     ensures refused { IfErr result (λ e. e ≡ Error.OutOfMemory) }
@@ -160,9 +167,22 @@ fn add_scope<'t>(alloc: Global, rows: &mut Rows<'t>, symbol: &Symbol<'t>) -> Res
     }
 }
 
-/// One more symbol that may be code.
+/// One more site, if its annotations begin at `from` in its record.
+#[inline(always)]
+fn add_site<'t>(sites: &mut Vec<KeptSite<'t>>, symbol: &Symbol<'t>, from: usize) -> Result<()>
+    ensures pushed { OnOk result (map entry_of sites.new.items ≡ map entry_of sites.old.items ++ option_to_list (site_if (symbol_of symbol.now) (site_role from (symbol_of symbol.now).bytes))) }
+    ensures bounded { All IsBounded sites.old.items → OnOk result (All IsBounded sites.new.items) }
+    ensures refused { IfErr result (λ e. e ≡ Error.OutOfMemory) }
+{
+    if symbol.raw_bytes().len() < from {
+        return Ok(());
+    }
+    push_site(sites, symbol)
+}
+
+/// One more symbol that may be code, and is no site.
 #[inline(never)]
-fn add_code<'t>(alloc: Global, rows: &mut Rows<'t>, symbol: Symbol<'t>) -> Result<()>
+fn add_other<'t>(alloc: Global, rows: &mut Rows<'t>, symbol: Symbol<'t>) -> Result<()>
     ensures procedures { OnOk result (map shown_procedure rows.new.procedures.items ≡ map shown_procedure rows.old.procedures.items ++ option_to_list (procedure_of (symbol_of symbol.entry))) }
     ensures others { OnOk result (map range_parts rows.new.others.items ≡ map range_parts rows.old.others.items ++ map code_parts (option_to_list (other_of (symbol_of symbol.entry)))) }
     ensures managed { OnOk result (map range_parts rows.new.managed.items ≡ map range_parts rows.old.managed.items ++ map code_parts (option_to_list (managed_of (symbol_of symbol.entry)))) }
@@ -176,7 +196,7 @@ fn add_code<'t>(alloc: Global, rows: &mut Rows<'t>, symbol: Symbol<'t>) -> Resul
     add_trampoline(alloc, &mut rows.trampolines, &symbol)
 }
 
-/// One more symbol. Most are no code; only where one may be is it handed on, so that the others are never stored.
+/// One more symbol that may be code. Most are sites.
 #[inline(always)]
 fn add<'t>(alloc: Global, rows: &mut Rows<'t>, symbol: Symbol<'t>) -> Result<()>
     ensures procedures { OnOk result (map shown_procedure rows.new.procedures.items ≡ map shown_procedure rows.old.procedures.items ++ option_to_list (procedure_of (symbol_of symbol.entry))) }
@@ -187,22 +207,32 @@ fn add<'t>(alloc: Global, rows: &mut Rows<'t>, symbol: Symbol<'t>) -> Result<()>
     ensures bounded { All IsBounded rows.old.sites.items → OnOk result (All IsBounded rows.new.sites.items) }
     ensures refused { IfErr result (λ e. e ≡ Error.OutOfMemory) }
 {
-    if may_be_code(&symbol) {
-        return add_code(alloc, rows, symbol);
+    match symbol.raw_kind() {
+        0x114d => add_site(&mut rows.sites, &symbol, 14),
+        0x115d => add_site(&mut rows.sites, &symbol, 18),
+        _ => add_other(alloc, rows, symbol),
     }
-    Ok(())
 }
 
-/// The procedures, the ranges and the sites of the symbols that an iterator has left, up to its fault. Most of a module is
-/// passed here: the loop keeps registers of its own.
+/// Whether both of two tests hold.
+fn are_both(first: bool, second: bool) -> bool
+    ensures { result ≡ (first && second) }
+{
+    first && second
+}
+
+/// The procedures, the ranges and the sites of a list of symbols, from the fourth byte on and up to its fault. A list that
+/// can't be read isn't there. Most of a module is passed here: the loop keeps registers of its own.
 #[inline(never)]
-pub(crate) fn rows_of<'t>(alloc: Global, mut symbols: SymbolIter<'t>) -> Result<Rows<'t>>
-    ensures procedures { IfOk result (λ rows. map shown_procedure rows.procedures.items ≡ filter_map procedure_of (symbols_left symbols.entry).items) }
-    ensures others { IfOk result (λ rows. AreRangesOf (filter_map other_of (symbols_left symbols.entry).items) rows.others.items) }
-    ensures managed { IfOk result (λ rows. AreRangesOf (filter_map managed_of (symbols_left symbols.entry).items) rows.managed.items) }
-    ensures trampolines { IfOk result (λ rows. AreRangesOf (filter_map trampoline_of (symbols_left symbols.entry).items) rows.trampolines.items) }
-    ensures sites { IfOk result (λ rows. map entry_of rows.sites.items ≡ filter_map site_of (symbols_left symbols.entry).items) }
+pub(crate) fn rows_of<'t>(alloc: Global, symbols: &'t [u8], is_there: bool) -> Result<Rows<'t>>
+    requires { length symbols.now < 2 ^ 32 }
+    ensures procedures { IfOk result (λ rows. map shown_procedure rows.procedures.items ≡ filter_map procedure_of (symbols_from symbols.entry.now 4).items) }
+    ensures others { IfOk result (λ rows. AreRangesOf (filter_map other_of (symbols_from symbols.entry.now 4).items) rows.others.items) }
+    ensures managed { IfOk result (λ rows. AreRangesOf (filter_map managed_of (symbols_from symbols.entry.now 4).items) rows.managed.items) }
+    ensures trampolines { IfOk result (λ rows. AreRangesOf (filter_map trampoline_of (symbols_from symbols.entry.now 4).items) rows.trampolines.items) }
+    ensures sites { IfOk result (λ rows. map entry_of rows.sites.items ≡ filter_map site_of (symbols_from symbols.entry.now 4).items) }
     ensures bounded { IfOk result (λ rows. All IsBounded rows.sites.items) }
+    ensures whole { IfOk result (λ rows. rows.is_whole ≡ (is_there && is_none (symbols_from symbols.entry.now 4).fault)) }
     ensures refused { IfErr result (λ e. e ≡ Error.OutOfMemory) }
 {
     let mut rows = Rows {
@@ -210,13 +240,13 @@ pub(crate) fn rows_of<'t>(alloc: Global, mut symbols: SymbolIter<'t>) -> Result<
         others: Vec::new(alloc),
         managed: Vec::new(alloc),
         trampolines: Vec::new(alloc),
-        sites: Vec::new(alloc),
+        sites: Vec::with_capacity(alloc, symbols.len() / BYTES_OF_A_SITE)?,
+        is_whole: false,
     };
-    loop {
-        match symbols.next() {
-            Ok(Some(symbol)) => add(alloc, &mut rows, symbol)?,
-            Ok(None) => return Ok(rows),
-            Err(_) => return Ok(rows),
-        }
+    let mut at = symbols.len().min(4);
+    while let Some(symbol) = next_code(symbols, &mut at) {
+        add(alloc, &mut rows, symbol)?;
     }
+    rows.is_whole = are_both(is_there, at == symbols.len());
+    Ok(rows)
 }

@@ -8,8 +8,9 @@ ghost use Rattle.pdb.specs.Forms.{record_at};
 ghost use Rattle.pdb.specs.Inlined.{lines_of_site};
 ghost use Rattle.pdb.specs.Inlinees.{InlineeEntry, inlinee_with};
 ghost use Rattle.pdb.specs.InlinedViews.{inlined_left};
+ghost use Rattle.pdb.specs.LineCover.{line_covers};
 ghost use Rattle.pdb.specs.Views.{symbol_of};
-ghost use Rattle.pdb_resolve.specs.ModuleCode.{role, call_of_role, line_covers};
+ghost use Rattle.pdb_resolve.specs.ModuleCode.{role, call_of_role};
 ghost use Rattle.pdb_resolve.specs.Listed.{outside, HasNoneOutside, entry_of, Bounds, IsBounded, AreBounded};
 
 use crate::procedures::ListedProcedure;
@@ -84,6 +85,7 @@ impl Extent {
 }
 
 /// The offsets that line records cover.
+#[inline(never)]
 fn extent_of(mut lines: InlineeLineIterator<'_>) -> Extent
     ensures { HasNoneOutside (inlined_left lines.entry).items result }
 {

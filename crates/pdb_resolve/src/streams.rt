@@ -4,8 +4,8 @@ use pdb::{DebugInformation, IdInformation, ModuleInfo, StringTable, SymbolTable,
 use std::alloc::Global;
 use std::marker::Model;
 
-/// Rooms for the streams of a file that a `Resolver` reads. It borrows them from here, and makes as many rooms as the
-/// file has modules. A contract sees how many those are.
+/// Buffers for the streams of a file that a `Resolver` reads. It borrows them from here, and makes as many buffers as
+/// the file has modules. A contract sees how many those are.
 #[derive(Drop)]
 pub struct Streams<'s> {
     pub(crate) information: Option<DebugInformation<'s>>,
@@ -27,7 +27,7 @@ impl<'s> Model for Streams<'s> {
 impl<'s> Streams<'s> {
     ghost use Rattle.std.specs.Prelude.{◌≡◌};
 
-    /// No room yet. It takes no memory.
+    /// No buffer yet. It takes no memory.
     pub fn new(alloc: Global) -> Self
         ensures { result ≡ 0 }
     {

@@ -115,7 +115,8 @@ fn outer_naming<'a>(
 impl<'a, 's> Tables<'a, 's> {
     ghost use Rattle.pdb_resolve.specs.KeptNames.{AreNamesOf};
 
-    /// The frames of a place in a module, whose procedure there is this, and which this names where no function is there.
+    /// The frames of a place in a module, whose procedure there is this, and which this names where no function is
+    /// there.
     #[tactic(auto, unfolding(crate::specs::Frames::frames_in, crate::specs::FileParts::names_in))]
     pub(crate) fn frames<S: Source<'s>>(
         &mut self,

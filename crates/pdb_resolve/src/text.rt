@@ -75,7 +75,7 @@ pub fn put_file(out: &mut Vec<u8>, file: Option<RawString<'_>>) -> Result<(), Al
     }
 }
 
-/// The end of a frame's second line: the column behind a `:`. Most have none, which is told as 0.
+/// The end of a frame's second line: the column behind a `:`. Most have none, which is printed as 0.
 #[inline]
 #[tactic(auto, using(std::proofs::lemmas::Fmt::decimal_digit))]
 fn put_column(out: &mut Vec<u8>, column: u32) -> Result<(), AllocError>

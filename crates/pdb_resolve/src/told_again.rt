@@ -1,5 +1,5 @@
-//! The variables of a function that records of ranges follow. Compilers of optimized code tell some of them again, each
-//! in one storage alone.
+//! The variables of a function that records of ranges follow. Compilers of optimized code declare some of them again,
+//! each in one storage alone.
 
 ghost use Rattle.std.specs.Prelude.{◌≡◌, ◌≤◌, ◌<◌, ◌+◌, ◌++◌, ◌^◌, ℕ, List, IfOk, IfErr, OnOk, map, length};
 ghost use Rattle.std.specs.Option.{is_some, option_map, option_and_then, option_to_list};

@@ -22,7 +22,7 @@ use std::alloc::Global;
 pub enum VariableKind {
     /// A parameter, by its flags.
     Parameter,
-    /// A local variable. Records of compilers that know no flags tell parameters as these.
+    /// A local variable. Records of compilers that know no flags have parameters as these.
     Local,
     /// A static variable, of the function or of its file.
     Static,
@@ -35,7 +35,7 @@ pub enum VariableKind {
 /// What a variable's record says of where it is.
 #[derive(Clone, Copy)]
 pub(crate) enum Held {
-    /// In one storage, in all of its scope. Such a variable may be told again by one with ranges.
+    /// In one storage, in all of its scope. Such a variable may be declared again by one with ranges.
     InOne(Storage),
     /// As the records of ranges behind it say; whether it is a parameter.
     ByRanges(bool),

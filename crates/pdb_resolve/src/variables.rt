@@ -141,7 +141,7 @@ fn enter<'a>(
     }
 }
 
-/// Leaves the innermost scope where a symbol ends it, or opens one where it starts one. The answer is whether the
+/// Leaves the innermost scope where a symbol ends it, or opens one where it starts one. The result is whether the
 /// function's own scope is still open.
 #[tactic(auto, using(crate::proofs::OpenScopeStack::popped))]
 fn pass<'a>(

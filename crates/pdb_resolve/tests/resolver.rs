@@ -196,3 +196,57 @@ fn the_sample_without_ids_has_these_frames(rt: HostRuntime) -> Result<()> {
     is(&rt, "no place", &resolver.place(0x100).is_none(), &true);
     Ok(())
 }
+
+/// Where the stream of the module begins.
+const MODULE_AT: usize = 512 * 9;
+
+/// With these other bytes at offsets of the sample's file, the module at 1:108 has an error or not, before its frames are
+/// asked for and behind that; at 1:130 there is none.
+fn is_whole_with(
+    rt: &impl Abort,
+    alloc: Global,
+    label: &str,
+    others: &[(usize, u8)],
+    wanted: bool,
+) -> Result<()> {
+    let mut file = sample(alloc, &IDS)?;
+    is(rt, "the module's stream", &file[MODULE_AT + 6], &0x10);
+    for (at, byte) in others {
+        file[*at] = *byte;
+    }
+    let mut streams = Streams::new(alloc);
+    let mut resolver = resolver(alloc, &file, &mut streams)?;
+    let inside = PdbInternalSectionOffset::new(1, 0x108);
+    let outside = PdbInternalSectionOffset::new(1, 0x130);
+    is(rt, label, &resolver.is_whole_at(inside)?, &wanted);
+    resolver.frames(Some(inside))?;
+    is(rt, label, &resolver.is_whole_at(inside)?, &wanted);
+    is(rt, label, &resolver.is_whole_at(outside)?, &true);
+    is(rt, label, &resolver.is_whole_at(inside)?, &wanted);
+    Ok(())
+}
+
+#[test]
+fn a_module_with_an_error_is_not_whole(rt: HostRuntime) -> Result<()> {
+    let alloc = rt.alloc();
+    is_whole_with(&rt, alloc, "a sound file", &[], true)?;
+    is_whole_with(&rt, alloc, "a cut symbol", &[(MODULE_AT + 80, 3)], false)?;
+    is_whole_with(&rt, alloc, "older lines", &[(DBI_AT + 104, 1)], false)?;
+    is_whole_with(
+        &rt,
+        alloc,
+        "a cut inlined function",
+        &[(MODULE_AT + 196, 15)],
+        false,
+    )?;
+    is_whole_with(
+        &rt,
+        alloc,
+        "no stream of its number",
+        &[(DBI_AT + 98, 99)],
+        false,
+    )?;
+    let none = [(DBI_AT + 98, 0xff), (DBI_AT + 99, 0xff)];
+    is_whole_with(&rt, alloc, "no stream", &none, true)?;
+    is_whole_with(&rt, alloc, "no list of modules", &[(DBI_AT, 0)], true)
+}

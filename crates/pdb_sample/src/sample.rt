@@ -52,7 +52,7 @@ fn bytes_of<'b>(stream: &Option<&'b [u8]>) -> &'b [u8]
     }
 }
 
-/// The size of a stream that the directory tells.
+/// The size of a stream that the directory has.
 fn size_told(stream: &Option<&[u8]>) -> u32
     requires { is_too_long (stream_of stream.now) ≡ false }
     ensures { result ≡ size_told (stream_of stream.now) }
@@ -84,7 +84,7 @@ fn count_pages(streams: &[Option<&[u8]>]) -> Option<u64>
     Some(pages)
 }
 
-/// The pages that a file of these streams takes; none where it is refused.
+/// The pages that a file of these streams takes; none where it fails.
 #[tactic(auto, using(crate::proofs::SampleFacts::made_of, crate::proofs::SampleFacts::list_refused, crate::proofs::SampleFacts::streams_refused, crate::proofs::SampleFacts::length_of_streams), unfolding(crate::specs::Sample::directory_size))]
 fn planned(streams: &[Option<&[u8]>]) -> Option<Plan>
     ensures sizes { IfSome result (λ p. IsPlan (map stream_of streams.now) p) }

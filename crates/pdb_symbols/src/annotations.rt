@@ -1,4 +1,4 @@
-//! Binary annotations: the small program by which an inline site tells its lines.
+//! Binary annotations: the small program by which an inline site gives its lines.
 
 ghost use Rattle.std.specs.Prelude.{ℕ, ◌+◌, ◌^◌, ◌<◌, ◌≤◌, ◌≡◌, length, ⊤};
 ghost use Rattle.pdb_symbols.specs.Annotations.{annotations_of, emits};
@@ -121,6 +121,7 @@ impl<'t> FallibleIterator for BinaryAnnotationsIter<'t> {
     ghost left = { annotations_left };
 
     #[tactic(auto, using(pdb_base::proofs::Tilings::few))]
+    #[inline(always)]
     fn next(&mut self) -> Result<Option<BinaryAnnotation>>
         ensures yields { Yields (λ a. a) (annotations_left self.old) result (annotations_left self.new) }
         ensures few { length (annotations_left self.old).items < 2 ^ 64 }

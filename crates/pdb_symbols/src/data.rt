@@ -37,7 +37,7 @@ pub enum SymbolData<'t> {
     UserDefinedType(UserDefinedTypeSymbol<'t>),
     /// A variable in several registers.
     MultiRegisterVariable(MultiRegisterVariableSymbol<'t>),
-    /// Data at a fixed place.
+    /// Data at a fixed address.
     Data(DataSymbol<'t>),
     /// A symbol that other modules can see.
     Public(PublicSymbol<'t>),

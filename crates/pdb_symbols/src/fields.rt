@@ -99,7 +99,7 @@ pub(crate) fn parse_span(buffer: &mut ParseBuffer<'_>) -> Result<(SymbolIndex, S
     Ok((parent, end, len))
 }
 
-// Two places: the offset of each, and behind them the section of each.
+// Two `section:offset`s: the offset of each, and behind them the section of each.
 #[inline]
 #[tactic(auto, unfolding(pdb_base::specs::Layouts::together_at))]
 pub(crate) fn parse_two_places(

@@ -18,7 +18,7 @@ pub enum Form {
     UserDefinedType,
     /// A variable in several registers.
     MultiRegisterVariable,
-    /// Data at a fixed place.
+    /// Data at a fixed address.
     Data,
     /// A symbol that other modules can see.
     Public,

@@ -63,7 +63,7 @@ fn name_place(form: Form, kind: u16) -> Option<usize>
     }
 }
 
-// The name at a place of a record of a kind.
+// The name at an offset of a record of a kind.
 #[inline(always)]
 #[tactic(auto, using(crate::proofs::Headings::name_within))]
 fn read_name<'t>(kind: u16, bytes: &'t [u8], place: usize) -> Result<RawString<'t>>
@@ -74,7 +74,7 @@ fn read_name<'t>(kind: u16, bytes: &'t [u8], place: usize) -> Result<RawString<'
     parse_name(kind, &mut buffer)
 }
 
-// What heads a record of a form whose names have no fixed place, by all of its fields.
+// What heads a record of a form whose names have no fixed offset, by all of its fields.
 #[inline(never)]
 fn read_whole<'t>(alloc: Global, form: Form, bytes: &'t [u8]) -> Result<Heading<'t>>
     requires there { 2 ≤ length bytes.now }

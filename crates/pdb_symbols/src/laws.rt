@@ -1,4 +1,4 @@
-//! Laws of the definitions. Each is the contract of a function that does nothing, or that answers a number.
+//! Laws of the definitions. Each is the contract of a function that does nothing, or that returns a number.
 
 ghost use Rattle.std.specs.Prelude.{true, false, ◌≡◌, ℕ, ◌-◌, ◌*◌, ◌≤◌, List, ◌∷◌, ◌++◌, length, Ok, Err};
 ghost use Rattle.pdb_base.specs.Left.{Left};
@@ -18,7 +18,7 @@ ghost use Rattle.pdb_symbols.specs.SymbolList.{Entry, symbols, symbols_from, Sta
 use crate::language::SourceLanguage;
 use crate::processor::CPUType;
 
-/// Bytes have one list of symbols from each place on, and it is the one that the contracts name.
+/// Bytes have one list of symbols from each offset on, and it is the one that the contracts name.
 pub fn one_list_of_symbols()
     ensures is { (b : List ℕ) (p : ℕ) → p ≤ length b → IsListing symbols b p (symbols_from b p) }
     ensures only { (b : List ℕ) (p : ℕ) (left : Left Entry) → p ≤ length b → IsListing symbols b p left
@@ -35,7 +35,7 @@ pub fn symbols_resume_at_an_index()
 {}
 
 /// The indices of two symbols, one given right after the other, differ by 2 for the first one's length, by its bytes,
-/// and by whole records that fill the gap between them. From each place on there is at most one symbol for every four
+/// and by whole records that fill the gap between them. From each offset on there is at most one symbol for every four
 /// bytes.
 pub fn symbol_spacing()
     ensures neighbours { (b : List ℕ) (p : ℕ) (before after : List Entry) (s t : Entry)
@@ -43,7 +43,7 @@ pub fn symbol_spacing()
     ensures few { (b : List ℕ) (p : ℕ) → 4 * length (symbols_from b p).items ≤ length b - p }
 {}
 
-/// What is read of a record, or its refusal, is what its bytes say by the places of its fields, and nothing else.
+/// What is read of a record, or its error, is what its bytes say by the offsets of its fields, and nothing else.
 pub fn reading_is_what_the_bytes_say()
     ensures says { (b : List ℕ) (d : Data) → record_at b ≡ Ok d → Is b d }
     ensures reads { (b : List ℕ) (d : Data) → Is b d → record_at b ≡ Ok d }

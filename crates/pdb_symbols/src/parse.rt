@@ -37,7 +37,7 @@ pub(crate) fn parse_record(alloc: Global, bytes: &[u8]) -> Result<SymbolData<'_>
     parse_fields(alloc, kind_of(bytes), &mut buffer)
 }
 
-// What a record of a kind says, its fields at the buffer's place. Each arm returns by itself, and the function stays
+// What a record of a kind says, its fields at the buffer's offset. Each arm returns by itself, and the function stays
 // one: so a form's result is copied once and whole, and not field by field.
 #[inline(never)]
 #[tactic(auto, using(crate::proofs::Memory::answers_parses, crate::proofs::FormTable::scope_end_read, crate::proofs::FormTable::inline_site_end_read, crate::proofs::FormTable::procedure_end_read))]

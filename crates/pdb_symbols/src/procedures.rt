@@ -61,7 +61,7 @@ pub struct InlineSiteSymbol<'t> {
     pub inlinee: IdIndex,
     /// How often the code was run, by a profile: in kind 0x115d alone.
     pub invocations: Option<u32>,
-    /// The program that tells the call's lines: all bytes that are left.
+    /// The program that gives the call's lines: all bytes that are left.
     pub annotations: BinaryAnnotations<'t>,
 }
 
@@ -144,7 +144,7 @@ fn parse_procedure_flags(buffer: &mut ParseBuffer<'_>) -> Result<ProcedureFlags>
     Ok(ProcedureFlags::of(bits))
 }
 
-// A procedure's type, its place and its flags.
+// A procedure's type, its `section:offset` and its flags.
 #[inline]
 #[tactic(auto, unfolding(pdb_base::specs::Layouts::together_at))]
 fn parse_typed(

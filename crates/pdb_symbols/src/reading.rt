@@ -8,14 +8,14 @@ use crate::annotations::BinaryAnnotation;
 use crate::spelling::{read_number, signed};
 use pdb_base::{Error, FileIndex, Result};
 
-// What stands at a place: an annotation, or the 0 that ends a list; and the place behind it.
+// What stands at an offset: an annotation, or the 0 that ends a list; and the offset behind it.
 #[derive(Clone, Copy)]
 pub(crate) struct Found {
     pub annotation: Option<BinaryAnnotation>,
     pub end: usize,
 }
 
-// An annotation, and the place behind it.
+// An annotation, and the offset behind it.
 #[inline]
 fn ending_at(annotation: BinaryAnnotation, end: usize) -> Found
     ensures { result ≡ record { annotation = Some annotation; end = end } }
@@ -27,7 +27,7 @@ fn ending_at(annotation: BinaryAnnotation, end: usize) -> Found
 }
 
 // What stands behind an opcode. Each arm reads its operands itself, so that there is one jump for an annotation.
-#[inline]
+#[inline(always)]
 #[tactic(auto, unfolding(crate::specs::Annotations::annotation_behind))]
 fn read_behind(opcode: u32, bytes: &[u8], at: usize) -> Result<Found>
     requires { at ≤ length bytes.now }
@@ -115,8 +115,8 @@ fn read_behind(opcode: u32, bytes: &[u8], at: usize) -> Result<Found>
     }
 }
 
-// What stands at a place.
-#[inline]
+// What stands at an offset.
+#[inline(always)]
 #[tactic(auto, unfolding(crate::specs::Annotations::annotation_at))]
 pub(crate) fn read_annotation(bytes: &[u8], at: usize) -> Result<Found>
     requires { at ≤ length bytes.now }

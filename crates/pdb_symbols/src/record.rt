@@ -13,7 +13,7 @@ const ALIGN: u16 = 0x0402;
 
 const SKIP: u16 = 0x0007;
 
-// The symbol of the record at the buffer's place, or None for a record that fills a gap.
+// The symbol of the record at the buffer's offset, or None for a record that fills a gap.
 #[inline]
 pub(crate) fn read_record<'t>(buffer: &mut ParseBuffer<'t>) -> Result<Option<Symbol<'t>>>
     requires { length buffer.old.bytes < 2 ^ 32 }

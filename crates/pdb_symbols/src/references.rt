@@ -18,7 +18,7 @@ pub struct ProcedureReferenceSymbol<'t> {
     pub global: bool,
     /// The checksum of the name.
     pub sum_name: u32,
-    /// The place of the procedure's record in its module's stream.
+    /// The offset of the procedure's record in its module's stream.
     pub symbol_index: SymbolIndex,
     /// The module's number, counted from 0; the record counts from 1, and says 0 for none.
     pub module: Option<usize>,
@@ -32,7 +32,7 @@ pub struct ProcedureReferenceSymbol<'t> {
 pub struct DataReferenceSymbol<'t> {
     /// The checksum of the name.
     pub sum_name: u32,
-    /// The place of the data's record in its module's stream.
+    /// The offset of the data's record in its module's stream.
     pub symbol_index: SymbolIndex,
     /// The module's number, counted from 0; the record counts from 1, and says 0 for none.
     pub module: Option<usize>,
@@ -45,7 +45,7 @@ pub struct DataReferenceSymbol<'t> {
 pub struct AnnotationReferenceSymbol<'t> {
     /// The checksum of the name.
     pub sum_name: u32,
-    /// The place of the annotation's record in its module's stream.
+    /// The offset of the annotation's record in its module's stream.
     pub symbol_index: SymbolIndex,
     /// The module's number, counted from 0; the record counts from 1, and says 0 for none.
     pub module: Option<usize>,

@@ -6,15 +6,15 @@ ghost use Rattle.pdb_symbols.specs.Spelling.{spelled_at, signed_of};
 
 use pdb_base::{Error, Result};
 
-/// A number, and the place behind its spelling.
+/// A number, and the offset behind its spelling.
 #[derive(Clone, Copy)]
 pub(crate) struct Spelled {
     pub value: u32,
     pub end: usize,
 }
 
-// The number that is spelled at a place.
-#[inline]
+// The number that is spelled at an offset.
+#[inline(always)]
 #[tactic(auto, unfolding(crate::specs::Spelling::spelled_at))]
 pub(crate) fn read_number(bytes: &[u8], at: usize) -> Result<Spelled>
     requires { at ≤ length bytes.now }

@@ -24,7 +24,7 @@ pub(crate) fn kind_of(bytes: &[u8]) -> SymbolKind
     u16::from_le_bytes([bytes[0], bytes[1]])
 }
 
-/// A symbol record: its place in the list, and its bytes, the first two of which are its kind.
+/// A symbol record: its offset in the list, and its bytes, the first two of which are its kind.
 #[derive(Clone, Copy, PartialEq)]
 pub struct Symbol<'t> {
     index: SymbolIndex,
@@ -43,7 +43,7 @@ impl<'t> Symbol<'t> {
     ghost use Rattle.pdb_symbols.specs.Headings.{heading_at, shown_heading};
     ghost use Rattle.pdb_symbols.specs.Views.{symbol_of};
 
-    /// The record of these bytes, its kind among them, at a place of its list. None below two bytes, since these have
+    /// The record of these bytes, its kind among them, at an offset of its list. None below two bytes, since these have
     /// no kind.
     pub fn new(index: SymbolIndex, bytes: &'t [u8]) -> Option<Self>
         ensures some { IfSome result (λ s. symbol_of s ≡ record { index = index.0; bytes = bytes.entry.now }) }
@@ -64,7 +64,7 @@ impl<'t> Symbol<'t> {
         Symbol { index, bytes }
     }
 
-    /// The record's place: where its length stands in the buffer, in bytes.
+    /// The record's offset: where its length stands in the buffer, in bytes.
     #[inline]
     pub fn index(&self) -> SymbolIndex
         ensures { result.0 ≡ (symbol_of self.now).index }
@@ -115,19 +115,19 @@ impl<'t> Symbol<'t> {
     /// other kind takes any.
     #[tactic(auto, using(crate::proofs::Clauses::reads_of, crate::proofs::Clauses::only_of))]
     pub fn parse(&self, alloc: Global) -> Result<SymbolData<'t>>
-        // The answer is a function of the bytes, want of memory aside.
+        // The result is a function of the bytes, out of memory aside.
         ensures reads { Gives shown ⊥ result (record_at (symbol_of self.now).bytes) }
-        // What is answered is what the bytes say.
+        // What is returned is what the bytes say.
         ensures found { IfOk result (λ d. Is (symbol_of self.now).bytes (shown d)) }
-        // What the bytes say is answered, want of memory aside.
+        // What the bytes say is returned, out of memory aside.
         ensures only { (d : Data) → Is (symbol_of self.now).bytes d → IsOkAnd result (λ s. shown s ≡ d) ⊎ IsErrOf result Error.OutOfMemory }
-        // A kind with no row is refused as such.
+        // A kind with no row fails as such.
         ensures kind { (k : ℕ) → IsErrOf result (Error.UnimplementedSymbolKind k)
             ↔ IsUnlistedKind (symbol_of self.now).bytes k }
         // So is a constant's prefix that is there and unlisted.
         ensures prefix { (n : ℕ) → IsErrOf result (Error.UnexpectedNumericPrefix n)
             ↔ IsUnlistedPrefix (symbol_of self.now).bytes n }
-        // Every other refusal is the end of the bytes, want of memory aside.
+        // Every other error is the end of the bytes, out of memory aside.
         ensures refused { IfErr result (λ e. (e ≡ Error.OutOfMemory) ⊎ Refusal (symbol_of self.now).bytes e) }
         // Memory is wanted for variables in several registers alone.
         ensures memory { IfErr result (λ e. e ≡ Error.OutOfMemory → IsTrue (is_in (0x110a ∷ 0x1005 ∷ 0x1117 ∷ 0x1014 ∷ []) (kind_at (symbol_of self.now).bytes))) }
@@ -136,11 +136,11 @@ impl<'t> Symbol<'t> {
     }
 
     /// The record's form and its name, as `parse` has them, without the other fields: of most forms these aren't read.
-    /// It is refused as `parse` is, and takes memory for the same kinds.
+    /// It fails as `parse` does, and takes memory for the same kinds.
     #[inline(always)]
     #[tactic(auto, using(crate::proofs::HeadingClauses::heading_reads))]
     pub fn heading(&self, alloc: Global) -> Result<Heading<'t>>
-        // The answer is the form and the name of what the bytes say, or the same refusal, want of memory aside.
+        // The result is the form and the name of what the bytes say, or the same error, out of memory aside.
         ensures reads { Gives shown_heading ⊥ result (heading_at (symbol_of self.now).bytes) }
         // Memory is wanted for variables in several registers alone.
         ensures memory { IfErr result (λ e. e ≡ Error.OutOfMemory → IsTrue (is_in (0x110a ∷ 0x1005 ∷ 0x1117 ∷ 0x1014 ∷ []) (kind_at (symbol_of self.now).bytes))) }

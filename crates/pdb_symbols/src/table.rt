@@ -55,7 +55,7 @@ impl<'s> SymbolTable<'s> {
 
 /// The symbols of a buffer, record by record. A record is a length of two bytes and then that many bytes, the first
 /// two of which are its kind; records of the kinds 0x0402 (`S_ALIGN`) and 0x0007 (`S_SKIP`) make no symbol. A
-/// symbol's index is the place of its record's length. A length below 2 is `SymbolTooShort`, and a length or bytes
+/// symbol's index is the offset of its record's length. A length below 2 is `SymbolTooShort`, and a length or bytes
 /// that aren't there are `UnexpectedEof`; after either the list has ended until the next `seek` or `skip_to`.
 #[derive(Drop)]
 pub struct SymbolIter<'t> {
@@ -73,8 +73,8 @@ impl<'t> SymbolIter<'t> {
     ghost use Rattle.pdb_base.specs.declared.error.Error.TheVariants.{IoError, OutOfMemory};
     ghost use Rattle.pdb_symbols.specs.Views.{symbol_of, symbols_left, symbols_bytes, symbols_place, symbols_steps};
 
-    /// The symbols from the buffer's place on. The whole buffer has at most 4294967295 bytes, so that each place is an
-    /// index.
+    /// The symbols from the buffer's offset on. The whole buffer has at most 4294967295 bytes, so that each offset is
+    /// an index.
     pub fn new(buffer: ParseBuffer<'t>) -> Self
         requires { length buffer.bytes ≤ 4294967295 }
         ensures left { symbols_left result ≡ symbols_from buffer.entry.bytes buffer.entry.place }

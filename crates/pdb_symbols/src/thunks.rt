@@ -111,7 +111,7 @@ pub struct TrampolineSymbol {
     pub target: PdbInternalSectionOffset,
 }
 
-// A place, a length and an ordinal.
+// A `section:offset`, a length and an ordinal.
 #[inline]
 #[tactic(auto, unfolding(pdb_base::specs::Layouts::together_at))]
 fn parse_thunk_place(buffer: &mut ParseBuffer<'_>) -> Result<(PdbInternalSectionOffset, u16, u8)>

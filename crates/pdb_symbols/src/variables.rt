@@ -57,7 +57,7 @@ pub struct ConstantSymbol<'t> {
     pub name: RawString<'t>,
 }
 
-/// Data at a fixed place: `DATASYM32` of `cvinfo.h`, in records `S_LDATA32` (0x110c), `S_GDATA32` (0x110d),
+/// Data at a fixed address: `DATASYM32` of `cvinfo.h`, in records `S_LDATA32` (0x110c), `S_GDATA32` (0x110d),
 /// `S_LMANDATA` (0x111c), `S_GMANDATA` (0x111d) and, as older linkers wrote them, `S_LDATA32_ST` (0x1007),
 /// `S_GDATA32_ST` (0x1008), `S_LMANDATA_ST` (0x1020) and `S_GMANDATA_ST` (0x1021).
 #[derive(Clone, Copy, Debug, Eq, PartialEq)]
@@ -112,7 +112,7 @@ pub struct RegisterRelativeSymbol<'t> {
     pub name: RawString<'t>,
 }
 
-/// A local variable, whose places records behind it tell: `LOCALSYM` of `cvinfo.h`, in records `S_LOCAL` (0x113e).
+/// A local variable; the records behind it have its locations: `LOCALSYM` of `cvinfo.h`, in records `S_LOCAL` (0x113e).
 #[derive(Clone, Copy, Debug, Eq, PartialEq)]
 pub struct LocalSymbol<'t> {
     /// The variable's type.

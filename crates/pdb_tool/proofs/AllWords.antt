@@ -21,11 +21,11 @@ one_more of view words told xs i d x lt e h =
     let one : suc i ≡ i + 1 = omega arith in
     let next : drop i words ≡ get_or words i d ∷ drop (i + 1) words = rw one at (drop-cons words i d lt) in
     let s = rw (next, e) at h in
-    s ∙ first_then xs x (all_in of (map view (drop (i + 1) words))) (view (get_or words i d)).place
+    s ∙ first_then xs x (all_in of (map view (drop (i + 1) words))) (view (get_or words i d)).argument
 
 pub none_there : {A X : Type 0} (of : List ℕ → Option A) (view : X → WordAt) (words : List X) (told : Result (List A) ℕ) (xs : List A) (i : ℕ) (d : X)
     → i < length words → of (view (get_or words i d)).word ≡ None
-    → told ≡ behind xs (all_in of (map view (drop i words))) → told ≡ Err (view (get_or words i d)).place
+    → told ≡ behind xs (all_in of (map view (drop i words))) → told ≡ Err (view (get_or words i d)).argument
 none_there of view words told xs i d lt e h = rw (drop-cons words i d lt, e) at h
 
 pub all_there : {A X : Type 0} (of : List ℕ → Option A) (view : X → WordAt) (words : List X) (told : Result (List A) ℕ) (xs : List A) (i : ℕ)

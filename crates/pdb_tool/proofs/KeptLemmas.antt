@@ -26,13 +26,13 @@ pub vacant_ends : (text : ℕ → List ℕ) (rows : List (Option LineEnd)) → r
 vacant_ends text rows e = subst (λ (xs : List (Option LineEnd)). All (HasText text) xs) (sym e) (All-replicate (HasText text) 1024 nothing (no_end text))
 
 -- an end that is kept too
-pub one_more_end : (text : ℕ → List ℕ) (rows : List (Option LineEnd)) (place index : ℕ) (end : LineEnd) → end.index ≡ index → end.text.items ≡ text index → All (HasText text) rows → All (HasText text) (slice_set rows place (Some end))
-one_more_end text rows place index end at is all =
+pub one_more_end : (text : ℕ → List ℕ) (rows : List (Option LineEnd)) (slot index : ℕ) (end : LineEnd) → end.index ≡ index → end.text.items ≡ text index → All (HasText text) rows → All (HasText text) (slice_set rows slot (Some end))
+one_more_end text rows slot index end at is all =
     let own : end.text.items ≡ text end.index = is ∙ ap text (sym at) in
-    All-set (HasText text) rows place (Some end) (λ x e. subst (λ (y : LineEnd). y.text.items ≡ text y.index) (ap (λ (o : Option LineEnd). unwrap_or o end) e) own) all
+    All-set (HasText text) rows slot (Some end) (λ x e. subst (λ (y : LineEnd). y.text.items ≡ text y.index) (ap (λ (o : Option LineEnd). unwrap_or o end) e) own) all
 
-pub as_many_ends : (rows : List (Option LineEnd)) (place : ℕ) (end : LineEnd) → length rows ≡ 1024 → length (slice_set rows place (Some end)) ≡ 1024
-as_many_ends rows place end size = length-set rows place (Some end) ∙ size
+pub as_many_ends : (rows : List (Option LineEnd)) (slot : ℕ) (end : LineEnd) → length rows ≡ 1024 → length (slice_set rows slot (Some end)) ≡ 1024
+as_many_ends rows slot end size = length-set rows slot (Some end) ∙ size
 
 -- lines without a type end as those of index 0 do
 pub end_by_number : (names : Names) (index : Option TypeIndex) → typed_end names (Some (record { 0 = number_of_type index })) ≡ typed_end names index

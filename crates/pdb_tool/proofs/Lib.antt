@@ -20,7 +20,7 @@ pub mod LocalWords
 pub mod SomeWord
 pub mod Colons
 pub mod SameSizes
-pub mod PlacesTexts
+pub mod IndexedTexts
 pub mod StreamOrder
 pub mod StreamFilters
 pub mod StreamNames
@@ -34,3 +34,5 @@ pub mod HeaderMachines
 pub mod GlobalKinds
 pub mod ScopeLines
 pub mod KeptLemmas
+pub mod Stops
+pub mod WriteFailures

@@ -15,11 +15,11 @@ next_of words i d lt =
 pub operand_there : {X : Type 0} (bytes : X → List ℕ) (words : List X) (all so_far : List WordAt) (next : Next) (i p : ℕ) (d : X)
     → i < length words → is_operand next (bytes (get_or words i d)) ≡ true
     → all ≡ so_far ++ operands_of next (map bytes (drop i words)) (p + i)
-    → all ≡ (so_far ++ record { place = p + i; word = bytes (get_or words i d) } ∷ []) ++ operands_of (behind_word next (bytes (get_or words i d))) (map bytes (drop (i + 1) words)) (p + (i + 1))
+    → all ≡ (so_far ++ record { argument = p + i; word = bytes (get_or words i d) } ∷ []) ++ operands_of (behind_word next (bytes (get_or words i d))) (map bytes (drop (i + 1) words)) (p + (i + 1))
 operand_there bytes words all so_far next i p d lt is h =
     let place : p + (i + 1) ≡ p + i + 1 = omega arith in
     let one = rw (next_of words i d lt, is) at h in
-    rw place (one ∙ sym (append_assoc so_far (record { place = p + i; word = bytes (get_or words i d) } ∷ []) _))
+    rw place (one ∙ sym (append_assoc so_far (record { argument = p + i; word = bytes (get_or words i d) } ∷ []) _))
 
 -- one that is none
 pub other_there : {X : Type 0} (bytes : X → List ℕ) (words : List X) (all so_far : List WordAt) (next : Next) (i p : ℕ) (d : X)

@@ -9,6 +9,7 @@ use Rattle.std.specs.Str.Parse.{digits_value}
 use Rattle.pdb.specs.PdbInternalSectionOffset.{PdbInternalSectionOffset}
 use Rattle.pdb_resolve.specs.Frames.{displaced_frames, frames_text}
 use Rattle.pdb_resolve.specs.Resolved.{place_of_file, frames_of_file}
+use Rattle.pdb_resolve.specs.Whole.{is_whole_at}
 use Rattle.pdb_text.specs.Written.{WroteFront}
 use Rattle.pdb_tool.specs.VariableTexts.{variables_text}
 use Rattle.pdb_tool.specs.declared.asked.Asked.{Asked}
@@ -76,7 +77,7 @@ place_in section offset = option_and_then (λ s. option_and_then (place_of s) (h
 abbrev pub is_colon : ℕ → Bool
 is_colon b = b == 58
 
--- by the place of the first colon
+-- by the offset of the first colon
 abbrev pub asked_by : Option ℕ → List ℕ → Option ℕ → Option Asked
 asked_by base word None = address_in base word
 asked_by base word (Some at) = place_in (take at word) (drop (at + 1) word)
@@ -91,6 +92,14 @@ abbrev pub asked_place : List ℕ → Asked → Option PdbInternalSectionOffset
 asked_place file (Address address) = place_of_file file address
 asked_place file (Place place) = Some place
 asked_place file Nowhere = None
+
+-- whether what is read of the module at a place has no error
+abbrev pub is_whole_where : List ℕ → Option PdbInternalSectionOffset → Bool
+is_whole_where file None = true
+is_whole_where file (Some q) = is_whole_at file q
+
+abbrev pub is_whole_asked : List ℕ → Asked → Bool
+is_whole_asked file asked = is_whole_where file (asked_place file asked)
 
 -- the frames of a place, with displacements or variables, or neither
 abbrev pub text_with : List ℕ → Detail → Option PdbInternalSectionOffset → List ℕ

@@ -1,10 +1,10 @@
 -- What is wrong with a file: the refusals of what is read of it, and the faults that end its lists.
-use Rattle.std.specs.Prelude.{ℕ, List, [], ◌∷◌, Bool, true, false, ◌==◌, Option, Some, None, Result, Ok, Err, if◌then◌else◌}
+use Rattle.std.specs.Prelude.{◌≡◌, ℕ, List, [], ◌∷◌, Bool, true, false, ◌==◌, Option, Some, None, Result, Ok, Err, if◌then◌else◌}
 use Rattle.pdb.specs.Error.{Error}
-use Rattle.pdb.specs.Error.TheVariants.{StreamNotFound, StreamNameNotFound, GlobalSymbolsNotFound, UnimplementedSymbolKind}
+use Rattle.pdb.specs.Error.TheVariants.{StreamNotFound, StreamNameNotFound, GlobalSymbolsNotFound, UnimplementedSymbolKind, IoError, OutOfMemory}
 use Rattle.pdb.specs.Refusal.{◌>>=◌}
 use Rattle.pdb.specs.Left.{Left}
-use Rattle.pdb.specs.Answers.{debug_information_in, global_symbols_in, information_in, raw_stream_in}
+use Rattle.pdb.specs.Answers.{address_map_in, debug_information_in, frame_table_in, global_symbols_in, information_in, raw_stream_in, sections_in, string_table_in}
 use Rattle.pdb.specs.Contributions.{contributions_in}
 use Rattle.pdb.specs.Features.{has_ids_of}
 use Rattle.pdb.specs.Header.{header_of}
@@ -19,6 +19,8 @@ use Rattle.pdb.specs.Files.{FileOf, files_of}
 use Rattle.pdb_types.specs.MemberLists.{members_of}
 use Rattle.pdb_types.specs.TypeSays.{TagSays}
 use Rattle.pdb.specs.ModuleStream.{ModuleBytes, line_program_of}
+use Rattle.pdb_tool.specs.declared.file_parts.FilePart.{FilePart}
+use Rattle.pdb_tool.specs.declared.file_parts.FilePart.TheVariants.{Information, DebugInformation, Sections, AddressMap, FrameTable, StringTable}
 
 -- a refusal tells of damage, unless it says that the file has no such name or no global symbols, or that a kind of symbol has no form
 abbrev pub is_damage : Error → Bool
@@ -41,6 +43,23 @@ ended_by (Err e) = Some e
 abbrev pub items_of : {A : Type 0} → Result (Left A) Error → List A
 items_of (Ok left) = left.items
 items_of (Err e) = []
+
+-- ---- parts of a file that are whole or have one error
+
+abbrev pub error_of : FilePart → List ℕ → Option Error
+error_of Information file = refused (information_in file)
+error_of DebugInformation file = refused (debug_information_in file)
+error_of Sections file = refused (sections_in file)
+error_of AddressMap file = refused (address_map_in file)
+error_of FrameTable file = refused (frame_table_in file)
+error_of StringTable file = refused (string_table_in file)
+
+-- a call found no error where there is none; else the error, or that the source failed where io holds, or out of memory
+abbrev pub IsErrorOf : Type 0 → Option Error → Option Error → Type 0
+IsErrorOf io None error = error ≡ None
+IsErrorOf io (Some IoError) error = io
+IsErrorOf io (Some OutOfMemory) error = Unit {0}
+IsErrorOf io (Some e) error = error ≡ Some e
 
 -- ---- what is read of a file
 

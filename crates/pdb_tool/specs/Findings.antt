@@ -8,40 +8,40 @@ use Rattle.pdb_tool.specs.Objects.{json_line, text_value}
 use Rattle.pdb_tool.specs.declared.options.Form.{Form}
 use Rattle.pdb_tool.specs.declared.options.Form.TheVariants.{Text, Json as Objects}
 
--- what the lines of a part of a file have in common: the form, the file's name, and how the part's places begin
-pub record Front : Type 0 where
+-- what the lines of a part of a file have in common: the form, the file's name, and how the part's labels begin
+pub record Subject : Type 0 where
   pub form : Form
   pub file : List ℕ
   pub part : List ℕ
 
 -- of all but the modules
-abbrev pub file_front : Form → List ℕ → Front
-file_front form name = record { form = form; file = name; part = [] }
+abbrev pub file_subject : Form → List ℕ → Subject
+file_subject form name = record { form = form; file = name; part = [] }
 
 -- of the module of this number
-abbrev pub module_front : Form → List ℕ → ℕ → Front
-module_front form name k = record { form = form; file = name; part = codes "module " ++ decimal k }
+abbrev pub module_subject : Form → List ℕ → ℕ → Subject
+module_subject form name k = record { form = form; file = name; part = codes "module " ++ decimal k }
 
--- ---- an error at a place of a file
+-- ---- an error at a label of a file
 
 -- `FILE: WHERE: TEXT`
 unfoldable pub finding_line : List ℕ → List ℕ → Error → List ℕ
-finding_line file place e = file ++ codes ": " ++ place ++ codes ": " ++ message_of e ++ codes "\n"
+finding_line file label e = file ++ codes ": " ++ label ++ codes ": " ++ message_of e ++ codes "\n"
 
 -- the same as a JSON object
-abbrev pub place_members : List ℕ → Error → Members
-place_members place e = member (codes "where") (text_value place) (member (codes "text") (text_value (message_of e)) no_members)
+abbrev pub label_members : List ℕ → Error → Members
+label_members label e = member (codes "where") (text_value label) (member (codes "text") (text_value (message_of e)) no_members)
 
 abbrev pub finding_value : List ℕ → List ℕ → Error → Json
-finding_value file place e = object (member (codes "file") (text_value file) (place_members place e))
+finding_value file label e = object (member (codes "file") (text_value file) (label_members label e))
 
 abbrev pub finding_in : Form → List ℕ → List ℕ → Error → List ℕ
-finding_in Text file place e = finding_line file place e
-finding_in Objects file place e = json_line (finding_value file place e)
+finding_in Text file label e = finding_line file label e
+finding_in Objects file label e = json_line (finding_value file label e)
 
--- at a place of the part
-unfoldable pub line_of : Front → List ℕ → Error → List ℕ
-line_of front place e = finding_in front.form front.file (front.part ++ place) e
+-- at a label of the part
+unfoldable pub line_of : Subject → List ℕ → Error → List ℕ
+line_of subject label e = finding_in subject.form subject.file (subject.part ++ label) e
 
 -- ---- a file without an error
 

@@ -9,19 +9,19 @@ abbrev pub number_of_type : Option TypeIndex → ℕ
 number_of_type None = 0
 number_of_type (Some index) = index.0
 
--- what is kept at a place is the text of its number
+-- what is kept at a slot is the text of its number
 abbrev pub HasText : (ℕ → List ℕ) → Option LineEnd → Type 0
-HasText text place = ForSome place (λ end. end.text.items ≡ text end.index)
+HasText text slot = ForSome slot (λ end. end.text.items ≡ text end.index)
 
--- what is kept at a place is the end of a line with these names
+-- what is kept at a slot is the end of a line with these names
 abbrev pub IsEnd : Names → Option LineEnd → Type 0
 IsEnd names = HasText (λ index. typed_end names (Some (record { 0 = index })))
 
--- what is kept at a place is the end of a line of an inlined call
+-- what is kept at a slot is the end of a line of an inlined call
 abbrev pub IsCallEnd : Names → Option LineEnd → Type 0
 IsCallEnd names = HasText (call_end names)
 
--- the end at a place, none where nothing is kept
+-- the end at a slot, none where nothing is kept
 abbrev pub end_in : Option LineEnd → List ℕ
 end_in None = []
 end_in (Some end) = end.text.items

@@ -5,11 +5,11 @@ use Rattle.pdb_tool.specs.LineViews.{names_of_lines}
 use Rattle.pdb_tool.specs.KeptEnds.{end_in}
 use Rattle.pdb_tool.specs.declared.kept_ends.KeptEnds.{KeptEnds}
 
--- the end at a place
+-- the end at a slot
 abbrev pub kept_text : KeptEnds → ℕ → List ℕ
 kept_text k n = end_in (get_or k.rows.items n None)
 
--- the end of a line of an inlined call at a place
+-- the end of a line of an inlined call at a slot
 abbrev pub kept_call : KeptEnds → ℕ → List ℕ
 kept_call k n = end_in (get_or k.calls.items n None)
 

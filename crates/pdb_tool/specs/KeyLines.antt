@@ -8,7 +8,7 @@ use Rattle.pdb_image.specs.Debug.{Reference}
 use Rattle.pdb_image.specs.Headers.{is_image}
 use Rattle.pdb_image.specs.Images.{Said, image_of}
 use Rattle.pdb_text.specs.OneLine.{one_line}
-use Rattle.pdb_tool.specs.Keys.{byte_text, key_of_file, key_text}
+use Rattle.pdb.specs.Keys.{byte_text, key_of_file, key_text}
 use Rattle.pdb_tool.specs.Objects.{json_line, text_value}
 use Rattle.pdb_tool.specs.Stops.{stop_of_opening}
 use Rattle.pdb_tool.specs.declared.options.Form.{Form}

@@ -1,9 +1,10 @@
 pub mod Asked
 pub mod Stops
-pub mod Keys
+pub mod WriteFailures
 pub mod KeyLines
 pub mod Options
 pub mod Operands
+pub mod EachFile
 pub mod Objects
 pub mod FrameObjects
 pub mod Questions

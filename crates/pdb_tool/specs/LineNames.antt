@@ -64,7 +64,7 @@ tables_of ids types header = record {
 abbrev pub names_by_tables : FileTables → (ℕ → Option ℕ) → Names
 names_by_tables t global = names_from t.ids t.types t.first global
 
--- a procedure of one of these kinds has an id in the place of its type
+-- a procedure of one of these kinds has an id instead of its type
 abbrev pub has_id : ℕ → Bool
 has_id kind = kind == 0x1146 || (kind == 0x1147 || kind == 0x1156)
 

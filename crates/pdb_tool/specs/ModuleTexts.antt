@@ -50,12 +50,12 @@ entry_text form several text file k None = none_of form k
 entry_text form several text file k (Some m) = line_if form several k m ++ told_of form k (module_info_in file m) (there_text (text k) (none_of form k))
 
 -- of the module of this index in a list
-abbrev pub place_in : Form → Bool → (ℕ → ModuleBytes → List ℕ) → List ℕ → Left ModuleEntry → ℕ → List ℕ
-place_in form several text file left k = told_of form k (item_at k left) (entry_text form several text file k)
+abbrev pub module_in : Form → Bool → (ℕ → ModuleBytes → List ℕ) → List ℕ → Left ModuleEntry → ℕ → List ℕ
+module_in form several text file left k = told_of form k (item_at k left) (entry_text form several text file k)
 
 -- and in that of the file
 abbrev pub place_text : Form → Bool → (ℕ → ModuleBytes → List ℕ) → List ℕ → ℕ → List ℕ
-place_text form several text file k = told_of form k (debug_information_in file >>= modules_in) (λ left. place_in form several text file left k)
+place_text form several text file k = told_of form k (debug_information_in file >>= modules_in) (λ left. module_in form several text file left k)
 
 -- of module k behind the line that names it; nothing where it has no stream
 abbrev pub headed_text : Form → List ℕ → (ℕ → ModuleBytes → List ℕ) → ℕ → Result (Option ModuleBytes) Error → List ℕ
@@ -103,13 +103,13 @@ abbrev pub are_several : List ℕ → Bool
 are_several ks = nat_lt 1 (length ks)
 
 -- of the modules of these numbers
-abbrev pub places_text : Form → (ℕ → ModuleBytes → List ℕ) → List ℕ → List ℕ → List ℕ
-places_text form text file ks = flat_map (place_text form (are_several ks) text file) ks
+abbrev pub indexed_text : Form → (ℕ → ModuleBytes → List ℕ) → List ℕ → List ℕ → List ℕ
+indexed_text form text file ks = flat_map (place_text form (are_several ks) text file) ks
 
 -- of all where there is no number
 abbrev pub modules_text : Form → (ℕ → ModuleBytes → List ℕ) → List ℕ → List ℕ → List ℕ
 modules_text form text file [] = all_text form text file
-modules_text form text file (k ∷ ks) = places_text form text file (k ∷ ks)
+modules_text form text file (k ∷ ks) = indexed_text form text file (k ∷ ks)
 
 -- ---- the commands
 
@@ -145,7 +145,7 @@ global_symbols_of file b = global_symbols_text (names_by_tables (file_tables fil
 
 abbrev pub symbols_command : List ℕ → List ℕ → List ℕ
 symbols_command file [] = told (global_symbols_in file) (global_symbols_of file)
-symbols_command file (k ∷ ks) = places_text Text (symbols_in file) file (k ∷ ks)
+symbols_command file (k ∷ ks) = indexed_text Text (symbols_in file) file (k ∷ ks)
 
 -- `symbols --all`: those of all modules
 abbrev pub all_symbols_command : List ℕ → List ℕ

@@ -9,11 +9,11 @@ use Rattle.pdb_tool.specs.declared.operands.Operand.{Operand as Named}
 
 -- an argument, and its index among all
 pub record WordAt : Type 0 where
-  pub place : ℕ
+  pub argument : ℕ
   pub word : List ℕ
 
 abbrev pub operand_view : Named → WordAt
-operand_view o = record { place = o.place; word = o.word.now }
+operand_view o = record { argument = o.argument; word = o.word.now }
 
 abbrev pub word_of : Named → List ℕ
 word_of o = o.word.now
@@ -37,7 +37,7 @@ behind_word Operand word = Operand
 abbrev pub operands_of : Next → List (List ℕ) → ℕ → List WordAt
 operands_of next [] p = []
 operands_of next (word ∷ words) p =
-    if is_operand next word then record { place = p; word = word } ∷ operands_of (behind_word next word) words (p + 1)
+    if is_operand next word then record { argument = p; word = word } ∷ operands_of (behind_word next word) words (p + 1)
     else operands_of (behind_word next word) words (p + 1)
 
 -- ---- operands that are all of one kind
@@ -50,12 +50,12 @@ with_first (Some x) (Err q) p = Err q
 
 abbrev pub all_in : {A : Type 0} → (List ℕ → Option A) → List WordAt → Result (List A) ℕ
 all_in of [] = Ok []
-all_in of (w ∷ ws) = with_first (of w.word) (all_in of ws) w.place
+all_in of (w ∷ ws) = with_first (of w.word) (all_in of ws) w.argument
 
 -- the index of the first operand that is empty
 abbrev pub first_empty : List WordAt → Option ℕ
 first_empty [] = None
-first_empty (w ∷ ws) = if bytes_eq w.word [] then Some w.place else first_empty ws
+first_empty (w ∷ ws) = if bytes_eq w.word [] then Some w.argument else first_empty ws
 
 -- ---- indices of types
 

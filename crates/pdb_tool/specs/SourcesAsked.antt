@@ -18,7 +18,7 @@ up_to first last = record { first = first; last = last }
 abbrev pub is_dash : ℕ → Bool
 is_dash b = b == 45
 
--- one line; or two with a dash between them, at a place
+-- one line; or two with a dash between them, at an offset
 abbrev pub stretch_by : List ℕ → Option ℕ → Option Stretch
 stretch_by word None = option_map (λ n. up_to n n) (long_number_in word)
 stretch_by word (Some at) = option_and_then (λ first. option_map (up_to first) (long_number_in (drop (at + 1) word))) (long_number_in (take at word))
@@ -26,7 +26,7 @@ stretch_by word (Some at) = option_and_then (λ first. option_map (up_to first) 
 unfoldable pub stretch_in : List ℕ → Option Stretch
 stretch_in word = stretch_by word (position is_dash word)
 
--- one more than a place, where there is one
+-- one more than an offset, where there is one
 abbrev pub further : Option ℕ → Option ℕ
 further o = option_map (λ k. k + 1) o
 
@@ -35,7 +35,7 @@ abbrev pub last_colon : List ℕ → Option ℕ
 last_colon [] = None
 last_colon (b ∷ word) = option_or (further (last_colon word)) (if b == 58 then Some 0 else None)
 
--- a place, and the lines that a word names behind the byte there
+-- an offset, and the lines that a word names behind the byte there
 abbrev pub lines_at : List ℕ → Option ℕ → Option (ℕ × Stretch)
 lines_at word None = None
 lines_at word (Some at) = option_map (λ lines. (at, lines)) (stretch_in (drop (at + 1) word))
@@ -65,7 +65,7 @@ folded b = if b == 92 then 47 else if nat_le 65 b && nat_le b 90 then b + 32 els
 abbrev pub folds : List ℕ → List ℕ
 folds bytes = map folded bytes
 
--- nothing stands before a place of a name, or it ends a folder's name
+-- nothing stands before an offset of a name, or it ends a folder's name
 abbrev pub begins_part : List ℕ → ℕ → Bool
 begins_part name k = k == 0 || folded (slice_index_or name (k - 1) 0) == 47
 

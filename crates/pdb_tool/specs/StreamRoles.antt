@@ -63,7 +63,7 @@ stream_number r = r.stream
 abbrev pub indexed : List ℕ → ℕ → List StreamRole
 indexed text n = if n == 65535 then [] else record { stream = n; what = text } ∷ []
 
--- those at one place in every file
+-- those of one index in every file
 abbrev pub fixed_roles : List StreamRole
 fixed_roles = indexed (known_text OldDirectory) 0 ++ indexed (known_text Information) 1 ++ indexed (known_text Types) 2 ++ indexed (known_text DebugInformation) 3 ++ indexed (known_text Ids) 4
 

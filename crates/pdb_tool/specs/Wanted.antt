@@ -9,7 +9,7 @@ use Rattle.pdb_image.specs.declared.error.ImageError.{ImageError}
 use Rattle.pdb_image.specs.Debug.{Reference}
 use Rattle.pdb_image.specs.Images.{Said, image_of}
 use Rattle.pdb_text.specs.Written.{WroteFront}
-use Rattle.pdb_tool.specs.Keys.{key_of_file, key_text}
+use Rattle.pdb.specs.Keys.{key_of_file, key_text}
 use Rattle.pdb_tool.specs.declared.stop.Stop.{Stop}
 use Rattle.pdb_tool.specs.declared.stop.Stop.TheVariants.{Image, NoPdb}
 

@@ -11,7 +11,7 @@ abbrev pub begins_with : ℕ → (List ℕ → Bool) → List ℕ → Bool
 begins_with p test [] = false
 begins_with p test (b ∷ name) = p == b && test name
 
--- the bytes from some place on pass a test
+-- the bytes from some offset on pass a test
 abbrev pub from_somewhere : (List ℕ → Bool) → List ℕ → Bool
 from_somewhere test [] = test []
 from_somewhere test (b ∷ name) = test (b ∷ name) || from_somewhere test name

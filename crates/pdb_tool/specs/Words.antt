@@ -1,5 +1,5 @@
 -- The command and the options that arguments name.
-use Rattle.std.specs.Prelude.{◌≡◌, ℕ, List, [], ◌∷◌, codes, take, drop, Bool, true, false, ◌||◌, Option, Some, None, Result, Ok, Err, if◌then◌else◌}
+use Rattle.std.specs.Prelude.{ℕ, List, [], ◌∷◌, codes, take, drop, Bool, true, false, ◌||◌, Option, Some, None, Result, Ok, Err, if◌then◌else◌}
 use Rattle.std.specs.Str.{bytes_eq}
 use Rattle.pdb_tool.specs.Options.{is_dashes, options_of, nothing_given}
 use Rattle.pdb_tool.specs.declared.options.Options.{Options}
@@ -7,8 +7,6 @@ use Rattle.pdb_tool.specs.declared.words.Topic.{Topic}
 use Rattle.pdb_tool.specs.declared.words.Topic.TheVariants.{Resolve, Lines, Scopes, Symbols, Key, Check, Find, Where, Sources, Modules, Sections, Streams, Types, Variables}
 use Rattle.pdb_tool.specs.declared.words.Request.{Request}
 use Rattle.pdb_tool.specs.declared.words.Request.TheVariants.{Help, ListHelp, Version, Run}
-use Rattle.pdb_tool.specs.declared.words.WordsError.{WordsError}
-use Rattle.pdb_tool.specs.declared.words.WordsError.TheVariants.{BadWord, OutOfMemory}
 
 -- the command of a name, among those that look things up or list them
 abbrev pub lookup_in : List ℕ → Option Topic
@@ -68,15 +66,15 @@ run_with topic (Ok options) = Ok (Run topic options)
 run_with topic (Err p) = Err p
 
 -- behind the name of a command
-abbrev pub front_of : Topic → List (List ℕ) → Result Request ℕ
-front_of topic [] = Err 1
-front_of topic (word ∷ rest) =
+abbrev pub behind_command : Topic → List (List ℕ) → Result Request ℕ
+behind_command topic [] = Err 1
+behind_command topic (word ∷ rest) =
     if bytes_eq word (codes "-h") || wants_help (word ∷ rest) then Ok (Help (Some topic))
     else run_with topic (options_of topic nothing_given (word ∷ rest) 1)
 
 abbrev pub command_of : Option Topic → List (List ℕ) → Result Request ℕ
 command_of None rest = Err 0
-command_of (Some topic) rest = front_of topic rest
+command_of (Some topic) rest = behind_command topic rest
 
 -- the request of arguments, or the index of the wrong one: their number where one is missing at the end
 abbrev pub request_in : List (List ℕ) → Result Request ℕ
@@ -86,12 +84,6 @@ request_in (word ∷ rest) =
     else if is_help word then alone (Help None) rest 1
     else if is_version word then alone Version rest 1
     else command_of (topic_in word) rest
-
--- a call returned the value of arguments, seen by view, or their error, or was out of memory
-abbrev pub Tells : {X Y : Type 0} → (X → Y) → Result X WordsError → Result Y ℕ → Type 0
-Tells view (Ok x) told = told ≡ Ok (view x)
-Tells view (Err (BadWord p)) told = told ≡ Err p
-Tells view (Err OutOfMemory) told = Unit {0}
 
 -- the file that an argument names: behind the option of an image, or the argument itself
 abbrev pub file_in_word : List ℕ → List ℕ

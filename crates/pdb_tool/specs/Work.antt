@@ -66,7 +66,7 @@ given make (Err p) = Err p
 -- a task behind whose file no operand stands
 abbrev pub ending : Task → List WordAt → Result Task ℕ
 ending t [] = Ok t
-ending t (w ∷ ws) = Err w.place
+ending t (w ∷ ws) = Err w.argument
 
 -- the options by which addresses are judged: an image that is still to be read has a load address
 abbrev pub with_image : Options → Option Wanted → Options

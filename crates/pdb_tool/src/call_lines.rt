@@ -1,5 +1,5 @@
-//! The lines of inlined calls in `symbols`: a tenth of the lines of a large program, and more of its text. Their records are
-//! read at their offsets.
+//! The lines of inlined calls in `symbols`: a tenth of the lines of a large program, and more of its text. Their
+//! records are read at their offsets.
 
 ghost use Rattle.std.specs.Prelude.{◌≡◌, ◌≢◌, ◌++◌, ◌≤◌, [], ◌∷◌, drop, flat_map, length, OnOk};
 ghost use Rattle.pdb.specs.Fields.{number};
@@ -15,8 +15,8 @@ use pdb_base::little_endian::u32_at;
 use pdb_text::hex8;
 use std::alloc::AllocError;
 
-/// What stands before the annotations: the record's index, the kind's name, the scope around the call, where its own ends,
-/// and its id.
+/// What stands before the annotations: the record's index, the kind's name, the scope around the call, where its own
+/// ends, and its id.
 #[inline(always)]
 #[tactic(auto, unfolding(pdb_text::specs::Digits::hex, crate::specs::FieldTexts::field, crate::specs::FieldTexts::label, crate::specs::CallLines::call_head))]
 fn call_head(index: u32, parent: u32, end: u32, id: u32) -> [u8; 94]
@@ -42,8 +42,8 @@ fn put_end(out: &mut Vec<u8>, kept: &mut KeptEnds<'_, '_>, id: u32) -> Result<()
     ensures names { kept_names kept.new ≡ kept_names kept.old }
     ensures text { OnOk result (out.new.items ≡ out.old.items ++ call_end (kept_names kept.old) id) }
 {
-    let place = kept.keep_call(id)?;
-    out.extend_from_slice(kept.call_at(place))
+    let slot = kept.keep_call(id)?;
+    out.extend_from_slice(kept.call_at(slot))
 }
 
 /// The line behind its blanks of a record of the kind 0x114d with these bytes, of a call in a scope.

@@ -8,11 +8,12 @@ ghost use Rattle.pdb.specs.ModuleStream.{exports_of, imports_of, inlinees_of, sy
 ghost use Rattle.pdb.specs.Views.{symbol_of, symbols_left};
 ghost use Rattle.pdb_tool.specs.Checks.{ended_by, files_of_module, items_of, lines_of_module, refused};
 ghost use Rattle.pdb_tool.specs.CheckTexts.{at_index, fault_text, lines_text, others_text, parts_text, site_text, symbol_text, symbols_text};
+ghost use Rattle.pdb_tool.specs.Stops.{StopsComposing};
 ghost use Rattle.pdb_tool.specs.declared.stop.Stop.{Stop};
 
 use crate::findings::{put_damage_at, put_end, put_refusal, put_refused_record};
-use crate::fronts::Front;
 use crate::stop::Stop;
+use crate::subject::Subject;
 use pdb::{
     FallibleIterator, InlineSiteSymbol, ModuleInfo, Symbol, SymbolData, SymbolIndex, SymbolIter,
 };
@@ -22,15 +23,15 @@ use std::alloc::{AllocError, Global};
 fn put_site(
     alloc: Global,
     out: &mut Vec<u8>,
-    front: &Front<'_>,
+    subject: &Subject<'_>,
     index: SymbolIndex,
     site: &InlineSiteSymbol<'_>,
 ) -> Result<(), AllocError>
-    ensures { OnOk result (out.new.items ≡ out.old.items ++ fault_text front.now (at_index (codes " site ") index.0) (annotations_of (annotation_bytes site.now.annotations)).fault) }
+    ensures { OnOk result (out.new.items ≡ out.old.items ++ fault_text subject.now (at_index (codes " site ") index.0) (annotations_of (annotation_bytes site.now.annotations)).fault) }
 {
     match site.annotations.iter().count() {
         Ok(_) => Ok(()),
-        Err(e) => put_damage_at(alloc, out, front, b" site ", index.0, e),
+        Err(e) => put_damage_at(alloc, out, subject, b" site ", index.0, e),
     }
 }
 
@@ -38,33 +39,33 @@ fn put_site(
 fn put_site_of(
     alloc: Global,
     out: &mut Vec<u8>,
-    front: &Front<'_>,
+    subject: &Subject<'_>,
     index: SymbolIndex,
     parsed: &SymbolData<'_>,
 ) -> Result<(), AllocError>
-    ensures { OnOk result (out.new.items ≡ out.old.items ++ site_text front.now index.0 (Ok (shown parsed.now))) }
+    ensures { OnOk result (out.new.items ≡ out.old.items ++ site_text subject.now index.0 (Ok (shown parsed.now))) }
 {
     match parsed {
-        SymbolData::InlineSite(site) => put_site(alloc, out, front, index, site),
+        SymbolData::InlineSite(site) => put_site(alloc, out, subject, index, site),
         _ => Ok(()),
     }
 }
 
-/// The line of a symbol whose record is refused, or of a site whose annotations have a fault.
+/// The line of a symbol whose record has an error, or of a site whose annotations have a fault.
 #[tactic(auto, unfolding(crate::specs::CheckTexts::symbol_text))]
 fn put_symbol(
     alloc: Global,
     out: &mut Vec<u8>,
-    front: &Front<'_>,
+    subject: &Subject<'_>,
     symbol: &Symbol<'_>,
 ) -> Result<(), Stop>
-    ensures text { OnOk result (out.new.items ≡ out.old.items ++ symbol_text front.now (symbol_of symbol.now)) }
-    ensures unwritten { IfErr result (λ e. (e ≡ Stop.Memory) ⊎ (e ≡ Stop.Read)) }
+    ensures text { OnOk result (out.new.items ≡ out.old.items ++ symbol_text subject.now (symbol_of symbol.now)) }
+    ensures unwritten { IfErr result (StopsComposing ⊥) }
 {
     let index = symbol.index();
     match symbol.parse(alloc) {
-        Ok(parsed) => Ok(put_site_of(alloc, out, front, index, &parsed)?),
-        Err(e) => put_refused_record(alloc, out, front, b" symbol ", index, e),
+        Ok(parsed) => Ok(put_site_of(alloc, out, subject, index, &parsed)?),
+        Err(e) => put_refused_record(alloc, out, subject, b" symbol ", index, e),
     }
 }
 
@@ -72,15 +73,15 @@ fn put_symbol(
 fn put_records(
     alloc: Global,
     out: &mut Vec<u8>,
-    front: &Front<'_>,
+    subject: &Subject<'_>,
     mut symbols: SymbolIter<'_>,
 ) -> Result<(), Stop>
-    ensures unwritten { IfErr result (λ e. (e ≡ Stop.Memory) ⊎ (e ≡ Stop.Read)) }
-    ensures text { OnOk result (out.new.items ≡ out.old.items ++ flat_map (symbol_text front.now) (symbols_left symbols.entry).items) }
+    ensures unwritten { IfErr result (StopsComposing ⊥) }
+    ensures text { OnOk result (out.new.items ≡ out.old.items ++ flat_map (symbol_text subject.now) (symbols_left symbols.entry).items) }
 {
     loop {
         match symbols.next() {
-            Ok(Some(symbol)) => put_symbol(alloc, out, front, &symbol)?,
+            Ok(Some(symbol)) => put_symbol(alloc, out, subject, &symbol)?,
             Ok(None) => return Ok(()),
             Err(_) => return Ok(()),
         }
@@ -88,13 +89,17 @@ fn put_records(
 }
 
 /// The line of the list of symbols.
-fn put_symbol_list(out: &mut Vec<u8>, front: &Front<'_>, info: &ModuleInfo<'_>) -> Result<(), Stop>
-    ensures text { OnOk result (out.new.items ≡ out.old.items ++ fault_text front.now (codes " symbols") (ended_by (symbols_of info.now))) }
-    ensures unwritten { IfErr result (λ e. (e ≡ Stop.Memory) ⊎ (e ≡ Stop.Read)) }
+fn put_symbol_list(
+    out: &mut Vec<u8>,
+    subject: &Subject<'_>,
+    info: &ModuleInfo<'_>,
+) -> Result<(), Stop>
+    ensures text { OnOk result (out.new.items ≡ out.old.items ++ fault_text subject.now (codes " symbols") (ended_by (symbols_of info.now))) }
+    ensures unwritten { IfErr result (StopsComposing ⊥) }
 {
     match info.symbols() {
-        Ok(symbols) => Ok(put_end(out, front, b" symbols", symbols)?),
-        Err(e) => put_refusal(out, front, b" symbols", e),
+        Ok(symbols) => Ok(put_end(out, subject, b" symbols", symbols)?),
+        Err(e) => put_refusal(out, subject, b" symbols", e),
     }
 }
 
@@ -103,15 +108,15 @@ fn put_symbol_list(out: &mut Vec<u8>, front: &Front<'_>, info: &ModuleInfo<'_>) 
 fn put_symbols(
     alloc: Global,
     out: &mut Vec<u8>,
-    front: &Front<'_>,
+    subject: &Subject<'_>,
     info: &ModuleInfo<'_>,
 ) -> Result<(), Stop>
-    ensures text { OnOk result (out.new.items ≡ out.old.items ++ symbols_text front.now info.now) }
-    ensures unwritten { IfErr result (λ e. (e ≡ Stop.Memory) ⊎ (e ≡ Stop.Read)) }
+    ensures text { OnOk result (out.new.items ≡ out.old.items ++ symbols_text subject.now info.now) }
+    ensures unwritten { IfErr result (StopsComposing ⊥) }
 {
-    put_symbol_list(out, front, info)?;
+    put_symbol_list(out, subject, info)?;
     match info.symbols() {
-        Ok(symbols) => put_records(alloc, out, front, symbols),
+        Ok(symbols) => put_records(alloc, out, subject, symbols),
         Err(_) => Ok(()),
     }
 }
@@ -121,20 +126,20 @@ fn put_symbols(
 fn put_lines(
     alloc: Global,
     out: &mut Vec<u8>,
-    front: &Front<'_>,
+    subject: &Subject<'_>,
     info: &ModuleInfo<'_>,
 ) -> Result<(), Stop>
-    ensures text { OnOk result (out.new.items ≡ out.old.items ++ lines_text front.now info.now) }
-    ensures unwritten { IfErr result (λ e. (e ≡ Stop.Memory) ⊎ (e ≡ Stop.Read)) }
+    ensures text { OnOk result (out.new.items ≡ out.old.items ++ lines_text subject.now info.now) }
+    ensures unwritten { IfErr result (StopsComposing ⊥) }
 {
     match info.line_program(alloc) {
         Ok(program) => {
-            put_end(out, front, b" lines", program.lines())?;
-            Ok(put_end(out, front, b" files", program.files())?)
+            put_end(out, subject, b" lines", program.lines())?;
+            Ok(put_end(out, subject, b" files", program.files())?)
         }
         Err(e) => {
-            put_refusal(out, front, b" lines", e)?;
-            put_refusal(out, front, b" files", e)
+            put_refusal(out, subject, b" lines", e)?;
+            put_refusal(out, subject, b" files", e)
         }
     }
 }
@@ -142,16 +147,16 @@ fn put_lines(
 /// The line of the inlined functions.
 fn put_inlinees(
     out: &mut Vec<u8>,
-    front: &Front<'_>,
-    place: &[u8],
+    subject: &Subject<'_>,
+    label: &[u8],
     info: &ModuleInfo<'_>,
 ) -> Result<(), Stop>
-    ensures text { OnOk result (out.new.items ≡ out.old.items ++ fault_text front.now place.now (ended_by (inlinees_of info.now))) }
-    ensures unwritten { IfErr result (λ e. (e ≡ Stop.Memory) ⊎ (e ≡ Stop.Read)) }
+    ensures text { OnOk result (out.new.items ≡ out.old.items ++ fault_text subject.now label.now (ended_by (inlinees_of info.now))) }
+    ensures unwritten { IfErr result (StopsComposing ⊥) }
 {
     match info.inlinees() {
-        Ok(inlinees) => Ok(put_end(out, front, place, inlinees)?),
-        Err(e) => put_refusal(out, front, place, e),
+        Ok(inlinees) => Ok(put_end(out, subject, label, inlinees)?),
+        Err(e) => put_refusal(out, subject, label, e),
     }
 }
 
@@ -159,16 +164,16 @@ fn put_inlinees(
 fn put_imports(
     alloc: Global,
     out: &mut Vec<u8>,
-    front: &Front<'_>,
-    place: &[u8],
+    subject: &Subject<'_>,
+    label: &[u8],
     info: &ModuleInfo<'_>,
 ) -> Result<(), Stop>
-    ensures text { OnOk result (out.new.items ≡ out.old.items ++ fault_text front.now place.now (refused (imports_of info.now))) }
-    ensures unwritten { IfErr result (λ e. (e ≡ Stop.Memory) ⊎ (e ≡ Stop.Read)) }
+    ensures text { OnOk result (out.new.items ≡ out.old.items ++ fault_text subject.now label.now (refused (imports_of info.now))) }
+    ensures unwritten { IfErr result (StopsComposing ⊥) }
 {
     match info.imports(alloc) {
         Ok(_imports) => Ok(()),
-        Err(e) => put_refusal(out, front, place, e),
+        Err(e) => put_refusal(out, subject, label, e),
     }
 }
 
@@ -176,16 +181,16 @@ fn put_imports(
 fn put_exports(
     alloc: Global,
     out: &mut Vec<u8>,
-    front: &Front<'_>,
-    place: &[u8],
+    subject: &Subject<'_>,
+    label: &[u8],
     info: &ModuleInfo<'_>,
 ) -> Result<(), Stop>
-    ensures text { OnOk result (out.new.items ≡ out.old.items ++ fault_text front.now place.now (refused (exports_of info.now))) }
-    ensures unwritten { IfErr result (λ e. (e ≡ Stop.Memory) ⊎ (e ≡ Stop.Read)) }
+    ensures text { OnOk result (out.new.items ≡ out.old.items ++ fault_text subject.now label.now (refused (exports_of info.now))) }
+    ensures unwritten { IfErr result (StopsComposing ⊥) }
 {
     match info.exports(alloc) {
         Ok(_exports) => Ok(()),
-        Err(e) => put_refusal(out, front, place, e),
+        Err(e) => put_refusal(out, subject, label, e),
     }
 }
 
@@ -194,28 +199,28 @@ fn put_exports(
 fn put_others(
     alloc: Global,
     out: &mut Vec<u8>,
-    front: &Front<'_>,
+    subject: &Subject<'_>,
     info: &ModuleInfo<'_>,
 ) -> Result<(), Stop>
-    ensures text { OnOk result (out.new.items ≡ out.old.items ++ others_text front.now info.now) }
-    ensures unwritten { IfErr result (λ e. (e ≡ Stop.Memory) ⊎ (e ≡ Stop.Read)) }
+    ensures text { OnOk result (out.new.items ≡ out.old.items ++ others_text subject.now info.now) }
+    ensures unwritten { IfErr result (StopsComposing ⊥) }
 {
-    put_inlinees(out, front, b" inlined functions", info)?;
-    put_imports(alloc, out, front, b" imports", info)?;
-    put_exports(alloc, out, front, b" exports", info)
+    put_inlinees(out, subject, b" inlined functions", info)?;
+    put_imports(alloc, out, subject, b" imports", info)?;
+    put_exports(alloc, out, subject, b" exports", info)
 }
 
 /// The lines of what is wrong with a module that has a stream, behind what each of them begins with.
 pub fn put_parts(
     alloc: Global,
     out: &mut Vec<u8>,
-    front: &Front<'_>,
+    subject: &Subject<'_>,
     info: &ModuleInfo<'_>,
 ) -> Result<(), Stop>
-    ensures text { OnOk result (out.new.items ≡ out.old.items ++ parts_text front.now info.now) }
-    ensures unwritten { IfErr result (λ e. (e ≡ Stop.Memory) ⊎ (e ≡ Stop.Read)) }
+    ensures text { OnOk result (out.new.items ≡ out.old.items ++ parts_text subject.now info.now) }
+    ensures unwritten { IfErr result (StopsComposing ⊥) }
 {
-    put_symbols(alloc, out, front, info)?;
-    put_lines(alloc, out, front, info)?;
-    put_others(alloc, out, front, info)
+    put_symbols(alloc, out, subject, info)?;
+    put_lines(alloc, out, subject, info)?;
+    put_others(alloc, out, subject, info)
 }

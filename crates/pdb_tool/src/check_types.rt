@@ -3,17 +3,18 @@
 ghost use Rattle.std.specs.Prelude.{◌≡◌, ◌++◌, ◌⊎◌, flat_map, None, OnOk, IfErr};
 ghost use Rattle.std.specs.Option.{option_map};
 ghost use Rattle.pdb.specs.Container.{stream_of};
-ghost use Rattle.pdb.specs.Source.{Continues};
+ghost use Rattle.pdb.specs.Source.{Continues, MayFail};
 ghost use Rattle.pdb_items.specs.ItemViews.{item_of, items_left};
 ghost use Rattle.pdb_types.specs.TypeReading.{shown_tag};
 ghost use Rattle.pdb_tool.specs.Checks.{members_ended_by};
 ghost use Rattle.pdb_tool.specs.CheckTexts.{listed_types_text, type_text, type_texts};
+ghost use Rattle.pdb_tool.specs.Stops.{StopsComposing};
 ghost use Rattle.pdb_tool.specs.declared.stop.Stop.{Stop};
 
 use crate::check_file::put_items_refusal;
 use crate::findings::{put_damage_at, put_list};
-use crate::fronts::Front;
 use crate::stop::{Stop, stop_of};
+use crate::subject::Subject;
 use crate::type_lines::{said_of, tag_said};
 use pdb::{Error, FallibleIterator, Item, ItemIter, PDB, Source, TypeInformation};
 use pdb_resolve::types_of;
@@ -34,14 +35,14 @@ fn members_ended_by(faults: &MemberFaults<'_, '_>, tag: &Option<Tag<'_>>) -> Opt
 fn put_type(
     alloc: Global,
     out: &mut Vec<u8>,
-    front: &Front<'_>,
+    subject: &Subject<'_>,
     faults: &MemberFaults<'_, '_>,
     item: &Item<'_>,
 ) -> Result<(), AllocError>
-    ensures { OnOk result (out.new.items ≡ out.old.items ++ type_text front.now faults.now (item_of item.now)) }
+    ensures { OnOk result (out.new.items ≡ out.old.items ++ type_text subject.now faults.now (item_of item.now)) }
 {
     match members_ended_by(faults, &tag_said(&said_of(item))) {
-        Some(e) => put_damage_at(alloc, out, front, b"type ", item.index(), e),
+        Some(e) => put_damage_at(alloc, out, subject, b"type ", item.index(), e),
         None => Ok(()),
     }
 }
@@ -50,15 +51,15 @@ fn put_type(
 fn put_each(
     alloc: Global,
     out: &mut Vec<u8>,
-    front: &Front<'_>,
+    subject: &Subject<'_>,
     faults: &MemberFaults<'_, '_>,
     mut items: ItemIter<'_>,
 ) -> Result<(), AllocError>
-    ensures { OnOk result (out.new.items ≡ out.old.items ++ flat_map (type_text front.now faults.now) (items_left items.entry).items) }
+    ensures { OnOk result (out.new.items ≡ out.old.items ++ flat_map (type_text subject.now faults.now) (items_left items.entry).items) }
 {
     loop {
         match items.next() {
-            Ok(Some(item)) => put_type(alloc, out, front, faults, &item)?,
+            Ok(Some(item)) => put_type(alloc, out, subject, faults, &item)?,
             Ok(None) => return Ok(()),
             Err(_) => return Ok(()),
         }
@@ -70,18 +71,18 @@ fn put_each(
 fn put_members(
     alloc: Global,
     out: &mut Vec<u8>,
-    front: &Front<'_>,
+    subject: &Subject<'_>,
     information: &TypeInformation<'_>,
 ) -> Result<(), Stop>
-    ensures text { OnOk result (out.new.items ≡ out.old.items ++ type_texts front.now information.now) }
-    ensures unwritten { IfErr result (λ e. (e ≡ Stop.Memory) ⊎ (e ≡ Stop.Read)) }
+    ensures text { OnOk result (out.new.items ≡ out.old.items ++ type_texts subject.now information.now) }
+    ensures unwritten { IfErr result (StopsComposing ⊥) }
 {
     let types = types_of(alloc, Some(information)).map_err(stop_of)?;
     let (Ok(listed), Ok(items)) = (information.iter(), information.iter()) else {
         return Ok(());
     };
     let faults = MemberFaults::of_types(alloc, &types, listed)?;
-    Ok(put_each(alloc, out, front, &faults, items)?)
+    Ok(put_each(alloc, out, subject, &faults, items)?)
 }
 
 /// The line of the types, and those of their members.
@@ -89,18 +90,18 @@ pub(crate) fn put_types<'s, S: Source<'s>>(
     alloc: Global,
     pdb: &mut PDB<'s, S>,
     out: &mut Vec<u8>,
-    front: &Front<'_>,
-    place: &[u8],
+    subject: &Subject<'_>,
+    label: &[u8],
 ) -> Result<(), Stop>
     ensures continues { Continues pdb.old pdb.new }
-    ensures text { OnOk result (out.new.items ≡ out.old.items ++ listed_types_text front.now place.now (stream_of pdb.old.file 2 None)) }
-    ensures unwritten { IfErr result (λ e. (e ≡ Stop.Memory) ⊎ (e ≡ Stop.Read)) }
+    ensures text { OnOk result (out.new.items ≡ out.old.items ++ listed_types_text subject.now label.now (stream_of pdb.old.file 2 None)) }
+    ensures unwritten { IfErr result (StopsComposing (MayFail pdb.old pdb.new)) }
 {
     match pdb.type_information() {
         Ok(types) => {
-            put_list(out, front, place, types.iter())?;
-            put_members(alloc, out, front, &types)
+            put_list(out, subject, label, types.iter())?;
+            put_members(alloc, out, subject, &types)
         }
-        Err(e) => put_items_refusal(out, front, place, e),
+        Err(e) => put_items_refusal(out, subject, label, e),
     }
 }

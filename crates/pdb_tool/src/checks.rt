@@ -1,30 +1,29 @@
 //! What is wrong with a file, or that nothing is.
 
-ghost use Rattle.std.specs.Prelude.{◌≡◌, ◌≢◌, ◌++◌, ◌⊎◌, [], codes, Ok, Err, OnOk, OnErr, IfOk, IfErr, IsErrOf};
+ghost use Rattle.std.specs.Prelude.{◌≡◌, ◌≢◌, ◌++◌, ◌⊎◌, [], codes, Ok, Err, OnOk, IfOk, IfErr, IsErrOf};
 ghost use Rattle.std.specs.Fmt.{decimal};
-ghost use Rattle.std.specs.Io.KnownBytes.{Appends};
 ghost use Rattle.pdb.specs.Container.{opens};
 ghost use Rattle.pdb.specs.DbiViews.{modules_left, modules_steps};
 ghost use Rattle.pdb.specs.Error.{Error};
-ghost use Rattle.pdb.specs.Source.{Continues};
-ghost use Rattle.pdb_text.specs.Written.{WroteFront};
+ghost use Rattle.pdb.specs.Source.{Continues, MayFail};
 ghost use Rattle.pdb_tool.specs.Checks.{items_of, modules_of_file};
 ghost use Rattle.pdb_tool.specs.CheckTexts.{check_text, findings_text, is_nothing, module_text, modules_text, stream_text};
+ghost use Rattle.pdb_tool.specs.Stops.{StopsComposing, StopsOpening};
 ghost use Rattle.pdb_tool.specs.declared.stop.Stop.{Stop};
 
-use crate::check_front::put_front;
 use crate::check_module::put_parts;
+use crate::check_streams::put_streams_of;
+use crate::each_file::Printed;
 use crate::findings::put_refusal;
-use crate::fronts::{Front, put_sound_in};
 use crate::opening::opened;
 use crate::options::Form;
 use crate::stop::Stop;
+use crate::subject::{Subject, put_sound_in};
 use pdb::{Error, FallibleIterator, MemorySource, Module, ModuleInfo, ModuleIter, PDB, Source};
-use pdb_text::{put_decimal, write_out};
+use pdb_text::put_decimal;
 use std::alloc::{AllocError, Global};
-use std::io::Write;
 
-/// How the places of the module of a number begin.
+/// How the labels of the module of a number begin.
 fn module_part(alloc: Global, k: u64) -> Result<Vec<u8>, AllocError>
     ensures { IfOk result (λ v. v.items ≡ codes "module " ++ decimal k) }
 {
@@ -38,17 +37,17 @@ fn module_part(alloc: Global, k: u64) -> Result<Vec<u8>, AllocError>
 fn put_stream(
     alloc: Global,
     out: &mut Vec<u8>,
-    front: &Front<'_>,
+    subject: &Subject<'_>,
     found: pdb::Result<Option<ModuleInfo<'_>>>,
 ) -> Result<(), Stop>
-    ensures ok { IfOk found.entry (λ m. OnOk result (out.new.items ≡ out.old.items ++ stream_text front.now (Ok m))) }
-    ensures err { IfErr found.entry (λ e. OnOk result ((e ≢ Error.OutOfMemory) × (e ≢ Error.IoError) × (out.new.items ≡ out.old.items ++ stream_text front.now (Err e)))) }
-    ensures unwritten { IfErr result (λ e. (e ≡ Stop.Memory) ⊎ (e ≡ Stop.Read)) }
+    ensures ok { IfOk found.entry (λ m. OnOk result (out.new.items ≡ out.old.items ++ stream_text subject.now (Ok m))) }
+    ensures err { IfErr found.entry (λ e. OnOk result ((e ≢ Error.OutOfMemory) × (e ≢ Error.IoError) × (out.new.items ≡ out.old.items ++ stream_text subject.now (Err e)))) }
+    ensures unwritten { IfErr result (StopsComposing (IsErrOf found.entry Error.IoError)) }
 {
     match found {
-        Ok(Some(info)) => put_parts(alloc, out, front, &info),
+        Ok(Some(info)) => put_parts(alloc, out, subject, &info),
         Ok(None) => Ok(()),
-        Err(e) => put_refusal(out, front, b"", e),
+        Err(e) => put_refusal(out, subject, b"", e),
     }
 }
 
@@ -65,12 +64,12 @@ fn put_module<'s, S: Source<'s>>(
 ) -> Result<(), Stop>
     ensures continues { Continues pdb.old pdb.new }
     ensures text { OnOk result (out.new.items ≡ out.old.items ++ module_text form name.now pdb.old.file k «module».now) }
-    ensures unwritten { IfErr result (λ e. (e ≡ Stop.Memory) ⊎ (e ≡ Stop.Read)) }
+    ensures unwritten { IfErr result (StopsComposing (MayFail pdb.old pdb.new)) }
 {
     let part = module_part(alloc, k)?;
-    let front = Front::new(form, name, &part);
+    let subject = Subject::new(form, name, &part);
     let found = pdb.module_info(module);
-    put_stream(alloc, out, &front, found)
+    put_stream(alloc, out, &subject, found)
 }
 
 /// The lines of the modules of a list, from its start.
@@ -85,7 +84,7 @@ fn put_listed<'s, S: Source<'s>>(
     requires { modules_steps modules ≡ 0 }
     ensures continues { Continues pdb.old pdb.new }
     ensures text { OnOk result (out.new.items ≡ out.old.items ++ modules_text form name.now pdb.old.file 0 (modules_left modules.entry).items) }
-    ensures unwritten { IfErr result (λ e. (e ≡ Stop.Memory) ⊎ (e ≡ Stop.Read)) }
+    ensures unwritten { IfErr result (StopsComposing (MayFail pdb.old pdb.new)) }
 {
     let mut k = 0;
     loop {
@@ -98,7 +97,7 @@ fn put_listed<'s, S: Source<'s>>(
     }
 }
 
-/// The lines of the modules of a file; none where their list is refused.
+/// The lines of the modules of a file; none where their list has an error.
 #[tactic(auto, unfolding(crate::specs::Checks::modules_of_file))]
 fn put_modules<'s, S: Source<'s>>(
     alloc: Global,
@@ -109,7 +108,7 @@ fn put_modules<'s, S: Source<'s>>(
 ) -> Result<(), Stop>
     ensures continues { Continues pdb.old pdb.new }
     ensures text { OnOk result (out.new.items ≡ out.old.items ++ modules_text form name.now pdb.old.file 0 (items_of (modules_of_file pdb.old.file))) }
-    ensures unwritten { IfErr result (λ e. (e ≡ Stop.Memory) ⊎ (e ≡ Stop.Read)) }
+    ensures unwritten { IfErr result (StopsComposing (MayFail pdb.old pdb.new)) }
 {
     let stream = match pdb.debug_information() {
         Ok(stream) => stream,
@@ -134,68 +133,41 @@ fn put_findings<'s, S: Source<'s>>(
 ) -> Result<(), Stop>
     ensures continues { Continues pdb.old pdb.new }
     ensures text { OnOk result (out.new.items ≡ out.old.items ++ findings_text form name.now pdb.old.file) }
-    ensures unwritten { IfErr result (λ e. (e ≡ Stop.Memory) ⊎ (e ≡ Stop.Read)) }
+    ensures unwritten { IfErr result (StopsComposing (MayFail pdb.old pdb.new)) }
 {
-    let front = Front::new(form, name, b"");
-    put_front(alloc, pdb, out, &front)?;
+    let subject = Subject::new(form, name, b"");
+    put_streams_of(alloc, pdb, out, &subject)?;
     put_modules(alloc, pdb, out, form, name)
 }
 
-/// The text of an opened file; answers whether nothing is wrong.
-fn put_check<'s, S: Source<'s>>(
-    alloc: Global,
-    pdb: &mut PDB<'s, S>,
-    out: &mut Vec<u8>,
-    form: Form,
-    name: &[u8],
-) -> Result<bool, Stop>
-    requires { out.now.items ≡ [] }
-    ensures text { OnOk result (out.new.items ≡ check_text form name.now pdb.old.file) }
-    ensures well { IfOk result (λ well. well ≡ is_nothing (findings_text form name.now pdb.old.file)) }
-    ensures unwritten { IfErr result (λ e. (e ≡ Stop.Memory) ⊎ (e ≡ Stop.Read)) }
-{
-    put_findings(alloc, pdb, out, form, name)?;
-    let well = out.is_empty();
-    if well {
-        put_sound_in(out, form, name)?;
-    }
-    Ok(well)
-}
-
-/// Writes what is wrong with an opened file, or that nothing is; answers whether nothing is.
-fn write_opened<'s, S: Source<'s>, W: Write>(
+/// What is printed of an opened file: what is wrong with it, or that nothing is.
+fn check_of_opened<'s, S: Source<'s>>(
     alloc: Global,
     pdb: &mut PDB<'s, S>,
     form: Form,
     name: &[u8],
-    out: &mut W,
-) -> Result<bool, Stop>
-    ensures opened { (e : Error) → IsErrOf result (Stop.Open e) → ⊥ }
-    ensures ok { OnOk result (Appends (W.contents out.old) (W.contents out.new) (check_text form name.now pdb.old.file)) }
-    ensures well { IfOk result (λ well. well ≡ is_nothing (findings_text form name.now pdb.old.file)) }
-    ensures front { OnErr result (WroteFront (W.contents out.old) (W.contents out.new) (check_text form name.now pdb.old.file)) }
+) -> Result<Printed, Stop>
+    ensures text { IfOk result (λ p. p.text.items ≡ check_text form name.now pdb.old.file) }
+    ensures well { IfOk result (λ p. p.is_well ≡ is_nothing (findings_text form name.now pdb.old.file)) }
+    ensures unwritten { IfErr result (StopsComposing (MayFail pdb.old pdb.new)) }
 {
     let mut text = Vec::new(alloc);
-    let well = put_check(alloc, pdb, &mut text, form, name)?;
-    write_out(out, &text)?;
-    Ok(well)
+    put_findings(alloc, pdb, &mut text, form, name)?;
+    let is_well = text.is_empty();
+    if is_well {
+        put_sound_in(&mut text, form, name)?;
+    }
+    Ok(Printed { text, is_well })
 }
 
-/// Writes what is wrong with a file of this name, or that nothing is; answers whether nothing is.
-#[tactic(auto, using(pdb_text::proofs::Written::any_err, crate::proofs::AnsweredLines::front_none))]
-pub fn write_check<W: Write>(
-    alloc: Global,
-    bytes: &[u8],
-    form: Form,
-    name: &[u8],
-    out: &mut W,
-) -> Result<bool, Stop>
+/// What is printed of a file of this name: what is wrong with it, or that nothing is.
+pub fn check_of(alloc: Global, bytes: &[u8], form: Form, name: &[u8]) -> Result<Printed, Stop>
     ensures opened { OnOk result (opens bytes.now ≡ Ok tt) }
-    ensures ok { OnOk result (Appends (W.contents out.old) (W.contents out.new) (check_text form name.now bytes.now)) }
-    ensures well { IfOk result (λ well. well ≡ is_nothing (findings_text form name.now bytes.now)) }
+    ensures text { IfOk result (λ p. p.text.items ≡ check_text form name.now bytes.now) }
+    ensures well { IfOk result (λ p. p.is_well ≡ is_nothing (findings_text form name.now bytes.now)) }
     ensures refused { (e : Error) → IsErrOf result (Stop.Open e) → opens bytes.now ≡ Err e }
-    ensures front { OnErr result (WroteFront (W.contents out.old) (W.contents out.new) (check_text form name.now bytes.now)) }
+    ensures stops { IfErr result (StopsOpening ⊥) }
 {
     let mut pdb = opened(alloc, MemorySource::new(bytes))?;
-    write_opened(alloc, &mut pdb, form, name, out)
+    check_of_opened(alloc, &mut pdb, form, name)
 }

@@ -1,11 +1,11 @@
 //! The commands that go over a file's modules.
 
-ghost use Rattle.std.specs.Prelude.{◌≡◌, ◌++◌, ◌⊎◌, [], true, flat_map, map, option_copied, None, Ok, Err, IfOk, IfErr, OnOk, OnErr, IsErrOf};
+ghost use Rattle.std.specs.Prelude.{◌≡◌, ◌++◌, [], true, false, flat_map, map, option_copied, None, Ok, Err, IfOk, IfErr, OnOk, OnErr, IsErrOf};
 ghost use Rattle.std.specs.Io.KnownBytes.{Appends};
 ghost use Rattle.pdb.specs.Container.{opens, stream_of};
 ghost use Rattle.pdb.specs.Error.{Error};
 ghost use Rattle.pdb.specs.Answers.{global_symbols_in, string_table_in};
-ghost use Rattle.pdb.specs.Source.{Continues};
+ghost use Rattle.pdb.specs.Source.{Continues, MayFail};
 ghost use Rattle.pdb_resolve.specs.AsIfEmpty.{if_read};
 ghost use Rattle.pdb_resolve.specs.FileParts.{items_where};
 ghost use Rattle.pdb_resolve.specs.ImportTables.{ids_by};
@@ -17,12 +17,14 @@ ghost use Rattle.pdb_tool.specs.LineTexts.{lines_text};
 ghost use Rattle.pdb_tool.specs.LineViews.{names_of_lines};
 ghost use Rattle.pdb_tool.specs.SymbolTexts.{global_symbols_text};
 ghost use Rattle.pdb_tool.specs.ModuleTexts.{all_symbols_command, in_file, lines_command, modules_text, no_imports, place_text, scopes_command, symbols_command};
+ghost use Rattle.pdb_tool.specs.Stops.{StopsCommand, StopsComposing, StopsWriting};
+ghost use Rattle.pdb_tool.specs.WriteFailures.{failures_after};
 ghost use Rattle.pdb_tool.specs.declared.stop.Stop.{Stop};
 
 use crate::line_names::LineNames;
 use crate::line_texts::put_lines;
 use crate::module_machine::machine_of_file;
-use crate::module_texts::{ModuleText, write_all, write_places, write_refused};
+use crate::module_texts::{ModuleText, write_all, write_indexed, write_refused};
 use crate::opening::opened;
 use crate::options::Form;
 use crate::scope_texts::put_scopes;
@@ -34,10 +36,9 @@ use pdb::{
 };
 use pdb_records::Machine;
 use pdb_resolve::{GlobalIds, ids_of, types_of};
-use pdb_text::write_out;
+use pdb_text::{CountedWrite, write_counted};
 use pdb_types::TypeDefinitions;
 use std::alloc::{AllocError, Global};
-use std::io::Write;
 
 /// The lines of modules, with the names of files from a string table.
 #[derive(Drop)]
@@ -156,31 +157,33 @@ impl<'a> ModuleText for Symbols<'a> {
 }
 
 /// Writes the texts of the modules of these numbers; of all where there is no number.
-pub fn write_modules<'s, S: Source<'s>, T: ModuleText, W: Write>(
+pub fn write_modules<'s, S: Source<'s>, T: ModuleText, W: CountedWrite>(
     alloc: Global,
     pdb: &mut PDB<'s, S>,
     form: Form,
     texts: &T,
-    places: &[u32],
+    indices: &[u32],
     out: &mut W,
 ) -> Result<(), Stop>
     ensures opened { (e : Error) → IsErrOf result (Stop.Open e) → ⊥ }
-    ensures ok { OnOk result (Appends (W.contents out.old) (W.contents out.new) (modules_text form (in_file (T.text texts.now) pdb.old.file) pdb.old.file places.now)) }
-    ensures front { OnErr result (WroteFront (W.contents out.old) (W.contents out.new) (modules_text form (in_file (T.text texts.now) pdb.old.file) pdb.old.file places.now)) }
+    ensures stops { IfErr result (StopsWriting (MayFail pdb.old pdb.new)) }
+    ensures failures { W.failures out.new ≡ failures_after (W.failures out.old) result }
+    ensures ok { OnOk result (Appends (W.contents out.old) (W.contents out.new) (modules_text form (in_file (T.text texts.now) pdb.old.file) pdb.old.file indices.now)) }
+    ensures front { OnErr result (WroteFront (W.contents out.old) (W.contents out.new) (modules_text form (in_file (T.text texts.now) pdb.old.file) pdb.old.file indices.now)) }
 {
-    if places.is_empty() {
+    if indices.is_empty() {
         write_all(alloc, pdb, form, texts, out)
     } else {
-        write_places(alloc, pdb, form, texts, places, out)
+        write_indexed(alloc, pdb, form, texts, indices, out)
     }
 }
 
 // piece: strings_of
-/// The string table; none where it is refused.
+/// The string table; none where it can't be read.
 pub fn strings_of<'s, S: Source<'s>>(pdb: &mut PDB<'s, S>) -> Result<Option<StringTable<'s>>, Stop>
     ensures continues { Continues pdb.old pdb.new }
     ensures is { IfOk result (λ o. o ≡ if_read (string_table_in pdb.old.file)) }
-    ensures unwritten { IfErr result (λ e. (e ≡ Stop.Memory) ⊎ (e ≡ Stop.Read)) }
+    ensures unwritten { IfErr result (StopsComposing (MayFail pdb.old pdb.new)) }
 {
     match pdb.string_table() {
         Ok(strings) => Ok(Some(strings)),
@@ -191,13 +194,13 @@ pub fn strings_of<'s, S: Source<'s>>(pdb: &mut PDB<'s, S>) -> Result<Option<Stri
 }
 // end
 
-/// The stream of ids; none where it is refused.
+/// The stream of ids; none where it can't be read.
 pub fn ids_stream<'s, S: Source<'s>>(
     pdb: &mut PDB<'s, S>,
 ) -> Result<Option<IdInformation<'s>>, Stop>
     ensures continues { Continues pdb.old pdb.new }
     ensures is { IfOk result (λ o. o ≡ if_read (stream_of pdb.old.file 4 None)) }
-    ensures unwritten { IfErr result (λ e. (e ≡ Stop.Memory) ⊎ (e ≡ Stop.Read)) }
+    ensures unwritten { IfErr result (StopsComposing (MayFail pdb.old pdb.new)) }
 {
     match pdb.id_information() {
         Ok(ids) => Ok(Some(ids)),
@@ -207,13 +210,13 @@ pub fn ids_stream<'s, S: Source<'s>>(
     }
 }
 
-/// The stream of types; none where it is refused.
+/// The stream of types; none where it can't be read.
 pub fn types_stream<'s, S: Source<'s>>(
     pdb: &mut PDB<'s, S>,
 ) -> Result<Option<TypeInformation<'s>>, Stop>
     ensures continues { Continues pdb.old pdb.new }
     ensures is { IfOk result (λ o. o ≡ if_read (stream_of pdb.old.file 2 None)) }
-    ensures unwritten { IfErr result (λ e. (e ≡ Stop.Memory) ⊎ (e ≡ Stop.Read)) }
+    ensures unwritten { IfErr result (StopsComposing (MayFail pdb.old pdb.new)) }
 {
     match pdb.type_information() {
         Ok(types) => Ok(Some(types)),
@@ -225,23 +228,25 @@ pub fn types_stream<'s, S: Source<'s>>(
 
 /// Writes the line records of modules of a source's file.
 #[tactic(auto, using(pdb_text::proofs::Written::any_err, crate::proofs::AnsweredLines::front_none))]
-pub fn write_lines<'s, S: Source<'s>, W: Write>(
+pub fn write_lines<'s, S: Source<'s>, W: CountedWrite>(
     alloc: Global,
     source: S,
-    places: &[u32],
+    indices: &[u32],
     out: &mut W,
 ) -> Result<(), Stop>
     ensures opened { OnOk result (opens (S.state source).file ≡ Ok tt) }
-    ensures ok { OnOk result (Appends (W.contents out.old) (W.contents out.new) (lines_command (S.state source).file places.now)) }
+    ensures ok { OnOk result (Appends (W.contents out.old) (W.contents out.new) (lines_command (S.state source).file indices.now)) }
     ensures refused { (S.state source).steady ≡ true → (e : Error) → IsErrOf result (Stop.Open e) → opens (S.state source).file ≡ Err e }
-    ensures front { OnErr result (WroteFront (W.contents out.old) (W.contents out.new) (lines_command (S.state source).file places.now)) }
+    ensures stops { IfErr result (StopsCommand ((S.state source).steady ≡ false)) }
+    ensures failures { W.failures out.new ≡ failures_after (W.failures out.old) result }
+    ensures front { OnErr result (WroteFront (W.contents out.old) (W.contents out.new) (lines_command (S.state source).file indices.now)) }
 {
     let mut pdb = opened(alloc, source)?;
     let strings = strings_of(&mut pdb)?;
     let lines = Lines {
         strings: strings.as_ref(),
     };
-    write_modules(alloc, &mut pdb, Form::Text, &lines, places, out)
+    write_modules(alloc, &mut pdb, Form::Text, &lines, indices, out)
 }
 
 /// The full definitions among the types of a stream; none where the stream isn't there or has an error.
@@ -272,7 +277,7 @@ fn tables_by<'a>(
     ensures types { IfOk result (λ t. t.types ≡ items_where (option_copied types.entry)) }
     ensures definitions { IfOk result (λ t. first_definition t.definitions ≡ first_definition (definitions_among (items_where (option_copied types.entry)))) }
     ensures header { IfOk result (λ t. t.header ≡ header) }
-    ensures unwritten { IfErr result (λ e. (e ≡ Stop.Memory) ⊎ (e ≡ Stop.Read)) }
+    ensures unwritten { IfErr result (λ e. e ≡ Stop.Memory) }
 {
     Ok(Tables {
         ids: ids_of(alloc, ids).map_err(stop_of)?,
@@ -284,16 +289,18 @@ fn tables_by<'a>(
 
 /// Writes the scopes of modules of a source's file.
 #[tactic(auto, using(pdb_text::proofs::Written::any_err, crate::proofs::AnsweredLines::front_none))]
-pub fn write_scopes<'s, S: Source<'s>, W: Write>(
+pub fn write_scopes<'s, S: Source<'s>, W: CountedWrite>(
     alloc: Global,
     source: S,
-    places: &[u32],
+    indices: &[u32],
     out: &mut W,
 ) -> Result<(), Stop>
     ensures opened { OnOk result (opens (S.state source).file ≡ Ok tt) }
-    ensures ok { OnOk result (Appends (W.contents out.old) (W.contents out.new) (scopes_command (S.state source).file places.now)) }
+    ensures ok { OnOk result (Appends (W.contents out.old) (W.contents out.new) (scopes_command (S.state source).file indices.now)) }
     ensures refused { (S.state source).steady ≡ true → (e : Error) → IsErrOf result (Stop.Open e) → opens (S.state source).file ≡ Err e }
-    ensures front { OnErr result (WroteFront (W.contents out.old) (W.contents out.new) (scopes_command (S.state source).file places.now)) }
+    ensures stops { IfErr result (StopsCommand ((S.state source).steady ≡ false)) }
+    ensures failures { W.failures out.new ≡ failures_after (W.failures out.old) result }
+    ensures front { OnErr result (WroteFront (W.contents out.old) (W.contents out.new) (scopes_command (S.state source).file indices.now)) }
 {
     let mut pdb = opened(alloc, source)?;
     let ids = ids_stream(&mut pdb)?;
@@ -301,7 +308,7 @@ pub fn write_scopes<'s, S: Source<'s>, W: Write>(
     let header = machine_of_file(&mut pdb)?;
     let tables = tables_by(alloc, ids.as_ref(), types.as_ref(), header)?;
     let scopes = Scopes { tables };
-    write_modules(alloc, &mut pdb, Form::Text, &scopes, places, out)
+    write_modules(alloc, &mut pdb, Form::Text, &scopes, indices, out)
 }
 
 /// The text of the global symbols, by what names are found by, and by these ids of other modules.
@@ -331,13 +338,15 @@ fn put_globals(
 }
 
 /// Writes the global symbols of an opened file, by what names are found by.
-fn write_globals<'s, S: Source<'s>, W: Write>(
+fn write_globals<'s, S: Source<'s>, W: CountedWrite>(
     alloc: Global,
     pdb: &mut PDB<'s, S>,
     tables: &Tables<'_>,
     out: &mut W,
 ) -> Result<(), Stop>
     ensures opened { (e : Error) → IsErrOf result (Stop.Open e) → ⊥ }
+    ensures stops { IfErr result (StopsWriting (MayFail pdb.old pdb.new)) }
+    ensures failures { W.failures out.new ≡ failures_after (W.failures out.old) result }
     ensures ok { OnOk result (Appends (W.contents out.old) (W.contents out.new) (told (global_symbols_in pdb.old.file) (global_symbols_text (names_from tables.now.ids tables.now.types (first_definition tables.now.definitions) (ids_by no_imports)) tables.now.header))) }
     ensures front { OnErr result (WroteFront (W.contents out.old) (W.contents out.new) (told (global_symbols_in pdb.old.file) (global_symbols_text (names_from tables.now.ids tables.now.types (first_definition tables.now.definitions) (ids_by no_imports)) tables.now.header))) }
 {
@@ -347,52 +356,56 @@ fn write_globals<'s, S: Source<'s>, W: Write>(
     };
     let mut text = Vec::new(alloc);
     put_globals(alloc, &mut text, tables, &symbols)?;
-    write_out(out, &text)?;
+    write_counted(out, &text)?;
     Ok(())
 }
 
 /// Writes the symbols of the modules of these numbers; the global symbols where there is no number.
 #[tactic(auto, using(pdb_text::proofs::Written::any_err, crate::proofs::AnsweredLines::front_none))]
-fn write_numbered<'s, S: Source<'s>, W: Write>(
+fn write_numbered<'s, S: Source<'s>, W: CountedWrite>(
     alloc: Global,
     pdb: &mut PDB<'s, S>,
-    places: &[u32],
+    indices: &[u32],
     out: &mut W,
 ) -> Result<(), Stop>
     ensures opened { (e : Error) → IsErrOf result (Stop.Open e) → ⊥ }
-    ensures ok { OnOk result (Appends (W.contents out.old) (W.contents out.new) (symbols_command pdb.old.file places.now)) }
-    ensures front { OnErr result (WroteFront (W.contents out.old) (W.contents out.new) (symbols_command pdb.old.file places.now)) }
+    ensures stops { IfErr result (StopsWriting (MayFail pdb.old pdb.new)) }
+    ensures failures { W.failures out.new ≡ failures_after (W.failures out.old) result }
+    ensures ok { OnOk result (Appends (W.contents out.old) (W.contents out.new) (symbols_command pdb.old.file indices.now)) }
+    ensures front { OnErr result (WroteFront (W.contents out.old) (W.contents out.new) (symbols_command pdb.old.file indices.now)) }
 {
     let ids = ids_stream(pdb)?;
     let types = types_stream(pdb)?;
     let header = machine_of_file(pdb)?;
     let tables = tables_by(alloc, ids.as_ref(), types.as_ref(), header)?;
-    match places.split_first() {
-        Some(_) => write_places(alloc, pdb, Form::Text, &Symbols { tables }, places, out),
+    match indices.split_first() {
+        Some(_) => write_indexed(alloc, pdb, Form::Text, &Symbols { tables }, indices, out),
         None => write_globals(alloc, pdb, &tables, out),
     }
 }
 
 /// Writes the symbols of modules of a source's file; the global symbols where there is no number.
 #[tactic(auto, using(pdb_text::proofs::Written::any_err, crate::proofs::AnsweredLines::front_none))]
-pub fn write_symbols<'s, S: Source<'s>, W: Write>(
+pub fn write_symbols<'s, S: Source<'s>, W: CountedWrite>(
     alloc: Global,
     source: S,
-    places: &[u32],
+    indices: &[u32],
     out: &mut W,
 ) -> Result<(), Stop>
     ensures opened { OnOk result (opens (S.state source).file ≡ Ok tt) }
-    ensures ok { OnOk result (Appends (W.contents out.old) (W.contents out.new) (symbols_command (S.state source).file places.now)) }
+    ensures ok { OnOk result (Appends (W.contents out.old) (W.contents out.new) (symbols_command (S.state source).file indices.now)) }
     ensures refused { (S.state source).steady ≡ true → (e : Error) → IsErrOf result (Stop.Open e) → opens (S.state source).file ≡ Err e }
-    ensures front { OnErr result (WroteFront (W.contents out.old) (W.contents out.new) (symbols_command (S.state source).file places.now)) }
+    ensures stops { IfErr result (StopsCommand ((S.state source).steady ≡ false)) }
+    ensures failures { W.failures out.new ≡ failures_after (W.failures out.old) result }
+    ensures front { OnErr result (WroteFront (W.contents out.old) (W.contents out.new) (symbols_command (S.state source).file indices.now)) }
 {
     let mut pdb = opened(alloc, source)?;
-    write_numbered(alloc, &mut pdb, places, out)
+    write_numbered(alloc, &mut pdb, indices, out)
 }
 
 /// Writes the symbols of all modules of a source's file.
 #[tactic(auto, using(pdb_text::proofs::Written::any_err, crate::proofs::AnsweredLines::front_none))]
-pub fn write_all_symbols<'s, S: Source<'s>, W: Write>(
+pub fn write_all_symbols<'s, S: Source<'s>, W: CountedWrite>(
     alloc: Global,
     source: S,
     out: &mut W,
@@ -400,6 +413,8 @@ pub fn write_all_symbols<'s, S: Source<'s>, W: Write>(
     ensures opened { OnOk result (opens (S.state source).file ≡ Ok tt) }
     ensures ok { OnOk result (Appends (W.contents out.old) (W.contents out.new) (all_symbols_command (S.state source).file)) }
     ensures refused { (S.state source).steady ≡ true → (e : Error) → IsErrOf result (Stop.Open e) → opens (S.state source).file ≡ Err e }
+    ensures stops { IfErr result (StopsCommand ((S.state source).steady ≡ false)) }
+    ensures failures { W.failures out.new ≡ failures_after (W.failures out.old) result }
     ensures front { OnErr result (WroteFront (W.contents out.old) (W.contents out.new) (all_symbols_command (S.state source).file)) }
 {
     let mut pdb = opened(alloc, source)?;

@@ -1,4 +1,4 @@
-//! The line of a refusal, or of a list's fault.
+//! The line of an error, or of a list's fault.
 
 ghost use Rattle.std.specs.Prelude.{◌≡◌, ◌≢◌, ◌++◌, codes, OnOk};
 ghost use Rattle.std.specs.Fmt.{decimal, digits};
@@ -51,7 +51,7 @@ fn put_two(out: &mut Vec<u8>, first: &[u8], second: &[u8]) -> Result<(), AllocEr
     out.extend_from_slice(second)
 }
 
-/// What the Display of a later refusal writes: one for what stands in a symbol, in a part of a module, or for no file.
+/// What the Display of a later error writes: one for what stands in a symbol, in a part of a module, or for no file.
 fn put_later_message(out: &mut Vec<u8>, e: Error) -> Result<(), AllocError>
     ensures { OnOk result (out.new.items ≡ out.old.items ++ later_message e) }
 {
@@ -92,7 +92,7 @@ fn put_later_message(out: &mut Vec<u8>, e: Error) -> Result<(), AllocError>
     }
 }
 
-/// What the refusal's Display writes.
+/// What the error's Display writes.
 pub fn put_message(out: &mut Vec<u8>, e: Error) -> Result<(), AllocError>
     ensures { OnOk result (out.new.items ≡ out.old.items ++ message_of e) }
 {
@@ -124,7 +124,7 @@ pub fn put_message(out: &mut Vec<u8>, e: Error) -> Result<(), AllocError>
     }
 }
 
-/// The line of a refusal or of a list's fault: `error`, its number, and what its Display writes.
+/// The line of an error or of a list's fault: `error`, its number, and what its Display writes.
 pub fn put_error_line(out: &mut Vec<u8>, e: Error) -> Result<(), AllocError>
     ensures { OnOk result (out.new.items ≡ out.old.items ++ error_line e) }
 {
@@ -133,7 +133,7 @@ pub fn put_error_line(out: &mut Vec<u8>, e: Error) -> Result<(), AllocError>
     put_line_end(out)
 }
 
-/// The line of the refusal of a call that reads the file; want of memory is passed on.
+/// The line of the error of a call that reads the file; out of memory is passed on.
 pub fn put_refusal_line(out: &mut Vec<u8>, e: Error) -> Result<(), AllocError>
     ensures { OnOk result ((e ≢ OutOfMemory) × (out.new.items ≡ out.old.items ++ error_line e)) }
 {

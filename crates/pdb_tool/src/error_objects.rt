@@ -1,12 +1,13 @@
 //! The lines of errors, in the form of the output.
 
-ghost use Rattle.std.specs.Prelude.{◌≡◌, ◌≢◌, ◌∷◌, ◌++◌, ◌⊎◌, [], codes, IfErr, OnOk};
+ghost use Rattle.std.specs.Prelude.{◌≡◌, ◌≢◌, ◌∷◌, ◌++◌, [], codes, OnOk, IfErr};
 ghost use Rattle.json.specs.Json.{member, no_members, null, string};
 ghost use Rattle.json.specs.Token.{begin_object, key};
 ghost use Rattle.json.specs.Tree.{json_tokens, members_tokens};
 ghost use Rattle.pdb.specs.Error.{Error};
 ghost use Rattle.pdb_tool.specs.ErrorObjects.{error_in, error_members, error_value, none_in, none_value};
 ghost use Rattle.pdb_tool.specs.Objects.{Adds, json_line};
+ghost use Rattle.pdb_tool.specs.Stops.{StopsComposing};
 ghost use Rattle.pdb_tool.specs.declared.stop.Stop.{Stop};
 
 use crate::error_line::{put_error_line, put_message};
@@ -67,7 +68,7 @@ pub fn put_error_in(out: &mut Vec<u8>, form: Form, e: Error) -> Result<(), Alloc
 /// The same; out of memory, and a source that failed, are passed on.
 pub fn put_refused_in(out: &mut Vec<u8>, form: Form, e: Error) -> Result<(), Stop>
     ensures text { OnOk result ((e ≢ Error.OutOfMemory) × (e ≢ Error.IoError) × (out.new.items ≡ out.old.items ++ error_in form e)) }
-    ensures unwritten { IfErr result (λ e. (e ≡ Stop.Memory) ⊎ (e ≡ Stop.Read)) }
+    ensures unwritten { IfErr result (StopsComposing (e ≡ Error.IoError)) }
 {
     match e {
         Error::OutOfMemory => Err(Stop::Memory),

@@ -150,15 +150,15 @@ pub fn put_body(out: &mut Vec<u8>, len: u32, start: u32, stop: u32) -> Result<()
     put_number(out, b"dbg_end_offset", stop)
 }
 
-/// A module's place in the list, or `-` where there is none.
+/// A module's index in the list, or `-` where there is none.
 #[tactic(auto, unfolding(crate::specs::FieldTexts::field))]
 pub fn put_module(out: &mut Vec<u8>, of_module: Option<usize>) -> Result<(), AllocError>
     ensures { OnOk result (out.new.items ≡ out.old.items ++ field (codes "module") (optional_text of_module)) }
 {
     match of_module {
-        Some(place) => {
+        Some(index) => {
             put_label(out, b"module")?;
-            put_decimal(out, place as u64)
+            put_decimal(out, index as u64)
         }
         None => {
             put_label(out, b"module")?;

@@ -101,8 +101,8 @@ pub fn put_separated_code(out: &mut Vec<u8>, symbol: &SeparatedCodeSymbol) -> Re
 fn annotations_in<'t>(source: &Symbol<'t>) -> &'t [u8]
     ensures { result.now ≡ drop (annotations_place (kind_at (symbol_of source.now).bytes)) (symbol_of source.now).bytes }
 {
-    let place = if source.raw_kind() == 0x115d { 18 } else { 14 };
-    source.raw_bytes().get(place..).unwrap_or(&[])
+    let offset = if source.raw_kind() == 0x115d { 18 } else { 14 };
+    source.raw_bytes().get(offset..).unwrap_or(&[])
 }
 
 /// What is around an inlined call, and what is inlined.

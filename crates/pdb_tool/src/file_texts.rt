@@ -1,16 +1,19 @@
 //! What a command writes of one file.
 
-ghost use Rattle.std.specs.Prelude.{◌≡◌, true, Ok, Err, IsErrOf, OnOk, OnErr};
+ghost use Rattle.std.specs.Prelude.{◌≡◌, true, false, Ok, Err, IfErr, IsErrOf, OnOk, OnErr};
 ghost use Rattle.std.specs.Io.KnownBytes.{Appends};
 ghost use Rattle.pdb.specs.Container.{opens};
 ghost use Rattle.pdb.specs.Error.{Error};
 ghost use Rattle.pdb_text.specs.Written.{WroteFront};
 ghost use Rattle.pdb_tool.specs.FileTexts.{file_text, form_of};
+ghost use Rattle.pdb_tool.specs.Stops.{StopsCommand};
+ghost use Rattle.pdb_tool.specs.WriteFailures.{failures_after};
 ghost use Rattle.pdb_tool.specs.declared.stop.Stop.{Stop};
 
 use crate::commands::{write_all_symbols, write_lines, write_scopes, write_symbols};
 use crate::lookups::{write_find, write_sources, write_where};
 use crate::module_lists::write_modules;
+use crate::notes::NotesDamage;
 use crate::operands::Operand;
 use crate::options::Form;
 use crate::question::Question;
@@ -22,7 +25,6 @@ use crate::stream_texts::write_streams;
 use crate::type_texts::write_types;
 use pdb::Source;
 use std::alloc::Global;
-use std::io::Write;
 
 /// What a command writes of one file. Of no number of a module it is that of all modules, and of symbols the global
 /// ones.
@@ -68,7 +70,7 @@ impl FileText<'_> {
 }
 
 /// Writes what a command writes of a source's file.
-pub fn write_text<'s, S: Source<'s>, W: Write>(
+pub fn write_text<'s, S: Source<'s>, W: NotesDamage>(
     alloc: Global,
     source: S,
     text: FileText<'_>,
@@ -77,17 +79,19 @@ pub fn write_text<'s, S: Source<'s>, W: Write>(
     ensures opened { OnOk result (opens (S.state source).file ≡ Ok tt) }
     ensures ok { OnOk result (Appends (W.contents out.old) (W.contents out.new) (file_text (S.state source).file text.entry)) }
     ensures refused { (S.state source).steady ≡ true → (e : Error) → IsErrOf result (Stop.Open e) → opens (S.state source).file ≡ Err e }
+    ensures stops { IfErr result (StopsCommand ((S.state source).steady ≡ false)) }
+    ensures failures { W.failures out.new ≡ failures_after (W.failures out.old) result }
     // A beginning of the text was written.
     ensures front { OnErr result (WroteFront (W.contents out.old) (W.contents out.new) (file_text (S.state source).file text.entry)) }
 {
     match text {
         FileText::Code(questions) => resolve_words(alloc, source, questions, out),
-        FileText::Lines(places) => write_lines(alloc, source, places, out),
-        FileText::Scopes(places) => write_scopes(alloc, source, places, out),
-        FileText::Symbols(places) => write_symbols(alloc, source, places, out),
+        FileText::Lines(indices) => write_lines(alloc, source, indices, out),
+        FileText::Scopes(indices) => write_scopes(alloc, source, indices, out),
+        FileText::Symbols(indices) => write_symbols(alloc, source, indices, out),
         FileText::AllSymbols => write_all_symbols(alloc, source, out),
         FileText::Types(indices) => write_types(alloc, source, indices, out),
-        FileText::Sources(form, places) => write_sources(alloc, source, form, places, out),
+        FileText::Sources(form, indices) => write_sources(alloc, source, form, indices, out),
         FileText::Find(form, words) => write_find(alloc, source, form, words, out),
         FileText::Where(form, asked) => write_where(alloc, source, form, asked, out),
         FileText::Modules(form) => write_modules(alloc, source, form, out),

@@ -31,7 +31,7 @@ pub fn a_source_reads_back()
 
 /// The same of the object of an error that `check` finds.
 pub fn a_finding_reads_back()
-    ensures { (file place : List ℕ) (e : Error) → document (print (json_tokens (finding_value file place e))) ≡ Some (finding_value file place e) }
+    ensures { (file label : List ℕ) (e : Error) → document (print (json_tokens (finding_value file label e))) ≡ Some (finding_value file label e) }
 {}
 
 /// The same of the object of a file without one.

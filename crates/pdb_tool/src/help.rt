@@ -388,7 +388,7 @@ pub fn help_of(topic: Option<Topic>) -> &'static str {
     }
 }
 
-/// The line that tells the words of a command, or of the program.
+/// The line that has the arguments of a command, or of the program.
 pub fn usage_of(topic: Option<Topic>) -> &'static str {
     match topic {
         None => USAGE,

@@ -3,13 +3,13 @@
 use crate::file_kind::{FRONT_SIZE, file_kind};
 use crate::file_texts::FileText;
 use crate::operands::Operand;
-use crate::report::{Fault, Kind, file_in_word};
+use crate::report::{Fault, Kind, file_in_word, write_stop};
 use crate::stop::{Stop, Unopened};
 use crate::wanted::{ImageWants, wants_in};
 use pdb_file::{ReadAt, read_all, size_of};
 use std::alloc::Global;
 use std::fs::{self, File};
-use std::io::{self, ErrorKind};
+use std::io::{self, ErrorKind, Write};
 use std::rt::Files;
 
 /// What opens files, and which arguments aren't UTF-8.
@@ -64,13 +64,13 @@ impl<'a, R: Files<File = File> + AllocGlobal> Host<'a, R> {
     }
 
     /// Whether an argument is UTF-8.
-    fn is_text(&self, place: usize) -> bool {
-        !self.not_text.contains(&place)
+    fn is_text(&self, argument: usize) -> bool {
+        !self.not_text.contains(&argument)
     }
 
     /// The file that an operand names, or why it can't be opened.
     pub fn opened(&self, name: Operand<'_>) -> Result<File, Stop> {
-        if !self.is_text(name.place) {
+        if !self.is_text(name.argument) {
             return Err(Stop::Unopened(Unopened::NotText));
         }
         open_named(self.rt, name.word)
@@ -79,17 +79,23 @@ impl<'a, R: Files<File = File> + AllocGlobal> Host<'a, R> {
     /// The same, with the operand that is at fault.
     pub fn open(&self, name: Operand<'_>) -> Result<File, Fault> {
         self.opened(name)
-            .map_err(|stop| Fault::Stopped(stop, name.place))
+            .map_err(|stop| Fault::Stopped(stop, name.argument))
     }
 
     /// That operands which name no files are UTF-8.
     pub fn all_text(&self, operands: &[Operand<'_>]) -> Result<(), Fault> {
         for operand in operands {
-            if !self.is_text(operand.place) {
-                return Err(Fault::NotText(operand.place));
+            if !self.is_text(operand.argument) {
+                return Err(Fault::NotText(operand.argument));
             }
         }
         Ok(())
+    }
+
+    /// Writes why nothing is printed of a file among several.
+    pub fn pass_over<E: Write>(&self, stop: Stop, name: Operand<'_>, err: &mut E) {
+        let kind = self.kind_of(stop, name.word);
+        let _ = write_stop(self.alloc(), stop, name.word, kind, err);
     }
 
     /// What a file is that can't be opened as a PDB; none of one that has no size, such as a pipe.
@@ -125,10 +131,10 @@ pub fn size_in_parts(file: &File, text: FileText<'_>) -> Option<u64> {
 pub fn image_wants<R: Files<File = File> + AllocGlobal>(
     host: &Host<'_, R>,
     word: &str,
-    place: usize,
+    argument: usize,
 ) -> Result<ImageWants, Fault> {
     let name = Operand {
-        place,
+        argument,
         word: file_in_word(word),
     };
     let mut file = host.open(name)?;
@@ -136,5 +142,5 @@ pub fn image_wants<R: Files<File = File> + AllocGlobal>(
         Ok(bytes) => wants_in(host.alloc(), &bytes),
         Err(e) => Err(Stop::from(e)),
     };
-    wants.map_err(|stop| Fault::Stopped(stop, place))
+    wants.map_err(|stop| Fault::Stopped(stop, argument))
 }

@@ -1,5 +1,5 @@
-//! The ends of the last lines: most lines end with the name of a type, or of an inlined function, that was written shortly
-//! before.
+//! The ends of the last lines: most lines end with the name of a type, or of an inlined function, that was written
+//! shortly before.
 
 ghost use Rattle.std.specs.Prelude.{◌≡◌, ◌<◌, length, replicate, true, None, Some, IfOk, OnOk};
 ghost use Rattle.std.specs.List.{All};
@@ -14,7 +14,8 @@ use std::alloc::{AllocError, Global};
 /// How many ends are kept: nineteen in twenty lines of large programs have one of so many.
 const KEPT: usize = 1024;
 
-/// The ends of the last lines, each at a place that its type's index gives; those of lines of inlined calls, by their ids.
+/// The ends of the last lines, each at a slot that its type's index gives; those of lines of inlined calls, by their
+/// ids.
 #[derive(Drop)]
 pub struct KeptEnds<'x, 'a> {
     alloc: Global,
@@ -37,8 +38,9 @@ fn number_of_type(index: Option<TypeIndex>) -> u32
     }
 }
 
-/// The place of the end of an index. Pointers to a simple type have its index and a multiple of 256; they have other places.
-fn place_of(index: u32) -> usize
+/// The slot of the end of an index. Pointers to a simple type have its index and a multiple of 256; they have other
+/// slots.
+fn slot_of(index: u32) -> usize
     ensures { result < 1024 }
 {
     let index = index as usize;
@@ -78,11 +80,11 @@ impl<'x, 'a> KeptEnds<'x, 'a> {
         self.names
     }
 
-    // Whether the end of an index is at its place.
-    fn has(&self, place: usize, index: u32) -> bool
-        ensures { result ≡ true → kept_text self.now place ≡ typed_end (kept_names self.now) (Some (record { 0 = index })) }
+    // Whether the end of an index is at its slot.
+    fn has(&self, slot: usize, index: u32) -> bool
+        ensures { result ≡ true → kept_text self.now slot ≡ typed_end (kept_names self.now) (Some (record { 0 = index })) }
     {
-        match self.rows.get(place) {
+        match self.rows.get(slot) {
             Some(Some(end)) => end.index == index,
             _ => false,
         }
@@ -90,7 +92,7 @@ impl<'x, 'a> KeptEnds<'x, 'a> {
 
     // Takes the memory for all ends before the first one: a module of a few symbols has none.
     #[tactic(auto, using(crate::proofs::KeptLemmas::vacant_size, crate::proofs::KeptLemmas::vacant_ends))]
-    fn take_places(&mut self) -> Result<(), AllocError>
+    fn take_slots(&mut self) -> Result<(), AllocError>
         ensures names { kept_names self.new ≡ kept_names self.old }
         ensures full { OnOk result (length self.new.rows.items ≡ 1024) }
     {
@@ -100,15 +102,15 @@ impl<'x, 'a> KeptEnds<'x, 'a> {
         Ok(())
     }
 
-    // Puts the end of an index at a place.
-    fn fill(&mut self, place: usize, index: u32) -> Result<(), AllocError>
-        requires { place < 1024 }
+    // Puts the end of an index at a slot.
+    fn fill(&mut self, slot: usize, index: u32) -> Result<(), AllocError>
+        requires { slot < 1024 }
         ensures names { kept_names self.new ≡ kept_names self.old }
-        ensures kept { OnOk result (kept_text self.new place ≡ typed_end (kept_names self.new) (Some (record { 0 = index }))) }
+        ensures kept { OnOk result (kept_text self.new slot ≡ typed_end (kept_names self.new) (Some (record { 0 = index }))) }
     {
-        self.take_places()?;
+        self.take_slots()?;
         let end = self.names.end(self.alloc, index)?;
-        self.rows[place] = Some(end);
+        self.rows[slot] = Some(end);
         Ok(())
     }
 
@@ -116,21 +118,21 @@ impl<'x, 'a> KeptEnds<'x, 'a> {
     #[tactic(auto, using(crate::proofs::KeptLemmas::end_by_number))]
     pub fn keep(&mut self, index: Option<TypeIndex>) -> Result<usize, AllocError>
         ensures names { kept_names self.new ≡ kept_names self.old }
-        ensures kept { IfOk result (λ place. kept_text self.new place ≡ typed_end (kept_names self.new) index) }
+        ensures kept { IfOk result (λ slot. kept_text self.new slot ≡ typed_end (kept_names self.new) index) }
     {
         let number = number_of_type(index);
-        let place = place_of(number);
-        if !self.has(place, number) {
-            self.fill(place, number)?;
+        let slot = slot_of(number);
+        if !self.has(slot, number) {
+            self.fill(slot, number)?;
         }
-        Ok(place)
+        Ok(slot)
     }
 
-    // Whether the end of lines of the calls of an id is at its place.
-    fn has_call(&self, place: usize, id: u32) -> bool
-        ensures { result ≡ true → kept_call self.now place ≡ call_end (kept_names self.now) id }
+    // Whether the end of lines of the calls of an id is at its slot.
+    fn has_call(&self, slot: usize, id: u32) -> bool
+        ensures { result ≡ true → kept_call self.now slot ≡ call_end (kept_names self.now) id }
     {
-        match self.calls.get(place) {
+        match self.calls.get(slot) {
             Some(Some(end)) => end.index == id,
             _ => false,
         }
@@ -148,45 +150,45 @@ impl<'x, 'a> KeptEnds<'x, 'a> {
         Ok(())
     }
 
-    // Puts the end of lines of the calls of an id at a place.
-    fn fill_call(&mut self, place: usize, id: u32) -> Result<(), AllocError>
-        requires { place < 1024 }
+    // Puts the end of lines of the calls of an id at a slot.
+    fn fill_call(&mut self, slot: usize, id: u32) -> Result<(), AllocError>
+        requires { slot < 1024 }
         ensures names { kept_names self.new ≡ kept_names self.old }
-        ensures kept { OnOk result (kept_call self.new place ≡ call_end (kept_names self.new) id) }
+        ensures kept { OnOk result (kept_call self.new slot ≡ call_end (kept_names self.new) id) }
     {
         self.take_calls()?;
         let end = self.names.call_end(self.alloc, id)?;
-        self.calls[place] = Some(end);
+        self.calls[slot] = Some(end);
         Ok(())
     }
 
     /// Where the end of a line of an inlined call is kept from now on.
     pub fn keep_call(&mut self, id: u32) -> Result<usize, AllocError>
         ensures names { kept_names self.new ≡ kept_names self.old }
-        ensures kept { IfOk result (λ place. kept_call self.new place ≡ call_end (kept_names self.new) id) }
+        ensures kept { IfOk result (λ slot. kept_call self.new slot ≡ call_end (kept_names self.new) id) }
     {
-        let place = place_of(id);
-        if !self.has_call(place, id) {
-            self.fill_call(place, id)?;
+        let slot = slot_of(id);
+        if !self.has_call(slot, id) {
+            self.fill_call(slot, id)?;
         }
-        Ok(place)
+        Ok(slot)
     }
 
-    /// The end of a line of an inlined call that is kept at a place; empty where there is none.
-    pub fn call_at(&self, place: usize) -> &[u8]
-        ensures { result.now ≡ kept_call self.now place }
+    /// The end of a line of an inlined call that is kept at a slot; empty where there is none.
+    pub fn call_at(&self, slot: usize) -> &[u8]
+        ensures { result.now ≡ kept_call self.now slot }
     {
-        match self.calls.get(place) {
+        match self.calls.get(slot) {
             Some(Some(end)) => &end.text,
             _ => &[],
         }
     }
 
-    /// The end that is kept at a place; empty where there is none.
-    pub fn at(&self, place: usize) -> &[u8]
-        ensures { result.now ≡ kept_text self.now place }
+    /// The end that is kept at a slot; empty where there is none.
+    pub fn at(&self, slot: usize) -> &[u8]
+        ensures { result.now ≡ kept_text self.now slot }
     {
-        match self.rows.get(place) {
+        match self.rows.get(slot) {
             Some(Some(end)) => &end.text,
             _ => &[],
         }

@@ -1,19 +1,20 @@
 //! The lines of `key`: of a PDB, and of an image with the PDB that it names.
 
-ghost use Rattle.std.specs.Prelude.{◌≡◌, ◌≢◌, ◌<◌, ◌++◌, codes, true, false, Some, None, Ok, Err, IfOk, IsErrOf, OnOk, Option, get_or, length};
+ghost use Rattle.std.specs.Prelude.{◌≡◌, ◌≢◌, ◌<◌, ◌++◌, codes, true, false, Some, None, Ok, Err, IfOk, IfErr, IsErrOf, OnOk, Option, get_or, length, ⊤};
 ghost use Rattle.std.specs.Option.{ForSome, option_map};
 ghost use Rattle.pdb.specs.Error.{Error};
 ghost use Rattle.pdb_image.specs.Headers.{is_image};
 ghost use Rattle.pdb_image.specs.Images.{image_of, reference, said};
 ghost use Rattle.pdb_tool.specs.KeyLines.{IsLine, image_in as line_of_image, image_line as image_line_of, image_text as text_of_image, key_line as key_line_of, own_key, pdb_in as line_of_pdb, pdb_named, pdb_text as text_of_pdb};
-ghost use Rattle.pdb_tool.specs.Keys.{key_of_file};
+ghost use Rattle.pdb.specs.Keys.{key_of_file};
+ghost use Rattle.pdb_tool.specs.Stops.{StopsOpening};
 ghost use Rattle.pdb_tool.specs.declared.stop.Stop.{Stop};
 
-use crate::key::{key_in_parts, key_of, put_bytes, text};
+use crate::key::key_in_parts;
 use crate::key_objects::{image_object, pdb_object};
 use crate::options::Form;
 use crate::stop::{Stop, stop_of_opening};
-use pdb::MemorySource;
+use pdb::{MemorySource, key_of, key_text, put_hex_bytes};
 use pdb_file::ReadAt;
 use pdb_image::{Image, PdbReference, is_image};
 use pdb_text::put_one_line;
@@ -35,7 +36,7 @@ pub fn put_own_key(
         (stamp / 256 % 256) as u8,
         (stamp % 256) as u8,
     ];
-    put_bytes(out, &bytes)?;
+    put_hex_bytes(out, &bytes)?;
     let text = format!(in alloc; "{size:x}")?;
     out.extend_from_slice(text.as_bytes())
 }
@@ -51,7 +52,7 @@ fn put_pdb(
     let Some(pdb) = pdb else {
         return out.extend_from_slice(b"- -");
     };
-    out.extend_from_slice(&text(alloc, &pdb.guid, pdb.age)?)?;
+    out.extend_from_slice(&key_text(alloc, &pdb.guid, pdb.age)?)?;
     out.push(b' ')?;
     put_one_line(out, pdb.path)
 }
@@ -129,7 +130,7 @@ pub fn key_line(alloc: Global, form: Form, bytes: &[u8], name: &[u8]) -> Result<
     }
 }
 
-/// The byte at a place of a file.
+/// The byte at an offset of a file.
 fn byte_at<R: ReadAt>(input: &R, at: u64) -> Result<u8, Stop>
     ensures byte { ForSome (R.known input.now) (λ G. at < length G → IfOk result (λ b. b ≡ get_or G at 0)) }
     ensures stopped { (s : Stop) → IsErrOf result s → s ≡ Stop.Read }
@@ -166,6 +167,7 @@ pub fn line_in_parts<R: ReadAt>(
 ) -> Result<Option<Vec<u8>>, Stop>
     ensures line { ForSome (R.known input.now) (λ G. length G ≡ size → IfOk result (λ o. IsLine form name.now G (option_map (λ v. v.items) o))) }
     ensures open { ForSome (R.known input.now) (λ G. length G ≡ size → (e : Error) → IsErrOf result (Stop.Open e) → (is_image G ≡ false) × (key_of_file G ≡ Err e)) }
+    ensures stops { IfErr result (StopsOpening ⊤) }
 {
     if begins_as_image(input, size)? {
         return Ok(None);

@@ -9,10 +9,10 @@ ghost use Rattle.pdb_image.specs.Images.{reference, said};
 ghost use Rattle.pdb_tool.specs.KeyLines.{image_value, own_key, pdb_members, pdb_value};
 ghost use Rattle.pdb_tool.specs.Objects.{Adds, json_line, text_value};
 
-use crate::key::text;
 use crate::key_line::put_own_key;
 use crate::objects::{end_line, put_last, put_member, put_null, value_behind};
 use json::Writer;
+use pdb::key_text;
 use pdb_image::{Image, PdbReference};
 use std::alloc::{AllocError, Global};
 
@@ -44,7 +44,7 @@ fn put_pdb(
     let Some(pdb) = pdb else {
         return put_no_pdb(writer);
     };
-    let key = text(alloc, &pdb.guid, pdb.age)?;
+    let key = key_text(alloc, &pdb.guid, pdb.age)?;
     put_member(alloc, writer, "pdb_key", &key)?;
     put_last(alloc, writer, "pdb", pdb.path)
 }

@@ -17,7 +17,7 @@ use pdb_text::put_line_end;
 use pdb_types::{TypeDefinitions, function_type};
 use std::alloc::{AllocError, Global};
 
-/// Whether a procedure of this kind has an id in the place of its type: `S_LPROC32_ID`, `S_GPROC32_ID`,
+/// Whether a procedure of this kind has an id instead of its type: `S_LPROC32_ID`, `S_GPROC32_ID`,
 /// `S_LPROC32_DPC_ID`.
 fn has_id(kind: u16) -> bool
     ensures { result ≡ has_id kind }
@@ -28,8 +28,8 @@ fn has_id(kind: u16) -> bool
 /// How many bytes are taken at first for the end of a line, which most ends are not longer than.
 const END_BYTES: usize = 96;
 
-/// How lines end behind what has the type of an index: with the name of the type behind a colon. How lines of the inlined
-/// calls of an id end: with the name of the function and that of its type.
+/// How lines end behind what has the type of an index: with the name of the type behind a colon. How lines of the
+/// inlined calls of an id end: with the name of the function and that of its type.
 #[derive(Drop)]
 pub struct LineEnd {
     /// The index, 0 for no type; or the id.
@@ -91,7 +91,7 @@ impl<'x, 'a> LineNames<'x, 'a> {
         self.function_type(id.0)
     }
 
-    // The type of a procedure of a kind, by the index that stands in the place of its type.
+    // The type of a procedure of a kind, by the index that stands instead of its type.
     fn procedure_type(&self, kind: u16, index: TypeIndex) -> Option<TypeIndex>
         ensures { result ≡ procedure_type (names_of_lines self.now) kind index }
     {

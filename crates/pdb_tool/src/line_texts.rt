@@ -93,7 +93,7 @@ fn put_records(
 // end
 
 // piece: put_lines
-/// The text of `lines` of a module: its line records, or their refusal.
+/// The text of `lines` of a module: its line records, or their error.
 #[tactic(auto, unfolding(crate::specs::LineTexts::lines_text))]
 pub fn put_lines(
     alloc: Global,

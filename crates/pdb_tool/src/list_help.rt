@@ -1,4 +1,4 @@
-//! What the program tells of `pdb_list`.
+//! What the program prints of `pdb_list`.
 
 /// The commands of `pdb_list`, and the errors of both programs.
 pub const LIST: &str = "\

@@ -1,4 +1,5 @@
-//! The lines of local variables in `symbols`: two in five lines of a large program. Their records are read at their offsets.
+//! The lines of local variables in `symbols`: two in five lines of a large program. Their records are read at their
+//! offsets.
 
 ghost use Rattle.std.specs.Prelude.{◌≡◌, ◌++◌, ◌≤◌, length, IfSome, OnOk, Ok, Some};
 ghost use Rattle.pdb.specs.Fields.{number, cstring_at};
@@ -17,8 +18,8 @@ use pdb_base::little_endian::{u16_at, u32_at};
 use pdb_text::hex8;
 use std::alloc::AllocError;
 
-/// The type at offset 2 of a record's bytes, the flags at offset 6, and the name at offset 8. None where the record ends
-/// before. Records of the kind 0x113e have them there.
+/// The type at offset 2 of a record's bytes, the flags at offset 6, and the name at offset 8. None where the record
+/// ends before. Records of the kind 0x113e have them there.
 #[inline(always)]
 pub fn local_in(bytes: &[u8]) -> Option<(u32, u16, &[u8])>
     ensures there { IfSome result (λ s. 8 ≤ length bytes.entry.now) }
@@ -100,8 +101,8 @@ fn put_end(
     ensures names { kept_names kept.new ≡ kept_names kept.old }
     ensures text { OnOk result (out.new.items ≡ out.old.items ++ typed_end (kept_names kept.old) (Some (record { 0 = type_index }))) }
 {
-    let place = kept.keep(Some(TypeIndex(type_index)))?;
-    out.extend_from_slice(kept.at(place))
+    let slot = kept.keep(Some(TypeIndex(type_index)))?;
+    out.extend_from_slice(kept.at(slot))
 }
 
 /// The line of a local variable behind its blanks.

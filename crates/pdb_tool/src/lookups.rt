@@ -1,12 +1,12 @@
 //! The commands that look names and files up.
 
-ghost use Rattle.std.specs.Prelude.{◌≡◌, ◌++◌, ◌⊎◌, true, map, option_copied, None, Ok, Err, IfOk, IfErr, OnOk, OnErr, IsErrOf};
+ghost use Rattle.std.specs.Prelude.{◌≡◌, ◌++◌, true, false, map, option_copied, None, Ok, Err, IfOk, IfErr, OnOk, OnErr, IsErrOf};
 ghost use Rattle.std.specs.Io.KnownBytes.{Appends};
 ghost use Rattle.pdb.specs.Container.{opens, stream_of};
 ghost use Rattle.pdb.specs.Error.{Error};
 ghost use Rattle.pdb.specs.Answers.{address_map_in, debug_information_in, global_symbols_in, string_table_in};
 ghost use Rattle.pdb.specs.Header.{header_of};
-ghost use Rattle.pdb.specs.Source.{Continues};
+ghost use Rattle.pdb.specs.Source.{Continues, MayFail};
 ghost use Rattle.pdb_resolve.specs.AsIfEmpty.{if_read};
 ghost use Rattle.pdb_resolve.specs.FileParts.{items_where};
 ghost use Rattle.pdb_text.specs.Written.{WroteFront};
@@ -15,6 +15,8 @@ ghost use Rattle.pdb_tool.specs.SourceTexts.{sources_text};
 ghost use Rattle.pdb_tool.specs.ModuleTexts.{find_command, found_by, plain_text, sources_command, where_command};
 ghost use Rattle.pdb_tool.specs.Operands.{word_of};
 ghost use Rattle.pdb_tool.specs.SourceViews.{source_view};
+ghost use Rattle.pdb_tool.specs.Stops.{StopsCommand, StopsComposing, StopsWriting};
+ghost use Rattle.pdb_tool.specs.WriteFailures.{failures_after};
 ghost use Rattle.pdb_tool.specs.declared.stop.Stop.{Stop};
 
 use crate::asking::Asking;
@@ -34,9 +36,8 @@ use pdb::{
     AddressMap, Error, IdInformation, ModuleInfo, PDB, Source, StringTable, TypeInformation,
 };
 use pdb_resolve::{CallNames, GlobalIds, PlaceAddresses, ids_of, is_x86, types_of};
-use pdb_text::write_out;
+use pdb_text::{CountedWrite, write_counted};
 use std::alloc::{AllocError, Global};
-use std::io::Write;
 
 /// The source files of modules in a form, with their names from a string table.
 #[derive(Drop)]
@@ -69,17 +70,19 @@ impl<'a> ModuleText for Sources<'a> {
 
 /// Writes the source files of modules of a source's file.
 #[tactic(auto, using(pdb_text::proofs::Written::any_err, crate::proofs::AnsweredLines::front_none))]
-pub fn write_sources<'s, S: Source<'s>, W: Write>(
+pub fn write_sources<'s, S: Source<'s>, W: CountedWrite>(
     alloc: Global,
     source: S,
     form: Form,
-    places: &[u32],
+    indices: &[u32],
     out: &mut W,
 ) -> Result<(), Stop>
     ensures opened { OnOk result (opens (S.state source).file ≡ Ok tt) }
-    ensures ok { OnOk result (Appends (W.contents out.old) (W.contents out.new) (sources_command form (S.state source).file places.now)) }
+    ensures ok { OnOk result (Appends (W.contents out.old) (W.contents out.new) (sources_command form (S.state source).file indices.now)) }
     ensures refused { (S.state source).steady ≡ true → (e : Error) → IsErrOf result (Stop.Open e) → opens (S.state source).file ≡ Err e }
-    ensures front { OnErr result (WroteFront (W.contents out.old) (W.contents out.new) (sources_command form (S.state source).file places.now)) }
+    ensures stops { IfErr result (StopsCommand ((S.state source).steady ≡ false)) }
+    ensures failures { W.failures out.new ≡ failures_after (W.failures out.old) result }
+    ensures front { OnErr result (WroteFront (W.contents out.old) (W.contents out.new) (sources_command form (S.state source).file indices.now)) }
 {
     let mut pdb = opened(alloc, source)?;
     let strings = strings_of(&mut pdb)?;
@@ -87,7 +90,7 @@ pub fn write_sources<'s, S: Source<'s>, W: Write>(
         form,
         strings: strings.as_ref(),
     };
-    write_modules(alloc, &mut pdb, form, &sources, places, out)
+    write_modules(alloc, &mut pdb, form, &sources, indices, out)
 }
 
 impl<'w, 'a> ModuleText for Finder<'w, 'a> {
@@ -117,7 +120,7 @@ impl<'w, 'a> ModuleText for Finder<'w, 'a> {
 fn address_map<'s, S: Source<'s>>(pdb: &mut PDB<'s, S>) -> Result<Option<AddressMap<'s>>, Stop>
     ensures continues { Continues pdb.old pdb.new }
     ensures is { IfOk result (λ o. o ≡ if_read (address_map_in pdb.old.file)) }
-    ensures unwritten { IfErr result (λ e. (e ≡ Stop.Memory) ⊎ (e ≡ Stop.Read)) }
+    ensures unwritten { IfErr result (StopsComposing (MayFail pdb.old pdb.new)) }
 {
     match pdb.address_map() {
         Ok(map) => Ok(Some(map)),
@@ -131,7 +134,7 @@ fn address_map<'s, S: Source<'s>>(pdb: &mut PDB<'s, S>) -> Result<Option<Address
 fn image_is_x86<'s, S: Source<'s>>(pdb: &mut PDB<'s, S>) -> Result<bool, Stop>
     ensures continues { Continues pdb.old pdb.new }
     ensures is { IfOk result (λ b. b ≡ x86_in pdb.old.file) }
-    ensures unwritten { IfErr result (λ e. (e ≡ Stop.Memory) ⊎ (e ≡ Stop.Read)) }
+    ensures unwritten { IfErr result (StopsComposing (MayFail pdb.old pdb.new)) }
 {
     match pdb.debug_information() {
         Ok(information) => Ok(is_x86(Some(&information))),
@@ -151,7 +154,7 @@ fn finder_by<'w, 'a>(
     addresses: Option<AddressMap<'a>>,
 ) -> Result<Finder<'w, 'a>, Stop>
     ensures is { IfOk result (λ f. f ≡ record { form = form; words = map word_of words.entry.now; ids = items_where (option_copied ids.entry); types = items_where (option_copied types.entry); addresses = addresses.entry }) }
-    ensures unwritten { IfErr result (λ e. (e ≡ Stop.Memory) ⊎ (e ≡ Stop.Read)) }
+    ensures unwritten { IfErr result (λ e. e ≡ Stop.Memory) }
 {
     let ids = ids_of(alloc, ids).map_err(stop_of)?;
     let types = types_of(alloc, types).map_err(stop_of)?;
@@ -167,7 +170,7 @@ fn put_globals<'s, S: Source<'s>>(
 ) -> Result<(), Stop>
     ensures continues { Continues pdb.old pdb.new }
     ensures text { OnOk result (out.new.items ≡ out.old.items ++ globals_found pdb.old.file finder.now) }
-    ensures unwritten { IfErr result (λ e. (e ≡ Stop.Memory) ⊎ (e ≡ Stop.Read)) }
+    ensures unwritten { IfErr result (StopsComposing (MayFail pdb.old pdb.new)) }
 {
     let x86 = image_is_x86(pdb)?;
     match pdb.global_symbols() {
@@ -177,25 +180,27 @@ fn put_globals<'s, S: Source<'s>>(
 }
 
 /// Writes what is asked for of an opened file: of the global symbols, and then of all modules.
-fn write_found<'s, S: Source<'s>, W: Write>(
+fn write_found<'s, S: Source<'s>, W: CountedWrite>(
     alloc: Global,
     pdb: &mut PDB<'s, S>,
     finder: &Finder<'_, '_>,
     out: &mut W,
 ) -> Result<(), Stop>
     ensures opened { (e : Error) → IsErrOf result (Stop.Open e) → ⊥ }
+    ensures stops { IfErr result (StopsWriting (MayFail pdb.old pdb.new)) }
+    ensures failures { W.failures out.new ≡ failures_after (W.failures out.old) result }
     ensures ok { OnOk result (Appends (W.contents out.old) (W.contents out.new) (found_by pdb.old.file finder.now)) }
     ensures front { OnErr result (WroteFront (W.contents out.old) (W.contents out.new) (found_by pdb.old.file finder.now)) }
 {
     let mut text = Vec::new(alloc);
     put_globals(alloc, pdb, finder, &mut text)?;
-    write_out(out, &text)?;
+    write_counted(out, &text)?;
     write_plain(alloc, pdb, finder.form, finder, out)
 }
 
 /// Writes where the functions and the data of a source's file stand whose names are asked for.
 #[tactic(auto, unfolding(pdb_resolve::specs::FileParts::items_listed), using(pdb_text::proofs::Written::any_err, crate::proofs::AnsweredLines::front_none))]
-pub fn write_find<'w, 's, S: Source<'s>, W: Write>(
+pub fn write_find<'w, 's, S: Source<'s>, W: CountedWrite>(
     alloc: Global,
     source: S,
     form: Form,
@@ -205,6 +210,8 @@ pub fn write_find<'w, 's, S: Source<'s>, W: Write>(
     ensures opened { OnOk result (opens (S.state source).file ≡ Ok tt) }
     ensures ok { OnOk result (Appends (W.contents out.old) (W.contents out.new) (find_command form (S.state source).file (map word_of words.now))) }
     ensures refused { (S.state source).steady ≡ true → (e : Error) → IsErrOf result (Stop.Open e) → opens (S.state source).file ≡ Err e }
+    ensures stops { IfErr result (StopsCommand ((S.state source).steady ≡ false)) }
+    ensures failures { W.failures out.new ≡ failures_after (W.failures out.old) result }
     ensures front { OnErr result (WroteFront (W.contents out.old) (W.contents out.new) (find_command form (S.state source).file (map word_of words.now))) }
 {
     let mut pdb = opened(alloc, source)?;
@@ -249,7 +256,7 @@ fn asking_by<'w, 'a>(
     addresses: Option<AddressMap<'a>>,
 ) -> Result<Asking<'w, 'a>, Stop>
     ensures is { IfOk result (λ a. a ≡ record { form = form; asked = map source_view asked.entry.now; strings = option_copied strings.entry; ids = items_where (option_copied ids.entry); types = items_where (option_copied types.entry); addresses = addresses.entry }) }
-    ensures unwritten { IfErr result (λ e. (e ≡ Stop.Memory) ⊎ (e ≡ Stop.Read)) }
+    ensures unwritten { IfErr result (λ e. e ≡ Stop.Memory) }
 {
     let ids = ids_of(alloc, ids).map_err(stop_of)?;
     let types = types_of(alloc, types).map_err(stop_of)?;
@@ -259,7 +266,7 @@ fn asking_by<'w, 'a>(
 
 /// Writes which addresses lines of a source's file have that are asked for.
 #[tactic(auto, unfolding(pdb_resolve::specs::FileParts::items_listed), using(pdb_text::proofs::Written::any_err, crate::proofs::AnsweredLines::front_none))]
-pub fn write_where<'w, 's, S: Source<'s>, W: Write>(
+pub fn write_where<'w, 's, S: Source<'s>, W: CountedWrite>(
     alloc: Global,
     source: S,
     form: Form,
@@ -269,6 +276,8 @@ pub fn write_where<'w, 's, S: Source<'s>, W: Write>(
     ensures opened { OnOk result (opens (S.state source).file ≡ Ok tt) }
     ensures ok { OnOk result (Appends (W.contents out.old) (W.contents out.new) (where_command form (S.state source).file (map source_view asked.now))) }
     ensures refused { (S.state source).steady ≡ true → (e : Error) → IsErrOf result (Stop.Open e) → opens (S.state source).file ≡ Err e }
+    ensures stops { IfErr result (StopsCommand ((S.state source).steady ≡ false)) }
+    ensures failures { W.failures out.new ≡ failures_after (W.failures out.old) result }
     ensures front { OnErr result (WroteFront (W.contents out.old) (W.contents out.new) (where_command form (S.state source).file (map source_view asked.now))) }
 {
     let mut pdb = opened(alloc, source)?;

@@ -1,4 +1,4 @@
-//! Answers of symbol files for people: `pdb_tool COMMAND [OPTION..] FILE [WORD..]`.
+//! Texts of symbol files for people: `pdb_tool COMMAND [OPTION..] FILE [ARGUMENT..]`.
 #![tactic(auto)]
 
 mod arguments;
@@ -6,12 +6,13 @@ mod asked;
 mod asking;
 mod call_lines;
 mod check_file;
-mod check_front;
 mod check_module;
+mod check_streams;
 mod check_types;
 mod checks;
 mod commands;
 mod depth;
+mod each_file;
 mod error_line;
 mod error_objects;
 mod fields;
@@ -19,6 +20,7 @@ mod fields_code;
 mod fields_data;
 mod fields_references;
 mod file_kind;
+mod file_parts;
 mod file_texts;
 mod find_texts;
 mod finder;
@@ -27,7 +29,6 @@ mod flags;
 mod found_laws;
 mod found_objects;
 mod frame_objects;
-mod fronts;
 mod help;
 mod host;
 mod in_parts;
@@ -50,6 +51,7 @@ mod module_lists;
 mod module_machine;
 mod module_sizes;
 mod module_texts;
+mod notes;
 mod objects;
 mod opening;
 mod operands;
@@ -83,6 +85,7 @@ mod stop;
 mod stream_objects;
 mod stream_roles;
 mod stream_texts;
+mod subject;
 mod symbol_texts;
 mod text_asked;
 mod type_kinds;
@@ -100,20 +103,20 @@ mod words;
 mod work;
 
 use arguments::arguments_of;
-use checks::write_check;
+use checks::check_of;
+use each_file::{EachFile, Printed as PrintedFile, write_each_file};
 use file_texts::FileText;
 use help::{VERSION, help_of};
 use host::{Host, image_wants, size_in_parts};
 use key_line::{key_line, line_in_parts};
 use list_help::LIST;
+use notes::{Noted, NotesDamage};
 use operands::{Operand, all_questions};
 use options::{Form, Options, Wanted};
 use output::{Noticed, Output};
 use pdb_file::{read_all, size_of};
-use pdb_text::write_out;
-use report::{
-    Fault, report, status_of, word_at, write_damage, write_notice, write_other_key, write_stop,
-};
+use pdb_text::{CountedWrite, CountedWriter, WordsError, write_out};
+use report::{Fault, report, status_of, word_at, write_damage, write_notice, write_other_key};
 use std::alloc::Global;
 use std::fs::File;
 use std::io::{self, Input, IsTerminal, Write};
@@ -122,11 +125,10 @@ use std::process::ExitCode;
 use std::rt::Files;
 use stop::Stop;
 use wanted::{answer_wanted, key_in_word, write_wanted, write_wanted_in_parts};
-use words::WordsError;
 use work::{Work, work_in};
 
-/// Whether all was printed and nothing was wrong: else a file among several couldn't be read, or is damaged, and that was
-/// printed.
+/// Whether all was printed and nothing was wrong: else a file among several couldn't be read, or is damaged, and that
+/// was printed.
 type Printed = Result<bool, Fault>;
 
 /// Where a command writes: its texts, and its messages.
@@ -141,13 +143,13 @@ struct Streams<'a, W: Write, E: Write> {
 /// The fault of arguments that name no work.
 fn words_fault(e: WordsError) -> Fault {
     match e {
-        WordsError::BadWord(place) => Fault::BadWord(place),
+        WordsError::BadWord(argument) => Fault::BadWord(argument),
         WordsError::OutOfMemory => Fault::Stopped(Stop::Memory, 0),
     }
 }
 
 /// Writes the text of an open file, where it is the wanted one; else returns its key.
-fn write_text_of<W: Write>(
+fn write_text_of<W: NotesDamage>(
     alloc: Global,
     file: File,
     wanted: Option<&[u8]>,
@@ -162,8 +164,8 @@ fn write_text_of<W: Write>(
     write_wanted(alloc, &bytes, wanted, text, out)
 }
 
-/// Prints the text of the file that an operand names.
-fn print_text<R: Files<File = File> + AllocGlobal, W: Write, E: Write>(
+/// Prints the text of the file that an operand names. That what it was made of has an error is a message.
+fn print_text<R: Files<File = File> + AllocGlobal, W: CountedWrite, E: Write>(
     host: &Host<'_, R>,
     name: Operand<'_>,
     wanted: Option<&[u8]>,
@@ -171,7 +173,11 @@ fn print_text<R: Files<File = File> + AllocGlobal, W: Write, E: Write>(
     streams: &mut Streams<'_, W, E>,
 ) -> Printed {
     let file = host.open(name)?;
-    let written = write_text_of(host.alloc(), file, wanted, text, streams.out);
+    let mut out = Noted::new(streams.out);
+    let written = write_text_of(host.alloc(), file, wanted, text, &mut out);
+    if out.has_damage() {
+        let _ = write_damage(name.word, streams.err);
+    }
     printed_or_other(written, name, wanted, streams.err)
 }
 
@@ -188,13 +194,13 @@ fn printed_or_other<E: Write>(
             let _ = write_other_key(name.word, &key, wanted.unwrap_or(&[]), err);
             Err(Fault::OtherKey)
         }
-        Err(stop) => Err(Fault::Stopped(stop, name.place)),
+        Err(stop) => Err(Fault::Stopped(stop, name.argument)),
     }
 }
 
 /// Prints the code at the addresses that the lines of standard input are. The file is read whole: which of its modules
 /// the lines will ask for isn't known. Where standard input is closed, the file has its descriptor.
-fn print_lines_read<R: Files<File = File> + Input + AllocGlobal, W: Write, E: Write>(
+fn print_lines_read<R: Files<File = File> + Input + AllocGlobal, W: CountedWrite, E: Write>(
     host: &Host<'_, R>,
     options: Options,
     name: Operand<'_>,
@@ -206,12 +212,19 @@ fn print_lines_read<R: Files<File = File> + Input + AllocGlobal, W: Write, E: Wr
     if file.as_raw_fd() == 0 {
         return Err(Fault::NoInput);
     }
-    let bytes = read_all(alloc, &mut file).map_err(|e| Fault::Stopped(Stop::from(e), name.place))?;
+    let bytes = read_all(alloc, &mut file).map_err(|e| Fault::Stopped(
+        Stop::from(e),
+        name.argument,
+    ))?;
     if streams.is_asked_by_hand {
         let _ = write_notice(streams.err);
     }
     let input = &mut host.rt().reader();
-    let written = answer_wanted(alloc, &bytes, wanted, options, input, streams.out);
+    let mut out = Noted::new(streams.out);
+    let written = answer_wanted(alloc, &bytes, wanted, options, input, &mut out);
+    if out.has_damage() {
+        let _ = write_damage(name.word, streams.err);
+    }
     printed_or_other(written, name, wanted, streams.err)
 }
 
@@ -223,20 +236,20 @@ fn wanted_in<R: Files<File = File> + AllocGlobal>(
 ) -> Result<(Option<Vec<u8>>, Options), Fault> {
     match options.wanted {
         None => Ok((None, options)),
-        Some(Wanted::Key(place)) => {
-            let key = key_in_word(host.alloc(), word_at(words, place)).map_err(Stop::from)?;
+        Some(Wanted::Key(argument)) => {
+            let key = key_in_word(host.alloc(), word_at(words, argument)).map_err(Stop::from)?;
             Ok((Some(key), options))
         }
-        Some(Wanted::Image(place)) => {
-            let wants = image_wants(host, word_at(words, place), place)?;
+        Some(Wanted::Image(argument)) => {
+            let wants = image_wants(host, word_at(words, argument), argument)?;
             Ok((Some(wants.key), options.with_base_of(wants.base)))
         }
     }
 }
 
-/// Prints the code at addresses: those of the operands behind the file, or else of the lines of standard input. The image
-/// that is given is read first.
-fn print_code<R: Files<File = File> + Input + AllocGlobal, W: Write, E: Write>(
+/// Prints the code at addresses: those of the operands behind the file, or else of the lines of standard input. The
+/// image that is given is read first.
+fn print_code<R: Files<File = File> + Input + AllocGlobal, W: CountedWrite, E: Write>(
     host: &Host<'_, R>,
     options: Options,
     name: Operand<'_>,
@@ -254,24 +267,24 @@ fn print_code<R: Files<File = File> + Input + AllocGlobal, W: Write, E: Write>(
 }
 
 /// Prints a text of lines. That it has a line of an error is a message. The result is whether anything was printed.
-fn print_listed<R: Files<File = File> + AllocGlobal, W: Write, E: Write>(
+fn print_listed<R: Files<File = File> + AllocGlobal, W: CountedWrite, E: Write>(
     host: &Host<'_, R>,
     name: Operand<'_>,
     text: FileText<'_>,
     streams: &mut Streams<'_, W, E>,
 ) -> Printed {
     let file = host.open(name)?;
-    let mut out = Noticed::new(streams.out, text.form());
+    let mut out = CountedWriter::counting(Noticed::new(streams.out, text.form()));
     let written = write_text_of(host.alloc(), file, None, text, &mut out);
-    let has_written = out.has_written();
-    if out.has_error() {
+    let has_written = out.inner().has_written();
+    if out.inner().has_error() {
         let _ = write_damage(name.word, streams.err);
     }
     Ok(printed_or_other(written, name, None, streams.err)? && has_written)
 }
 
 /// The same, where it is well if nothing is printed.
-fn print_all<R: Files<File = File> + AllocGlobal, W: Write, E: Write>(
+fn print_all<R: Files<File = File> + AllocGlobal, W: CountedWrite, E: Write>(
     host: &Host<'_, R>,
     name: Operand<'_>,
     text: FileText<'_>,
@@ -297,95 +310,58 @@ fn key_line_of<R: Files<File = File> + AllocGlobal>(
     key_line(host.alloc(), form, &bytes, name.word.as_bytes())
 }
 
-/// Writes why a file among several isn't read. The next one follows.
-fn pass_over<R: Files<File = File> + AllocGlobal, E: Write>(
-    host: &Host<'_, R>,
-    stop: Stop,
-    name: Operand<'_>,
-    err: &mut E,
-) {
-    let kind = host.kind_of(stop, name.word);
-    let _ = write_stop(host.alloc(), stop, name.word, kind, err);
+/// The keys of files.
+#[derive(Drop)]
+struct KeyedFiles<'h, 'a, R> {
+    host: &'h Host<'a, R>,
+    form: Form,
 }
 
-/// Prints the key of a file. One that can't be read or opened has a message.
-fn print_key<R: Files<File = File> + AllocGlobal, W: Write, E: Write>(
-    host: &Host<'_, R>,
-    form: Form,
-    name: Operand<'_>,
-    streams: &mut Streams<'_, W, E>,
-) -> Printed {
-    match key_line_of(host, form, name) {
-        Ok(line) => {
-            write_out(streams.out, &line)?;
-            Ok(true)
-        }
-        Err(Stop::Memory) => Err(Fault::Stopped(Stop::Memory, name.place)),
-        Err(stop) => {
-            pass_over(host, stop, name, streams.err);
-            Ok(false)
-        }
+impl<'h, 'a, R: Files<File = File> + AllocGlobal> EachFile for KeyedFiles<'h, 'a, R> {
+    ghost use Rattle.std.specs.Prelude.{false, Err};
+    ghost use Rattle.pdb_tool.specs.declared.stop.Stop.TheVariants.{Read};
+
+    ghost is_known = { λ _. false };
+
+    ghost printed = { λ _ _. Err Read };
+
+    fn text_of(&self, name: Operand<'_>) -> Result<PrintedFile, Stop> {
+        let text = key_line_of(self.host, self.form, name)?;
+        Ok(PrintedFile {
+            text,
+            is_well: true,
+        })
+    }
+
+    fn pass_over<E: Write>(&self, stop: Stop, name: Operand<'_>, err: &mut E) {
+        self.host.pass_over(stop, name, err);
     }
 }
 
-/// Prints the keys of files, one after another.
-fn print_keys<R: Files<File = File> + AllocGlobal, W: Write, E: Write>(
-    host: &Host<'_, R>,
+/// What is wrong with files.
+#[derive(Drop)]
+struct CheckedFiles<'h, 'a, R> {
+    host: &'h Host<'a, R>,
     form: Form,
-    first: Operand<'_>,
-    others: &[Operand<'_>],
-    streams: &mut Streams<'_, W, E>,
-) -> Printed {
-    let mut all = print_key(host, form, first, streams)?;
-    for name in others {
-        all = print_key(host, form, *name, streams)? && all;
-    }
-    Ok(all)
 }
 
-/// Checks the file that an operand names.
-fn check_named<R: Files<File = File> + AllocGlobal, W: Write>(
-    host: &Host<'_, R>,
-    form: Form,
-    name: Operand<'_>,
-    out: &mut W,
-) -> Result<bool, Stop> {
-    let mut file = host.opened(name)?;
-    let bytes = read_all(host.alloc(), &mut file)?;
-    write_check(host.alloc(), &bytes, form, name.word.as_bytes(), out)
-}
+impl<'h, 'a, R: Files<File = File> + AllocGlobal> EachFile for CheckedFiles<'h, 'a, R> {
+    ghost use Rattle.std.specs.Prelude.{false, Err};
+    ghost use Rattle.pdb_tool.specs.declared.stop.Stop.TheVariants.{Read};
 
-/// Prints what is damaged in a file. One that can't be read or opened has a message.
-fn print_check<R: Files<File = File> + AllocGlobal, W: Write, E: Write>(
-    host: &Host<'_, R>,
-    form: Form,
-    name: Operand<'_>,
-    streams: &mut Streams<'_, W, E>,
-) -> Printed {
-    match check_named(host, form, name, streams.out) {
-        Ok(is_sound) => Ok(is_sound),
-        Err(Stop::Memory) => Err(Fault::Stopped(Stop::Memory, name.place)),
-        Err(Stop::Write) => Err(Fault::Stopped(Stop::Write, name.place)),
-        Err(stop) => {
-            pass_over(host, stop, name, streams.err);
-            Ok(false)
-        }
-    }
-}
+    ghost is_known = { λ _. false };
 
-/// Prints what is damaged in files, one after another.
-fn print_checks<R: Files<File = File> + AllocGlobal, W: Write, E: Write>(
-    host: &Host<'_, R>,
-    form: Form,
-    first: Operand<'_>,
-    others: &[Operand<'_>],
-    streams: &mut Streams<'_, W, E>,
-) -> Printed {
-    let mut all = print_check(host, form, first, streams)?;
-    for name in others {
-        all = print_check(host, form, *name, streams)? && all;
+    ghost printed = { λ _ _. Err Read };
+
+    fn text_of(&self, name: Operand<'_>) -> Result<PrintedFile, Stop> {
+        let mut file = self.host.opened(name)?;
+        let bytes = read_all(self.host.alloc(), &mut file)?;
+        check_of(self.host.alloc(), &bytes, self.form, name.word.as_bytes())
     }
-    Ok(all)
+
+    fn pass_over<E: Write>(&self, stop: Stop, name: Operand<'_>, err: &mut E) {
+        self.host.pass_over(stop, name, err);
+    }
 }
 
 /// Prints a text of the program's own.
@@ -395,7 +371,7 @@ fn print_own<W: Write>(text: &str, out: &mut W) -> Printed {
 }
 
 /// Does the work.
-fn run<R: Files<File = File> + Input + AllocGlobal, W: Write, E: Write>(
+fn run<R: Files<File = File> + Input + AllocGlobal, W: CountedWrite, E: Write>(
     host: &Host<'_, R>,
     words: &[String],
     streams: &mut Streams<'_, W, E>,
@@ -404,8 +380,24 @@ fn run<R: Files<File = File> + Input + AllocGlobal, W: Write, E: Write>(
         Work::Help(topic) => print_own(help_of(topic), streams.out),
         Work::ListHelp => print_own(LIST, streams.out),
         Work::Version => print_own(VERSION, streams.out),
-        Work::Keys(form, first, others) => print_keys(host, form, first, &others, streams),
-        Work::Checks(form, first, others) => print_checks(host, form, first, &others, streams),
+        Work::Keys(form, first, others) => {
+            write_each_file(
+                &KeyedFiles { host, form },
+                first,
+                &others,
+                streams.out,
+                streams.err,
+            )
+        }
+        Work::Checks(form, first, others) => {
+            write_each_file(
+                &CheckedFiles { host, form },
+                first,
+                &others,
+                streams.out,
+                streams.err,
+            )
+        }
         Work::Resolve(options, file, rest) => {
             print_code(host, options, file, &rest, words, streams)
         }
@@ -442,7 +434,7 @@ fn report_fault<R: Files<File = File> + AllocGlobal, E: Write>(
         return status_of(fault);
     }
     let kind = match fault {
-        Fault::Stopped(stop, place) => host.kind_of(stop, word_at(words, place)),
+        Fault::Stopped(stop, argument) => host.kind_of(stop, word_at(words, argument)),
         _ => None,
     };
     report(host.alloc(), fault, words, kind, err)
@@ -455,7 +447,7 @@ fn main(rt: HostRuntime) -> ExitCode {
         return ExitCode::from(report(rt.alloc(), fault, &[], None, &mut err));
     };
     let host = Host::new(&rt, &arguments.not_text);
-    let mut out = Output::new(io::writer(&rt));
+    let mut out = CountedWriter::counting(Output::new(io::writer(&rt)));
     let mut streams = Streams {
         out: &mut out,
         err: &mut err,
@@ -465,7 +457,7 @@ fn main(rt: HostRuntime) -> ExitCode {
         Ok(true) => ExitCode::SUCCESS,
         Ok(false) => ExitCode::FAILURE,
         Err(fault) => {
-            let is_closed = out.is_closed();
+            let is_closed = out.inner().is_closed();
             ExitCode::from(report_fault(&host, fault, &arguments.words, is_closed, &mut err))
         }
     }

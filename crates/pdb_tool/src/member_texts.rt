@@ -451,8 +451,8 @@ fn put_member(
     }
 }
 
-/// The lines of the members of a list, and then that of its fault. The values of enumerators are numbers of an underlying
-/// type.
+/// The lines of the members of a list, and then that of its fault. The values of enumerators are numbers of an
+/// underlying type.
 pub fn put_members(
     out: &mut Vec<u8>,
     types: Types<'_, '_>,

@@ -1,10 +1,11 @@
 //! The lines of errors of a module, in the form of the output.
 
-ghost use Rattle.std.specs.Prelude.{◌≡◌, ◌≢◌, ◌∷◌, ◌++◌, ◌⊎◌, codes, IfErr, OnOk};
+ghost use Rattle.std.specs.Prelude.{◌≡◌, ◌≢◌, ◌∷◌, ◌++◌, codes, OnOk, IfErr};
 ghost use Rattle.json.specs.Tree.{json_tokens};
 ghost use Rattle.pdb.specs.Error.{Error};
 ghost use Rattle.pdb_tool.specs.ErrorObjects.{error_of, error_value, none_of, none_value};
 ghost use Rattle.pdb_tool.specs.Objects.{Adds, json_line, number_value};
+ghost use Rattle.pdb_tool.specs.Stops.{StopsComposing};
 ghost use Rattle.pdb_tool.specs.declared.stop.Stop.{Stop};
 
 use crate::error_line::put_error_line;
@@ -58,7 +59,7 @@ pub fn put_refusal_of(out: &mut Vec<u8>, form: Form, k: u64, e: Error) -> Result
 /// The same; out of memory, and a source that failed, are passed on.
 pub fn put_refused_of(out: &mut Vec<u8>, form: Form, k: u64, e: Error) -> Result<(), Stop>
     ensures text { OnOk result ((e ≢ Error.OutOfMemory) × (e ≢ Error.IoError) × (out.new.items ≡ out.old.items ++ error_of form k e)) }
-    ensures unwritten { IfErr result (λ e. (e ≡ Stop.Memory) ⊎ (e ≡ Stop.Read)) }
+    ensures unwritten { IfErr result (StopsComposing (e ≡ Error.IoError)) }
 {
     match e {
         Error::OutOfMemory => Err(Stop::Memory),

@@ -1,6 +1,6 @@
 //! The text of `modules`.
 
-ghost use Rattle.std.specs.Prelude.{◌≡◌, ℕ, ◌∷◌, ◌++◌, ◌⊎◌, true, Ok, Err, IfOk, IfErr, IsErrOf, OnOk, OnErr, codes};
+ghost use Rattle.std.specs.Prelude.{◌≡◌, ℕ, ◌∷◌, ◌++◌, true, false, Ok, Err, IfOk, IfErr, IsErrOf, OnOk, OnErr, codes};
 ghost use Rattle.std.specs.Io.KnownBytes.{Appends};
 ghost use Rattle.json.specs.Token.{begin_object, key};
 ghost use Rattle.json.specs.Tree.{json_tokens, members_tokens};
@@ -8,12 +8,14 @@ ghost use Rattle.pdb.specs.Container.{opens};
 ghost use Rattle.pdb.specs.Contributions.{contributions_in};
 ghost use Rattle.pdb.specs.DbiViews.{modules_left, modules_steps};
 ghost use Rattle.pdb.specs.Error.{Error};
-ghost use Rattle.pdb.specs.Source.{Continues};
+ghost use Rattle.pdb.specs.Source.{Continues, MayFail};
 ghost use Rattle.pdb_resolve.specs.AsIfEmpty.{items_of};
 ghost use Rattle.pdb_text.specs.Written.{WroteFront};
 ghost use Rattle.pdb_tool.specs.ModuleLists.{listed_in, listed_line, listed_value, module_list_text, modules_command, modules_of_stream, object_member, object_text, object_value};
 ghost use Rattle.pdb_tool.specs.ModuleSizes.{bytes_of_module, size_in};
 ghost use Rattle.pdb_tool.specs.Objects.{Adds, json_line};
+ghost use Rattle.pdb_tool.specs.Stops.{StopsCommand, StopsComposing};
+ghost use Rattle.pdb_tool.specs.WriteFailures.{failures_after};
 ghost use Rattle.pdb_tool.specs.declared.stop.Stop.{Stop};
 
 use crate::error_objects::{put_error_in, put_refused_in};
@@ -25,9 +27,8 @@ use crate::stop::Stop;
 use crate::values::put_behind_blank;
 use json::Writer;
 use pdb::{DebugInformation, FallibleIterator, Module, ModuleIter, PDB, Source};
-use pdb_text::{put_decimal, put_field, put_line_end, put_one_line, write_out};
+use pdb_text::{CountedWrite, put_decimal, put_field, put_line_end, put_one_line, write_counted};
 use std::alloc::{AllocError, Global};
-use std::io::Write;
 
 /// How many bytes each module of a file has; none where the contributions can't be read.
 #[tactic(auto, using(crate::proofs::SameSizes::same_sizes))]
@@ -177,7 +178,7 @@ fn put_stream(
     information: &DebugInformation<'_>,
 ) -> Result<(), Stop>
     ensures text { OnOk result (out.new.items ≡ out.old.items ++ modules_of_stream form information.now) }
-    ensures unwritten { IfErr result (λ e. (e ≡ Stop.Memory) ⊎ (e ≡ Stop.Read)) }
+    ensures unwritten { IfErr result (λ e. e ≡ Stop.Memory) }
 {
     let sizes = module_sizes(alloc, information)?;
     match information.modules() {
@@ -196,7 +197,7 @@ fn put_modules<'s, S: Source<'s>>(
 ) -> Result<(), Stop>
     ensures continues { Continues pdb.old pdb.new }
     ensures text { OnOk result (out.new.items ≡ out.old.items ++ modules_command form pdb.old.file) }
-    ensures unwritten { IfErr result (λ e. (e ≡ Stop.Memory) ⊎ (e ≡ Stop.Read)) }
+    ensures unwritten { IfErr result (StopsComposing (MayFail pdb.old pdb.new)) }
 {
     match pdb.debug_information() {
         Ok(information) => put_stream(alloc, out, form, &information),
@@ -206,7 +207,7 @@ fn put_modules<'s, S: Source<'s>>(
 
 /// Writes the list of the modules of a source's file.
 #[tactic(auto, using(pdb_text::proofs::Written::any_err, crate::proofs::AnsweredLines::front_none))]
-pub fn write_modules<'s, S: Source<'s>, W: Write>(
+pub fn write_modules<'s, S: Source<'s>, W: CountedWrite>(
     alloc: Global,
     source: S,
     form: Form,
@@ -215,11 +216,13 @@ pub fn write_modules<'s, S: Source<'s>, W: Write>(
     ensures opened { OnOk result (opens (S.state source).file ≡ Ok tt) }
     ensures ok { OnOk result (Appends (W.contents out.old) (W.contents out.new) (modules_command form (S.state source).file)) }
     ensures refused { (S.state source).steady ≡ true → (e : Error) → IsErrOf result (Stop.Open e) → opens (S.state source).file ≡ Err e }
+    ensures stops { IfErr result (StopsCommand ((S.state source).steady ≡ false)) }
+    ensures failures { W.failures out.new ≡ failures_after (W.failures out.old) result }
     ensures front { OnErr result (WroteFront (W.contents out.old) (W.contents out.new) (modules_command form (S.state source).file)) }
 {
     let mut pdb = opened(alloc, source)?;
     let mut text = Vec::new(alloc);
     put_modules(alloc, &mut pdb, form, &mut text)?;
-    write_out(out, &text)?;
+    write_counted(out, &text)?;
     Ok(())
 }

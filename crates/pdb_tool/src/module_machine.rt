@@ -1,13 +1,14 @@
 //! Which machine the code of a module is for.
 
-ghost use Rattle.std.specs.Prelude.{◌≡◌, ◌≢◌, ◌⊎◌, None, Ok, IfOk, IfErr, slice_index};
+ghost use Rattle.std.specs.Prelude.{◌≡◌, ◌≢◌, None, Ok, IfOk, IfErr, slice_index};
 ghost use Rattle.pdb.specs.Data.{shown};
 ghost use Rattle.pdb.specs.Error.{Error};
 ghost use Rattle.pdb.specs.Fields.{number};
 ghost use Rattle.pdb.specs.Forms.{record_at};
-ghost use Rattle.pdb.specs.Source.{Continues};
+ghost use Rattle.pdb.specs.Source.{Continues, MayFail};
 ghost use Rattle.pdb.specs.Views.{symbol_of, symbols_left};
 ghost use Rattle.pdb_tool.specs.ModuleMachines.{file_machine, machine_named, module_machine};
+ghost use Rattle.pdb_tool.specs.Stops.{StopsComposing};
 ghost use Rattle.pdb_tool.specs.declared.stop.Stop.{Stop};
 
 use crate::stop::Stop;
@@ -94,7 +95,7 @@ pub fn machine_of_module(
 pub fn machine_of_file<'s, S: Source<'s>>(pdb: &mut PDB<'s, S>) -> Result<Option<Machine>, Stop>
     ensures continues { Continues pdb.old pdb.new }
     ensures is { IfOk result (λ m. m ≡ file_machine pdb.old.file) }
-    ensures unwritten { IfErr result (λ e. (e ≡ Stop.Memory) ⊎ (e ≡ Stop.Read)) }
+    ensures unwritten { IfErr result (StopsComposing (MayFail pdb.old pdb.new)) }
 {
     match pdb.debug_information() {
         Ok(information) => Ok(Machine::of_image(information.header().machine_type)),

@@ -7,7 +7,7 @@ ghost use Rattle.pdb_tool.specs.ModuleSizes.{bytes_of_module, size_in};
 use pdb::{DBISectionContributionIter, FallibleIterator};
 use std::alloc::{AllocError, Global};
 
-/// Makes room for the size of a module.
+/// Makes space for the size of a module.
 fn reach(sizes: &mut Vec<u64>, module: usize) -> Result<(), AllocError>
     ensures long { OnOk result («module» < length sizes.new.items) }
     ensures same { OnOk result ((k : ℕ) → size_in sizes.new.items k ≡ size_in sizes.old.items k) }

@@ -8,12 +8,14 @@ ghost use Rattle.pdb.specs.DbiViews.{modules_left, modules_steps};
 ghost use Rattle.pdb.specs.Modules.{modules_in};
 ghost use Rattle.pdb.specs.Answers.{module_info_in};
 ghost use Rattle.pdb.specs.Listed.{listed};
-ghost use Rattle.pdb.specs.Source.{Continues};
+ghost use Rattle.pdb.specs.Source.{Continues, MayFail};
 ghost use Rattle.pdb_resolve.specs.ImportTables.{ids_by};
 ghost use Rattle.pdb_text.specs.Written.{WroteFirst, WroteFront};
 ghost use Rattle.pdb_tool.specs.ErrorLine.{error_line};
 ghost use Rattle.pdb_tool.specs.ErrorObjects.{error_in, error_of, none_of, told_in, told_of};
-ghost use Rattle.pdb_tool.specs.ModuleTexts.{all_text, are_several, entry_text, has_stream, in_file, line_if, list_text, listed_text, module_line, place_in, places_text, plain_text, several_in, there_text};
+ghost use Rattle.pdb_tool.specs.ModuleTexts.{all_text, are_several, entry_text, has_stream, in_file, line_if, list_text, listed_text, module_line, module_in, indexed_text, plain_text, several_in, there_text};
+ghost use Rattle.pdb_tool.specs.Stops.{StopsComposing, StopsWriting};
+ghost use Rattle.pdb_tool.specs.WriteFailures.{failures_after};
 ghost use Rattle.pdb_tool.specs.declared.stop.Stop.{Stop};
 
 use crate::error_objects::put_refused_in;
@@ -26,9 +28,8 @@ use pdb::{
     Source,
 };
 use pdb_resolve::GlobalIds;
-use pdb_text::{put_decimal, put_line_end, write_out};
+use pdb_text::{CountedWrite, put_decimal, put_line_end, write_counted};
 use std::alloc::{AllocError, Global};
-use std::io::Write;
 
 /// A text of a module.
 pub trait ModuleText {
@@ -43,7 +44,7 @@ pub trait ModuleText {
     fn names_calls(&self) -> bool
         ensures { result ≡ false → (f g : ℕ → Option ℕ) (k : ℕ) (m : ModuleBytes) → Self.text self.now f k m ≡ Self.text self.now g k m };
 
-    /// Puts it behind what is there. It is refused for want of memory alone.
+    /// Puts it behind what is there. It fails with out of memory alone.
     fn put(
         &self,
         alloc: Global,
@@ -66,7 +67,7 @@ fn put_module_line(out: &mut Vec<u8>, k: u64, module: &Module<'_>) -> Result<(),
     put_line_end(out)
 }
 
-/// The line that names a module in a text, where several are told.
+/// The line that names a module in a text, where several are printed.
 fn put_line_if(
     out: &mut Vec<u8>,
     form: Form,
@@ -92,7 +93,7 @@ fn ids_for<'a, 's, S: Source<'s>, T: ModuleText>(
 ) -> Result<GlobalIds<'a>, Stop>
     ensures continues { Continues pdb.old pdb.new }
     ensures ids { IfOk result (λ g. T.text texts.now (ids_by g) k info.entry.now ≡ in_file (T.text texts.now) pdb.old.file k info.entry.now) }
-    ensures unwritten { IfErr result (λ e. (e ≡ Stop.Memory) ⊎ (e ≡ Stop.Read)) }
+    ensures unwritten { IfErr result (StopsComposing (MayFail pdb.old pdb.new)) }
 {
     if !texts.names_calls() {
         return Ok(GlobalIds::empty(alloc));
@@ -114,7 +115,7 @@ fn put_info<'s, S: Source<'s>, T: ModuleText>(
 ) -> Result<(), Stop>
     ensures continues { Continues pdb.old pdb.new }
     ensures text { OnOk result (out.new.items ≡ out.old.items ++ in_file (T.text texts.now) pdb.old.file k info.now) }
-    ensures unwritten { IfErr result (λ e. (e ≡ Stop.Memory) ⊎ (e ≡ Stop.Read)) }
+    ensures unwritten { IfErr result (StopsComposing (MayFail pdb.old pdb.new)) }
 {
     let global = ids_for(alloc, pdb, texts, k, info)?;
     Ok(texts.put(alloc, out, k, info, &global)?)
@@ -133,7 +134,7 @@ fn put_found<'s, S: Source<'s>, T: ModuleText>(
     ensures continues { Continues pdb.old pdb.new }
     ensures found { IfOk found.entry (λ m. OnOk result (out.new.items ≡ out.old.items ++ there_text (in_file (T.text texts.now) pdb.old.file k) (none_of form k) m)) }
     ensures refused { IfErr found.entry (λ e. OnOk result ((e ≢ Error.OutOfMemory) × (e ≢ Error.IoError) × (out.new.items ≡ out.old.items ++ error_of form k e))) }
-    ensures unwritten { IfErr result (λ e. (e ≡ Stop.Memory) ⊎ (e ≡ Stop.Read)) }
+    ensures unwritten { IfErr result (StopsComposing (IsErrOf found.entry Error.IoError ⊎ MayFail pdb.old pdb.new)) }
 {
     match found {
         Ok(Some(info)) => put_info(alloc, pdb, out, texts, k, &info),
@@ -142,7 +143,7 @@ fn put_found<'s, S: Source<'s>, T: ModuleText>(
     }
 }
 
-/// The text of a module of this index, behind the line that names it where several are told.
+/// The text of a module of this index, behind the line that names it where several are printed.
 fn put_entry<'s, S: Source<'s>, T: ModuleText>(
     alloc: Global,
     pdb: &mut PDB<'s, S>,
@@ -155,16 +156,16 @@ fn put_entry<'s, S: Source<'s>, T: ModuleText>(
 ) -> Result<(), Stop>
     ensures continues { Continues pdb.old pdb.new }
     ensures text { OnOk result (out.new.items ≡ out.old.items ++ entry_text form several (in_file (T.text texts.now) pdb.old.file) pdb.old.file k (Some «module».now)) }
-    ensures unwritten { IfErr result (λ e. (e ≡ Stop.Memory) ⊎ (e ≡ Stop.Read)) }
+    ensures unwritten { IfErr result (StopsComposing (MayFail pdb.old pdb.new)) }
 {
     put_line_if(out, form, several, u64::from(k), module)?;
     let found = pdb.module_info(module);
     put_found(alloc, pdb, out, form, texts, u64::from(k), found)
 }
 
-// piece: put_place
-/// The text of the module of an index in a list, behind the line that names it where several are told.
-fn put_place<'s, S: Source<'s>, T: ModuleText>(
+// piece: put_by_index
+/// The text of the module of an index in a list, behind the line that names it where several are printed.
+fn put_by_index<'s, S: Source<'s>, T: ModuleText>(
     alloc: Global,
     pdb: &mut PDB<'s, S>,
     list: &mut ModuleList<'_>,
@@ -176,8 +177,8 @@ fn put_place<'s, S: Source<'s>, T: ModuleText>(
 ) -> Result<(), Stop>
     ensures continues { Continues pdb.old pdb.new }
     ensures kept { OnOk result (listed list.new ≡ listed list.old) }
-    ensures text { OnOk result (out.new.items ≡ out.old.items ++ place_in form several (in_file (T.text texts.now) pdb.old.file) pdb.old.file (listed list.old) k) }
-    ensures unwritten { IfErr result (λ e. (e ≡ Stop.Memory) ⊎ (e ≡ Stop.Read)) }
+    ensures text { OnOk result (out.new.items ≡ out.old.items ++ module_in form several (in_file (T.text texts.now) pdb.old.file) pdb.old.file (listed list.old) k) }
+    ensures unwritten { IfErr result (StopsComposing (MayFail pdb.old pdb.new)) }
 {
     list.read_to(k)?;
     match list.get(k) {
@@ -202,7 +203,7 @@ fn put_listed<'s, S: Source<'s>, T: ModuleText>(
 ) -> Result<(), Stop>
     ensures continues { Continues pdb.old pdb.new }
     ensures text { OnOk result (out.new.items ≡ out.old.items ++ listed_text form several (in_file (T.text texts.now) pdb.old.file) pdb.old.file k «module».now) }
-    ensures unwritten { IfErr result (λ e. (e ≡ Stop.Memory) ⊎ (e ≡ Stop.Read)) }
+    ensures unwritten { IfErr result (StopsComposing (MayFail pdb.old pdb.new)) }
 {
     match pdb.module_info(module) {
         Ok(Some(info)) => {
@@ -218,34 +219,36 @@ fn put_listed<'s, S: Source<'s>, T: ModuleText>(
 }
 
 /// Whether more than one number is given.
-fn are_several(places: &[u32]) -> bool
-    ensures { result ≡ are_several places.now }
+fn are_several(indices: &[u32]) -> bool
+    ensures { result ≡ are_several indices.now }
 {
-    places.len() > 1
+    indices.len() > 1
 }
 
 /// Writes the texts of the modules of these indices in a list. Each is composed and then written.
-fn write_each<'s, S: Source<'s>, T: ModuleText, W: Write>(
+fn write_each<'s, S: Source<'s>, T: ModuleText, W: CountedWrite>(
     alloc: Global,
     pdb: &mut PDB<'s, S>,
     list: &mut ModuleList<'_>,
     form: Form,
     texts: &T,
     several: bool,
-    places: &[u32],
+    indices: &[u32],
     out: &mut W,
 ) -> Result<(), Stop>
     ensures opened { (e : Error) → IsErrOf result (Stop.Open e) → ⊥ }
+    ensures stops { IfErr result (StopsWriting (MayFail pdb.old pdb.new)) }
+    ensures failures { W.failures out.new ≡ failures_after (W.failures out.old) result }
     // All texts were written.
-    ensures ok { OnOk result (Appends (W.contents out.old) (W.contents out.new) (flat_map (place_in form several (in_file (T.text texts.now) pdb.old.file) pdb.old.file (listed list.old)) places.now)) }
+    ensures ok { OnOk result (Appends (W.contents out.old) (W.contents out.new) (flat_map (module_in form several (in_file (T.text texts.now) pdb.old.file) pdb.old.file (listed list.old)) indices.now)) }
     // A beginning of the texts was written.
-    ensures front { OnErr result (WroteFront (W.contents out.old) (W.contents out.new) (flat_map (place_in form several (in_file (T.text texts.now) pdb.old.file) pdb.old.file (listed list.old)) places.now)) }
+    ensures front { OnErr result (WroteFront (W.contents out.old) (W.contents out.new) (flat_map (module_in form several (in_file (T.text texts.now) pdb.old.file) pdb.old.file (listed list.old)) indices.now)) }
 {
     let mut text = Vec::new(alloc);
-    for k in places {
+    for k in indices {
         text.clear();
-        put_place(alloc, pdb, list, form, texts, several, *k, &mut text)?;
-        write_out(out, &text)?;
+        put_by_index(alloc, pdb, list, form, texts, several, *k, &mut text)?;
+        write_counted(out, &text)?;
     }
     Ok(())
 }
@@ -253,7 +256,7 @@ fn write_each<'s, S: Source<'s>, T: ModuleText, W: Write>(
 /// The error of a list, unless it is that memory or the source failed.
 fn list_error(e: Error) -> Result<Error, Stop>
     ensures same { IfOk result (λ x. (x ≡ e) × (e ≢ Error.OutOfMemory) × (e ≢ Error.IoError)) }
-    ensures unwritten { IfErr result (λ e. (e ≡ Stop.Memory) ⊎ (e ≡ Stop.Read)) }
+    ensures unwritten { IfErr result (StopsComposing (e ≡ Error.IoError)) }
 {
     match e {
         Error::OutOfMemory => Err(Stop::Memory),
@@ -264,45 +267,49 @@ fn list_error(e: Error) -> Result<Error, Stop>
 
 /// Writes an error of the list in place of the text of each module that is asked for.
 #[tactic(auto, using(pdb_text::proofs::Written::any_err, crate::proofs::AnsweredLines::front_none))]
-fn write_each_refused<W: Write>(
+fn write_each_refused<W: CountedWrite>(
     alloc: Global,
     form: Form,
     e: Error,
-    places: &[u32],
+    indices: &[u32],
     out: &mut W,
 ) -> Result<(), Stop>
     ensures opened { (x : Error) → IsErrOf result (Stop.Open x) → ⊥ }
-    ensures ok { OnOk result (Appends (W.contents out.old) (W.contents out.new) (flat_map (λ k. error_of form k e) places.now)) }
-    ensures front { OnErr result (WroteFront (W.contents out.old) (W.contents out.new) (flat_map (λ k. error_of form k e) places.now)) }
+    ensures stops { IfErr result (StopsWriting ⊥) }
+    ensures failures { W.failures out.new ≡ failures_after (W.failures out.old) result }
+    ensures ok { OnOk result (Appends (W.contents out.old) (W.contents out.new) (flat_map (λ k. error_of form k e) indices.now)) }
+    ensures front { OnErr result (WroteFront (W.contents out.old) (W.contents out.new) (flat_map (λ k. error_of form k e) indices.now)) }
 {
     let mut lines = Vec::new(alloc);
-    for k in places {
+    for k in indices {
         put_error_of(&mut lines, form, u64::from(*k), e)?;
     }
-    write_out(out, &lines)?;
+    write_counted(out, &lines)?;
     Ok(())
 }
 
-/// Writes the texts of the modules of these indices, each behind the line that names it where there are several. The list
-/// is read once.
-#[tactic(auto, using(crate::proofs::PlacesTexts::places_listed, crate::proofs::PlacesTexts::places_refused, pdb_text::proofs::Written::any_err, crate::proofs::AnsweredLines::front_none))]
-pub fn write_places<'s, S: Source<'s>, T: ModuleText, W: Write>(
+/// Writes the texts of the modules of these indices, each behind the line that names it where there are several. The
+/// list is read once.
+#[tactic(auto, using(crate::proofs::IndexedTexts::places_listed, crate::proofs::IndexedTexts::places_refused, pdb_text::proofs::Written::any_err, crate::proofs::AnsweredLines::front_none))]
+pub fn write_indexed<'s, S: Source<'s>, T: ModuleText, W: CountedWrite>(
     alloc: Global,
     pdb: &mut PDB<'s, S>,
     form: Form,
     texts: &T,
-    places: &[u32],
+    indices: &[u32],
     out: &mut W,
 ) -> Result<(), Stop>
     ensures opened { (e : Error) → IsErrOf result (Stop.Open e) → ⊥ }
+    ensures stops { IfErr result (StopsWriting (MayFail pdb.old pdb.new)) }
+    ensures failures { W.failures out.new ≡ failures_after (W.failures out.old) result }
     // All texts were written.
-    ensures ok { OnOk result (Appends (W.contents out.old) (W.contents out.new) (places_text form (in_file (T.text texts.now) pdb.old.file) pdb.old.file places.now)) }
+    ensures ok { OnOk result (Appends (W.contents out.old) (W.contents out.new) (indexed_text form (in_file (T.text texts.now) pdb.old.file) pdb.old.file indices.now)) }
     // A beginning of the texts was written.
-    ensures front { OnErr result (WroteFront (W.contents out.old) (W.contents out.new) (places_text form (in_file (T.text texts.now) pdb.old.file) pdb.old.file places.now)) }
+    ensures front { OnErr result (WroteFront (W.contents out.old) (W.contents out.new) (indexed_text form (in_file (T.text texts.now) pdb.old.file) pdb.old.file indices.now)) }
 {
     let information = match pdb.debug_information() {
         Ok(information) => information,
-        Err(e) => return write_each_refused(alloc, form, list_error(e)?, places, out),
+        Err(e) => return write_each_refused(alloc, form, list_error(e)?, indices, out),
     };
     match information.modules() {
         Ok(modules) => {
@@ -313,36 +320,40 @@ pub fn write_places<'s, S: Source<'s>, T: ModuleText, W: Write>(
                 &mut list,
                 form,
                 texts,
-                are_several(places),
-                places,
+                are_several(indices),
+                indices,
                 out,
             )
         }
-        Err(e) => write_each_refused(alloc, form, list_error(e)?, places, out),
+        Err(e) => write_each_refused(alloc, form, list_error(e)?, indices, out),
     }
 }
 
 /// Writes the line of an error outside modules, in a form.
-pub fn write_refused_in<W: Write>(
+pub fn write_refused_in<W: CountedWrite>(
     alloc: Global,
     form: Form,
     e: Error,
     out: &mut W,
 ) -> Result<(), Stop>
     ensures opened { (x : Error) → IsErrOf result (Stop.Open x) → ⊥ }
+    ensures stops { IfErr result (StopsWriting (e ≡ Error.IoError)) }
+    ensures failures { W.failures out.new ≡ failures_after (W.failures out.old) result }
     ensures ok { OnOk result ((e ≢ Error.OutOfMemory) × (e ≢ Error.IoError) × Appends (W.contents out.old) (W.contents out.new) (error_in form e)) }
     ensures front { OnErr result (WroteFront (W.contents out.old) (W.contents out.new) (error_in form e)) }
     ensures passed { e ≡ Error.OutOfMemory ⊎ e ≡ Error.IoError → W.contents out.new ≡ W.contents out.old }
 {
     let mut line = Vec::new(alloc);
     put_refused_in(&mut line, form, e)?;
-    write_out(out, &line)?;
+    write_counted(out, &line)?;
     Ok(())
 }
 
 /// The same, in a text.
-pub fn write_refused<W: Write>(alloc: Global, e: Error, out: &mut W) -> Result<(), Stop>
+pub fn write_refused<W: CountedWrite>(alloc: Global, e: Error, out: &mut W) -> Result<(), Stop>
     ensures opened { (x : Error) → IsErrOf result (Stop.Open x) → ⊥ }
+    ensures stops { IfErr result (StopsWriting (e ≡ Error.IoError)) }
+    ensures failures { W.failures out.new ≡ failures_after (W.failures out.old) result }
     ensures ok { OnOk result ((e ≢ Error.OutOfMemory) × (e ≢ Error.IoError) × Appends (W.contents out.old) (W.contents out.new) (error_line e)) }
     ensures front { OnErr result (WroteFront (W.contents out.old) (W.contents out.new) (error_line e)) }
     ensures passed { e ≡ Error.OutOfMemory ⊎ e ≡ Error.IoError → W.contents out.new ≡ W.contents out.old }
@@ -351,7 +362,7 @@ pub fn write_refused<W: Write>(alloc: Global, e: Error, out: &mut W) -> Result<(
 }
 
 /// Writes the texts of the modules that an iterator has left, and then the line of its fault.
-fn write_left<'s, S: Source<'s>, T: ModuleText, W: Write>(
+fn write_left<'s, S: Source<'s>, T: ModuleText, W: CountedWrite>(
     alloc: Global,
     pdb: &mut PDB<'s, S>,
     form: Form,
@@ -362,6 +373,8 @@ fn write_left<'s, S: Source<'s>, T: ModuleText, W: Write>(
 ) -> Result<(), Stop>
     requires { modules_steps modules ≡ 0 }
     ensures opened { (e : Error) → IsErrOf result (Stop.Open e) → ⊥ }
+    ensures stops { IfErr result (StopsWriting (MayFail pdb.old pdb.new)) }
+    ensures failures { W.failures out.new ≡ failures_after (W.failures out.old) result }
     ensures ok { OnOk result (Appends (W.contents out.old) (W.contents out.new) (list_text form several (in_file (T.text texts.now) pdb.old.file) pdb.old.file 0 (modules_left modules.entry))) }
     ensures front { OnErr result (WroteFront (W.contents out.old) (W.contents out.new) (list_text form several (in_file (T.text texts.now) pdb.old.file) pdb.old.file 0 (modules_left modules.entry))) }
 {
@@ -376,7 +389,7 @@ fn write_left<'s, S: Source<'s>, T: ModuleText, W: Write>(
             Ok(None) => return Ok(()),
             Err(e) => return write_refused_in(alloc, form, e, out),
         }
-        write_out(out, &text)?;
+        write_counted(out, &text)?;
         k += 1;
     }
 }
@@ -388,7 +401,7 @@ fn has_stream(module: &Module<'_>) -> bool
     module.stream().0 != 0xffff
 }
 
-/// How many of the modules that an iterator has left are told, up to its fault.
+/// How many of the modules that an iterator has left are printed, up to its fault.
 fn count_told(mut modules: ModuleIter<'_>) -> u64
     requires { modules_steps modules ≡ 0 }
     ensures { result ≡ count_by has_stream (modules_left modules.entry).items }
@@ -407,7 +420,7 @@ fn count_told(mut modules: ModuleIter<'_>) -> u64
     }
 }
 
-/// Whether more than one module of a list is told.
+/// Whether more than one module of a list is printed.
 fn tells_several(information: &DebugInformation<'_>) -> bool
     ensures { result ≡ several_in (modules_in information.now) }
 {
@@ -419,7 +432,7 @@ fn tells_several(information: &DebugInformation<'_>) -> bool
 
 /// Writes the texts of all modules of the list, and then the line of its fault.
 #[tactic(auto, unfolding(crate::specs::ModuleTexts::all_text))]
-pub fn write_all<'s, S: Source<'s>, T: ModuleText, W: Write>(
+pub fn write_all<'s, S: Source<'s>, T: ModuleText, W: CountedWrite>(
     alloc: Global,
     pdb: &mut PDB<'s, S>,
     form: Form,
@@ -427,6 +440,8 @@ pub fn write_all<'s, S: Source<'s>, T: ModuleText, W: Write>(
     out: &mut W,
 ) -> Result<(), Stop>
     ensures opened { (e : Error) → IsErrOf result (Stop.Open e) → ⊥ }
+    ensures stops { IfErr result (StopsWriting (MayFail pdb.old pdb.new)) }
+    ensures failures { W.failures out.new ≡ failures_after (W.failures out.old) result }
     ensures ok { OnOk result (Appends (W.contents out.old) (W.contents out.new) (all_text form (in_file (T.text texts.now) pdb.old.file) pdb.old.file)) }
     ensures front { OnErr result (WroteFront (W.contents out.old) (W.contents out.new) (all_text form (in_file (T.text texts.now) pdb.old.file) pdb.old.file)) }
 {
@@ -443,7 +458,7 @@ pub fn write_all<'s, S: Source<'s>, T: ModuleText, W: Write>(
 
 /// Writes the texts of all modules of the list without lines that name them, and then the line of its fault.
 #[tactic(auto, unfolding(crate::specs::ModuleTexts::plain_text))]
-pub fn write_plain<'s, S: Source<'s>, T: ModuleText, W: Write>(
+pub fn write_plain<'s, S: Source<'s>, T: ModuleText, W: CountedWrite>(
     alloc: Global,
     pdb: &mut PDB<'s, S>,
     form: Form,
@@ -451,6 +466,8 @@ pub fn write_plain<'s, S: Source<'s>, T: ModuleText, W: Write>(
     out: &mut W,
 ) -> Result<(), Stop>
     ensures opened { (e : Error) → IsErrOf result (Stop.Open e) → ⊥ }
+    ensures stops { IfErr result (StopsWriting (MayFail pdb.old pdb.new)) }
+    ensures failures { W.failures out.new ≡ failures_after (W.failures out.old) result }
     ensures ok { OnOk result (Appends (W.contents out.old) (W.contents out.new) (plain_text form (in_file (T.text texts.now) pdb.old.file) pdb.old.file)) }
     ensures front { OnErr result (WroteFront (W.contents out.old) (W.contents out.new) (plain_text form (in_file (T.text texts.now) pdb.old.file) pdb.old.file)) }
 {

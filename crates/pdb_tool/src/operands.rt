@@ -6,22 +6,21 @@ ghost use Rattle.pdb_tool.specs.Operands.{all_in, behind_plain, behind_word, fir
 ghost use Rattle.pdb_tool.specs.SourcesAsked.{source_of};
 ghost use Rattle.pdb_tool.specs.SourceViews.{source_view};
 ghost use Rattle.pdb_tool.specs.Questions.{question_of, question_view};
-ghost use Rattle.pdb_tool.specs.Words.{Tells};
+ghost use Rattle.pdb_text.specs.Arguments.{Tells};
 ghost use Rattle.pdb_tool.specs.declared.options.Next.{Next};
 
 use crate::asked::address_number;
 use crate::options::{Next, Options, is_base, is_dashes, is_option};
 use crate::question::{Question, question_of};
 use crate::sources_asked::{SourceAsked, source_of};
-use crate::words::WordsError;
-use pdb_text::number_in;
+use pdb_text::{WordsError, number_in};
 use std::alloc::{AllocError, Global};
 
 /// An argument that is no option.
 #[derive(Clone, Copy, Debug)]
 pub struct Operand<'w> {
     /// Its index among the program's arguments.
-    pub place: usize,
+    pub argument: usize,
     /// Its text.
     pub word: &'w str,
 }
@@ -61,22 +60,22 @@ fn behind_word(next: Next, word: &[u8]) -> Next
     }
 }
 
-/// The arguments that are neither an option nor its value, of arguments of which the first has the index `place`.
+/// The arguments that are neither an option nor its value, of arguments of which the first has the index `argument`.
 #[tactic(auto, using(crate::proofs::OperandWords::begins, crate::proofs::OperandWords::ends, crate::proofs::OperandWords::other_there, crate::proofs::OperandWords::operand_there))]
 pub fn operands_in<'w>(
     alloc: Global,
     words: &'w [String],
-    place: usize,
+    argument: usize,
 ) -> Result<Vec<Operand<'w>>, AllocError>
-    requires { place + length words.now < 2 ^ 64 }
-    ensures { IfOk result (λ v. map operand_view v.items ≡ operands_of Next.Word (map string_bytes words.now) place) }
+    requires { argument + length words.now < 2 ^ 64 }
+    ensures { IfOk result (λ v. map operand_view v.items ≡ operands_of Next.Word (map string_bytes words.now) argument) }
 {
     let mut all = Vec::new(alloc);
     let mut next = Next::Word;
     for (index, word) in words.iter().enumerate() {
         if is_operand(next, word.as_bytes()) {
             all.push(Operand {
-                place: place + index,
+                argument: argument + index,
                 word: word.as_str(),
             })?;
         }
@@ -98,7 +97,7 @@ pub fn all_questions<'w>(
     for operand in words {
         match question_of(options, operand.word.as_bytes()) {
             Some(question) => all.push(question)?,
-            None => return Err(WordsError::BadWord(operand.place)),
+            None => return Err(WordsError::BadWord(operand.argument)),
         }
     }
     Ok(all)
@@ -113,7 +112,7 @@ pub fn all_numbers(alloc: Global, words: &[Operand<'_>]) -> Result<Vec<u32>, Wor
     for operand in words {
         match number_in(operand.word) {
             Some(number) => all.push(number)?,
-            None => return Err(WordsError::BadWord(operand.place)),
+            None => return Err(WordsError::BadWord(operand.argument)),
         }
     }
     Ok(all)
@@ -135,7 +134,7 @@ pub fn all_indices(alloc: Global, words: &[Operand<'_>]) -> Result<Vec<u32>, Wor
     for operand in words {
         match type_index_in(operand.word.as_bytes()) {
             Some(index) => all.push(index)?,
-            None => return Err(WordsError::BadWord(operand.place)),
+            None => return Err(WordsError::BadWord(operand.argument)),
         }
     }
     Ok(all)
@@ -153,7 +152,7 @@ pub fn all_sources<'w>(
     for operand in words {
         match source_of(operand.word.as_bytes()) {
             Some(source) => all.push(source)?,
-            None => return Err(WordsError::BadWord(operand.place)),
+            None => return Err(WordsError::BadWord(operand.argument)),
         }
     }
     Ok(all)
@@ -165,7 +164,7 @@ pub fn first_empty(words: &[Operand<'_>]) -> Option<usize>
 {
     for operand in words {
         if operand.word.is_empty() {
-            return Some(operand.place);
+            return Some(operand.argument);
         }
     }
     None

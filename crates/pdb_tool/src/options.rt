@@ -3,10 +3,11 @@
 ghost use Rattle.std.specs.Prelude.{◌≡◌, ◌+◌, ◌<◌, ◌^◌, map, string_bytes, length};
 ghost use Rattle.pdb_tool.specs.Options.{is_base, is_dashes, is_option, is_key, is_value, nothing_given, options_of, takes_json, wanting_base, with_address_option, with_base, with_base_of, with_json, with_option, with_plain, with_resolve_option, with_symbols_option, with_variables, with_wanted, with_wanted_option, with_word};
 ghost use Rattle.std.specs.Char.{is_ascii_hexdigit};
-ghost use Rattle.pdb_tool.specs.Words.{Tells};
+ghost use Rattle.pdb_text.specs.Arguments.{Tells};
 
 use crate::asked::{address_number, is_all_hex};
-use crate::words::{Topic, WordsError};
+use crate::words::Topic;
+use pdb_text::WordsError;
 
 /// What names the PDB that is wanted: an option, by its index among the program's arguments, counted from 0.
 #[derive(Clone, Copy, Debug, PartialEq, Eq)]
@@ -174,23 +175,23 @@ fn with_wanted(given: Given, wanted: Wanted) -> Option<Given>
 
 /// With an option that names the PDB that is wanted.
 #[tactic(auto, unfolding(crate::specs::Options::with_wanted_option))]
-fn with_wanted_option(given: Given, place: usize, word: &[u8]) -> Option<Given>
-    ensures { result ≡ with_wanted_option given place word.now }
+fn with_wanted_option(given: Given, argument: usize, word: &[u8]) -> Option<Given>
+    ensures { result ≡ with_wanted_option given argument word.now }
 {
     if word.starts_with(b"--image=") {
-        return with_wanted(given, Wanted::Image(place));
+        return with_wanted(given, Wanted::Image(argument));
     }
     let key = word.strip_prefix(b"--key=")?;
     if !is_key(key) {
         return None;
     }
-    with_wanted(given, Wanted::Key(place))
+    with_wanted(given, Wanted::Key(argument))
 }
 
 /// With an option of the commands that take addresses.
 #[tactic(auto, unfolding(crate::specs::Options::with_address_option))]
-fn with_address_option(given: Given, place: usize, word: &[u8]) -> Option<Given>
-    ensures { result ≡ with_address_option given place word.now }
+fn with_address_option(given: Given, argument: usize, word: &[u8]) -> Option<Given>
+    ensures { result ≡ with_address_option given argument word.now }
 {
     if is_base(word) {
         return wanting_base(given);
@@ -199,7 +200,7 @@ fn with_address_option(given: Given, place: usize, word: &[u8]) -> Option<Given>
         return with_base(given, address_number(base));
     }
     if word != b"--addresses".as_slice() {
-        return with_wanted_option(given, place, word);
+        return with_wanted_option(given, argument, word);
     }
     let options = Options {
         addresses: true,
@@ -210,11 +211,11 @@ fn with_address_option(given: Given, place: usize, word: &[u8]) -> Option<Given>
 
 /// With an option of `resolve`.
 #[tactic(auto, unfolding(crate::specs::Options::with_resolve_option))]
-fn with_resolve_option(given: Given, place: usize, word: &[u8]) -> Option<Given>
-    ensures { result ≡ with_resolve_option given place word.now }
+fn with_resolve_option(given: Given, argument: usize, word: &[u8]) -> Option<Given>
+    ensures { result ≡ with_resolve_option given argument word.now }
 {
     if word != b"--offsets".as_slice() {
-        return with_address_option(given, place, word);
+        return with_address_option(given, argument, word);
     }
     let options = Options {
         detail: Detail::Offsets,
@@ -265,23 +266,23 @@ fn with_json(given: Given) -> Option<Given>
 }
 
 /// With an option of a command.
-fn with_option(topic: Topic, given: Given, place: usize, word: &[u8]) -> Option<Given>
-    ensures { result ≡ with_option topic given place word.now }
+fn with_option(topic: Topic, given: Given, argument: usize, word: &[u8]) -> Option<Given>
+    ensures { result ≡ with_option topic given argument word.now }
 {
     if takes_json(topic) && word == b"--json".as_slice() {
         return with_json(given);
     }
     match topic {
-        Topic::Resolve => with_resolve_option(given, place, word),
-        Topic::Variables => with_address_option(given, place, word),
+        Topic::Resolve => with_resolve_option(given, argument, word),
+        Topic::Variables => with_address_option(given, argument, word),
         Topic::Symbols => with_symbols_option(given, word),
         _ => None,
     }
 }
 
 /// With an argument that is no value; none where it can't stand there.
-fn with_plain(topic: Topic, given: Given, place: usize, word: &[u8]) -> Option<Given>
-    ensures { result ≡ with_plain topic given place word.now }
+fn with_plain(topic: Topic, given: Given, argument: usize, word: &[u8]) -> Option<Given>
+    ensures { result ≡ with_plain topic given argument word.now }
 {
     if is_dashes(word) {
         return Some(Given {
@@ -290,7 +291,7 @@ fn with_plain(topic: Topic, given: Given, place: usize, word: &[u8]) -> Option<G
         });
     }
     if is_option(word) {
-        return with_option(topic, given, place, word);
+        return with_option(topic, given, argument, word);
     }
     Some(Given {
         has_file: true,
@@ -300,11 +301,11 @@ fn with_plain(topic: Topic, given: Given, place: usize, word: &[u8]) -> Option<G
 
 /// With one more argument; none where it can't stand there.
 #[tactic(auto, unfolding(crate::specs::Options::with_word))]
-fn with_word(topic: Topic, given: Given, place: usize, word: &[u8]) -> Option<Given>
-    ensures { result ≡ with_word topic given given.next place word.now }
+fn with_word(topic: Topic, given: Given, argument: usize, word: &[u8]) -> Option<Given>
+    ensures { result ≡ with_word topic given given.next argument word.now }
 {
     match given.next {
-        Next::Word => with_plain(topic, given, place, word),
+        Next::Word => with_plain(topic, given, argument, word),
         Next::Value => with_base(given, address_number(word)),
         Next::Operand => Some(Given {
             has_file: true,
@@ -323,23 +324,23 @@ fn is_value(next: Next) -> bool
     }
 }
 
-/// The options of a command, of whose arguments the first has the index `place` among the program's. One of them has to
-/// name a file.
+/// The options of a command, of whose arguments the first has the index `argument` among the program's. One of them has
+/// to name a file.
 #[tactic(auto, using(crate::proofs::OptionWords::bad_there, crate::proofs::OptionWords::begins, crate::proofs::OptionWords::ends, crate::proofs::OptionWords::one_more))]
-pub fn options_in(topic: Topic, words: &[String], place: usize) -> Result<Options, WordsError>
-    requires { place + length words.now < 2 ^ 64 }
-    ensures { Tells (λ o. o) result (options_of topic nothing_given (map string_bytes words.now) place) }
+pub fn options_in(topic: Topic, words: &[String], argument: usize) -> Result<Options, WordsError>
+    requires { argument + length words.now < 2 ^ 64 }
+    ensures { Tells (λ o. o) result (options_of topic nothing_given (map string_bytes words.now) argument) }
 {
     let mut given = Given::default();
     for (index, word) in words.iter().enumerate() {
-        match with_word(topic, given, place + index, word.as_bytes()) {
+        match with_word(topic, given, argument + index, word.as_bytes()) {
             Some(more) => given = more,
-            None => return Err(WordsError::BadWord(place + index)),
+            None => return Err(WordsError::BadWord(argument + index)),
         }
     }
     if given.has_file && !is_value(given.next) {
         Ok(given.options)
     } else {
-        Err(WordsError::BadWord(place + words.len()))
+        Err(WordsError::BadWord(argument + words.len()))
     }
 }

@@ -1,5 +1,5 @@
-//! The lines in `symbols` of ranges of code in which a variable is in a register: a third of the lines of a large program.
-//! Their records are read at their offsets.
+//! The lines in `symbols` of ranges of code in which a variable is in a register: a third of the lines of a large
+//! program. Their records are read at their offsets.
 
 ghost use Rattle.std.specs.Prelude.{◌≡◌, ◌++◌, ◌≤◌, true, false, drop, length, OnOk};
 ghost use Rattle.pdb.specs.Fields.{number};

@@ -1,4 +1,4 @@
-//! What is told on standard error.
+//! What is printed on standard error.
 
 ghost use Rattle.std.specs.Prelude.{◌≡◌, [], map, slice_index_or, string_bytes};
 ghost use Rattle.pdb_tool.specs.Stops.{status_of, status_of_stop};
@@ -37,6 +37,11 @@ impl From<Stop> for Fault {
 }
 
 impl From<WriteFailed> for Fault {
+    ghost use Rattle.pdb_tool.specs.declared.report.Fault.TheVariants.{Stopped};
+    ghost use Rattle.pdb_tool.specs.declared.stop.Stop.TheVariants.{Write};
+
+    ghost from_gives = { λ _ f. f ≡ Stopped Write 0 };
+
     fn from(_e: WriteFailed) -> Fault {
         Fault::Stopped(Stop::Write, 0)
     }
@@ -173,26 +178,32 @@ fn write_fault<W: Write>(
     err: &mut W,
 ) -> Result<(), WriteFailed> {
     match fault {
-        Fault::BadWord(place) => write_mistake(words, place, err),
-        Fault::NotText(place) => {
-            write_about(word_at(words, place), b"the argument is not UTF-8", err)
+        Fault::BadWord(argument) => write_mistake(words, argument, err),
+        Fault::NotText(argument) => {
+            write_about(word_at(words, argument), b"the argument is not UTF-8", err)
         }
         Fault::NoInput => write_out(
             err,
             b"pdb_tool: standard input is closed: no addresses can be read from it\n",
         ),
-        Fault::Stopped(stop, place) => {
-            write_stop(alloc, stop, file_in_word(word_at(words, place)), kind, err)
+        Fault::Stopped(stop, argument) => {
+            write_stop(
+                alloc,
+                stop,
+                file_in_word(word_at(words, argument)),
+                kind,
+                err,
+            )
         }
         Fault::OtherKey => Ok(()),
     }
 }
 
 /// The argument of an index; nothing where there is none.
-pub fn word_at(words: &[String], place: usize) -> &str
-    ensures { result.now ≡ slice_index_or (map string_bytes words.now) place [] }
+pub fn word_at(words: &[String], argument: usize) -> &str
+    ensures { result.now ≡ slice_index_or (map string_bytes words.now) argument [] }
 {
-    match words.get(place) {
+    match words.get(argument) {
         Some(word) => word.as_str(),
         None => "",
     }

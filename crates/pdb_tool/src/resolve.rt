@@ -1,18 +1,21 @@
 //! Texts of the code at addresses.
 
-ghost use Rattle.std.specs.Prelude.{◌≡◌, ◌≢◌, codes, ◌<◌, ◌++◌, ◌⊎◌, ℕ, true, false, flat_map, IfOk, IfErr, IfSome, OnOk, OnErr, IsErrOf, IsErrAnd, Some, Ok, Err, length};
+ghost use Rattle.std.specs.Prelude.{◌≡◌, ◌≢◌, codes, ◌<◌, ◌++◌, ◌⊎◌, ℕ, true, false, flat_map, IfOk, IfErr, IfSome, OnOk, OnErr, IsErrOf, IsErrAnd, Some, Ok, Err, length, ⊤};
 ghost use Rattle.std.specs.Io.KnownBytes.{Appends, IsAtEnd};
 ghost use Rattle.std.specs.Io.BufRead.{drop_through, strip_last, take_through};
 ghost use Rattle.pdb.specs.Container.{opens};
 ghost use Rattle.pdb.specs.Error.{Error};
-ghost use Rattle.pdb.specs.Source.{Continues};
+ghost use Rattle.pdb.specs.Source.{Continues, MayFail};
 ghost use Rattle.pdb_text.specs.Written.{WroteFirst, WroteFront};
 ghost use Rattle.pdb_tool.specs.Questions.{asked_line, asks_text, line_text, question_text, question_view, unasked_text};
-ghost use Rattle.pdb_tool.specs.Asked.{AnsweredUpTo, asked_place, asked_text, lines_of, of_first_line, without_blanks};
+ghost use Rattle.pdb_tool.specs.Asked.{AnsweredUpTo, asked_place, asked_text, is_whole_asked, lines_of, of_first_line, without_blanks};
+ghost use Rattle.pdb_tool.specs.Stops.{StopsCommand, StopsComposing, StopsOpening, StopsWriting};
+ghost use Rattle.pdb_tool.specs.WriteFailures.{failures_after};
 ghost use Rattle.pdb_tool.specs.declared.stop.Stop.{Stop};
 
 use crate::asked::Asked;
 use crate::frame_objects::{put_asked_line, put_unasked_line};
+use crate::notes::{NotesDamage, note_unless};
 use crate::opening::opened;
 use crate::options::{Detail, Form, Options};
 use crate::question::{Answer, Question, question_of};
@@ -20,9 +23,9 @@ use crate::stop::{Stop, stop_of};
 use crate::variable_texts::put_variables;
 use pdb::{PdbInternalSectionOffset, Source};
 use pdb_resolve::{Resolver, Streams};
-use pdb_text::{put_line_end, write_out};
+use pdb_text::{put_line_end, write_counted};
 use std::alloc::{AllocError, Global};
-use std::io::{self, BufRead, ErrorKind, Write};
+use std::io::{self, BufRead, ErrorKind};
 
 /// The place of what is asked for.
 fn place_of<'s, S: Source<'s>>(
@@ -49,7 +52,7 @@ pub fn put_asked<'s, S: Source<'s>>(
 ) -> Result<(), Stop>
     ensures continues { Continues resolver.old resolver.new }
     ensures text { OnOk result (out.new.items ≡ out.old.items ++ asked_text resolver.old.file detail asked) }
-    ensures unwritten { IfErr result (λ e. (e ≡ Stop.Memory) ⊎ (e ≡ Stop.Read)) }
+    ensures unwritten { IfErr result (StopsComposing (MayFail resolver.old resolver.new)) }
 {
     let place = place_of(resolver, asked);
     match detail {
@@ -70,7 +73,7 @@ fn put_headed<'s, S: Source<'s>>(
 ) -> Result<(), Stop>
     ensures continues { Continues resolver.old resolver.new }
     ensures text { OnOk result (out.new.items ≡ out.old.items ++ (word.now ++ codes "\n" ++ asked_text resolver.old.file detail asked)) }
-    ensures unwritten { IfErr result (λ e. (e ≡ Stop.Memory) ⊎ (e ≡ Stop.Read)) }
+    ensures unwritten { IfErr result (StopsComposing (MayFail resolver.old resolver.new)) }
 {
     out.extend_from_slice(word)?;
     put_line_end(out)?;
@@ -87,7 +90,7 @@ fn put_object<'s, S: Source<'s>>(
 ) -> Result<(), Stop>
     ensures continues { Continues resolver.old resolver.new }
     ensures text { OnOk result (out.new.items ≡ out.old.items ++ asked_line resolver.old.file word.now asked) }
-    ensures unwritten { IfErr result (λ e. (e ≡ Stop.Memory) ⊎ (e ≡ Stop.Read)) }
+    ensures unwritten { IfErr result (StopsComposing (MayFail resolver.old resolver.new)) }
 {
     let place = place_of(resolver, asked);
     let frames = resolver.frames(place).map_err(stop_of)?;
@@ -97,14 +100,14 @@ fn put_object<'s, S: Source<'s>>(
 
 /// The text of a question: what asks it, where that is written, and what code stands there.
 #[tactic(auto, unfolding(crate::specs::Questions::question_text))]
-pub fn put_question<'s, S: Source<'s>>(
+fn put_question_text<'s, S: Source<'s>>(
     resolver: &mut Resolver<'_, 's, S>,
     out: &mut Vec<u8>,
     question: &Question<'_>,
 ) -> Result<(), Stop>
     ensures continues { Continues resolver.old resolver.new }
     ensures text { OnOk result (out.new.items ≡ out.old.items ++ asks_text resolver.old.file question.now) }
-    ensures unwritten { IfErr result (λ e. (e ≡ Stop.Memory) ⊎ (e ≡ Stop.Read)) }
+    ensures unwritten { IfErr result (StopsComposing (MayFail resolver.old resolver.new)) }
 {
     match question.answer {
         Answer::Frames => put_asked(resolver, out, question.detail, question.asked),
@@ -113,9 +116,39 @@ pub fn put_question<'s, S: Source<'s>>(
     }
 }
 
+/// Whether what is read of the module at the place of what is asked for has no error.
+fn is_whole_asked<'s, S: Source<'s>>(
+    resolver: &mut Resolver<'_, 's, S>,
+    asked: Asked,
+) -> Result<bool, Stop>
+    ensures continues { Continues resolver.old resolver.new }
+    ensures whole { IfOk result (λ b. b ≡ is_whole_asked resolver.old.file asked) }
+    ensures unwritten { IfErr result (StopsComposing (MayFail resolver.old resolver.new)) }
+{
+    match place_of(resolver, asked) {
+        Some(place) => resolver.is_whole_at(place).map_err(stop_of),
+        None => Ok(true),
+    }
+}
+
+/// The text of a question. The result is whether what is read of the module there has no error.
+pub fn put_question<'s, S: Source<'s>>(
+    resolver: &mut Resolver<'_, 's, S>,
+    out: &mut Vec<u8>,
+    question: &Question<'_>,
+) -> Result<bool, Stop>
+    ensures continues { Continues resolver.old resolver.new }
+    ensures text { OnOk result (out.new.items ≡ out.old.items ++ asks_text resolver.old.file question.now) }
+    ensures whole { IfOk result (λ b. b ≡ is_whole_asked resolver.old.file question.now.asked) }
+    ensures unwritten { IfErr result (StopsComposing (MayFail resolver.old resolver.new)) }
+{
+    put_question_text(resolver, out, question)?;
+    is_whole_asked(resolver, question.asked)
+}
+
 // piece: write_asked
 /// Writes the texts of what is asked for, one after another. Each is composed and then written.
-pub fn write_asked<'s, S: Source<'s>, W: Write>(
+pub fn write_asked<'s, S: Source<'s>, W: NotesDamage>(
     alloc: Global,
     resolver: &mut Resolver<'_, 's, S>,
     questions: &[Question<'_>],
@@ -123,6 +156,8 @@ pub fn write_asked<'s, S: Source<'s>, W: Write>(
 ) -> Result<(), Stop>
     ensures continues { Continues resolver.old resolver.new }
     ensures opened { (e : Error) → IsErrOf result (Stop.Open e) → ⊥ }
+    ensures stops { IfErr result (StopsWriting (MayFail resolver.old resolver.new)) }
+    ensures failures { W.failures out.new ≡ failures_after (W.failures out.old) result }
     // All texts were written.
     ensures ok { OnOk result (Appends (W.contents out.old) (W.contents out.new) (flat_map (asks_text resolver.old.file) questions.now)) }
     // The texts of some first words were written, whole.
@@ -133,14 +168,15 @@ pub fn write_asked<'s, S: Source<'s>, W: Write>(
     let mut text = Vec::new(alloc);
     for question in questions {
         text.clear();
-        put_question(resolver, &mut text, question)?;
-        write_out(out, &text)?;
+        let is_whole = put_question(resolver, &mut text, question)?;
+        note_unless(is_whole, out);
+        write_counted(out, &text)?;
     }
     Ok(())
 }
 // end
 
-/// The answer to a line that is no address.
+/// The text of a line that is no address.
 fn put_unasked(form: Form, line: &[u8], out: &mut Vec<u8>) -> Result<(), AllocError>
     ensures { OnOk result (out.new.items ≡ out.old.items ++ unasked_text form line.now) }
 {
@@ -156,21 +192,24 @@ fn put_unasked(form: Form, line: &[u8], out: &mut Vec<u8>) -> Result<(), AllocEr
     }
 }
 
-/// The text that answers a line without its end.
+/// The text of a line without its end. The result is whether what is read of the module there has no error.
 #[tactic(auto, unfolding(crate::specs::Questions::line_text), using(std::proofs::lemmas::Str::Ascii::trim_ascii_is))]
 fn put_answer<'s, S: Source<'s>>(
     resolver: &mut Resolver<'_, 's, S>,
     options: Options,
     line: &[u8],
     out: &mut Vec<u8>,
-) -> Result<(), Stop>
+) -> Result<bool, Stop>
     ensures continues { Continues resolver.old resolver.new }
     ensures text { OnOk result (out.new.items ≡ out.old.items ++ line_text resolver.old.file options line.now) }
-    ensures unwritten { IfErr result (λ e. (e ≡ Stop.Memory) ⊎ (e ≡ Stop.Read)) }
+    ensures unwritten { IfErr result (StopsComposing (MayFail resolver.old resolver.new)) }
 {
     match question_of(options, trimmed(line)) {
         Some(question) => put_question(resolver, out, &question),
-        None => Ok(put_unasked(options.form, line, out)?),
+        None => {
+            put_unasked(options.form, line, out)?;
+            Ok(true)
+        }
     }
 }
 
@@ -191,7 +230,7 @@ fn line_stop(e: &io::Error) -> Stop
     }
 }
 
-/// Reads the next line of a reader, with its end, in place of what is there; answers how many bytes it has.
+/// Reads the next line of a reader, with its end, instead of what is there; returns how many bytes it has.
 #[tactic(auto, using(crate::proofs::AnsweredLines::some_left))]
 fn read_line<R: BufRead>(input: &mut R, line: &mut Vec<u8>) -> Result<usize, Stop>
     ensures line { IfSome (R.remaining input.old) (λ xs. OnOk result (line.new.items ≡ take_through 10 xs)) }
@@ -220,7 +259,7 @@ pub struct LineRooms {
 }
 
 impl LineRooms {
-    /// Empty rooms, which take no memory yet.
+    /// Empty buffers, which take no memory yet.
     pub fn new(alloc: Global) -> Self {
         LineRooms {
             line: Vec::new(alloc),
@@ -229,8 +268,8 @@ impl LineRooms {
     }
 }
 
-/// Reads the next line of a reader, and writes the text that answers it; answers whether there was one.
-pub fn answer_line<'s, S: Source<'s>, R: BufRead, W: Write>(
+/// Reads the next line of a reader, and writes its text; returns whether there was one.
+pub fn answer_line<'s, S: Source<'s>, R: BufRead, W: NotesDamage>(
     resolver: &mut Resolver<'_, 's, S>,
     options: Options,
     rooms: &mut LineRooms,
@@ -239,7 +278,9 @@ pub fn answer_line<'s, S: Source<'s>, R: BufRead, W: Write>(
 ) -> Result<bool, Stop>
     ensures continues { Continues resolver.old resolver.new }
     ensures opened { (e : Error) → IsErrOf result (Stop.Open e) → ⊥ }
-    // The first line that was left, and no more, was read, and the text that answers it was written.
+    ensures stops { IfErr result (StopsWriting ⊤) }
+    ensures failures { W.failures out.new ≡ failures_after (W.failures out.old) result }
+    // The first line that was left, and no more, was read, and its text was written.
     ensures read { IfSome (R.remaining input.old) (λ xs. OnOk result (R.remaining input.new ≡ Some (drop_through 10 xs))) }
     ensures answered { IfSome (R.remaining input.old) (λ xs. OnOk result (Appends (W.contents out.old) (W.contents out.new) (of_first_line (line_text resolver.old.file options) xs))) }
     // There was a line exactly where bytes were left.
@@ -254,13 +295,15 @@ pub fn answer_line<'s, S: Source<'s>, R: BufRead, W: Write>(
         return Ok(false);
     }
     rooms.text.clear();
-    put_answer(resolver, options, without_end(&rooms.line), &mut rooms.text)?;
-    write_out(out, &rooms.text)?;
+    let is_whole = put_answer(resolver, options, without_end(&rooms.line), &mut rooms.text)?;
+    note_unless(is_whole, out);
+    write_counted(out, &rooms.text)?;
     Ok(true)
 }
 
-/// Answers the lines of a reader, one after another: the text of each is written before the next line is read.
-pub fn answer_lines<'s, S: Source<'s>, R: BufRead, W: Write>(
+/// Writes the texts of the lines of a reader, one after another: the text of each is written before the next line is
+/// read.
+pub fn answer_lines<'s, S: Source<'s>, R: BufRead, W: NotesDamage>(
     resolver: &mut Resolver<'_, 's, S>,
     options: Options,
     rooms: &mut LineRooms,
@@ -269,7 +312,9 @@ pub fn answer_lines<'s, S: Source<'s>, R: BufRead, W: Write>(
 ) -> Result<(), Stop>
     ensures continues { Continues resolver.old resolver.new }
     ensures opened { (e : Error) → IsErrOf result (Stop.Open e) → ⊥ }
-    // All lines were read and answered.
+    ensures stops { IfErr result (StopsWriting ⊤) }
+    ensures failures { W.failures out.new ≡ failures_after (W.failures out.old) result }
+    // All lines were read, and their texts written.
     ensures ok { IfSome (R.remaining input.old) (λ xs. OnOk result (Appends (W.contents out.old) (W.contents out.new) (flat_map (line_text resolver.old.file options) (lines_of xs)))) }
     // A beginning of the texts was written.
     ensures refused { IfSome (R.remaining input.old) (λ xs. OnErr result (WroteFront (W.contents out.old) (W.contents out.new) (flat_map (line_text resolver.old.file options) (lines_of xs)))) }
@@ -292,9 +337,10 @@ pub fn resolver_over<'a, 's, S: Source<'s>>(
     streams: &'a mut Streams<'s>,
 ) -> Result<Resolver<'a, 's, S>, Stop>
     ensures file { IfOk result (λ r. r.file ≡ (S.state source).file) }
+    ensures continues { IfOk result (λ r. Continues (S.state source) r) }
     ensures opened { OnOk result (opens (S.state source).file ≡ Ok tt) }
     ensures refused { (S.state source).steady ≡ true → (e : Error) → IsErrOf result (Stop.Open e) → opens (S.state source).file ≡ Err e }
-    ensures unwritten { IsErrOf result Stop.Write → ⊥ }
+    ensures unwritten { IfErr result (StopsOpening ((S.state source).steady ≡ false)) }
 {
     let pdb = opened(alloc, source)?;
     Resolver::new(alloc, pdb, streams).map_err(stop_of)
@@ -303,7 +349,7 @@ pub fn resolver_over<'a, 's, S: Source<'s>>(
 
 /// Writes the texts of what is asked for in a source's file, one after another.
 #[tactic(auto, using(pdb_text::proofs::Written::first_none, crate::proofs::AnsweredLines::on_ok_of))]
-pub fn resolve_words<'s, S: Source<'s>, W: Write>(
+pub fn resolve_words<'s, S: Source<'s>, W: NotesDamage>(
     alloc: Global,
     source: S,
     questions: &[Question<'_>],
@@ -312,6 +358,8 @@ pub fn resolve_words<'s, S: Source<'s>, W: Write>(
     ensures opened { OnOk result (opens (S.state source).file ≡ Ok tt) }
     ensures ok { OnOk result (Appends (W.contents out.old) (W.contents out.new) (flat_map (asks_text (S.state source).file) questions.now)) }
     ensures refused { (S.state source).steady ≡ true → (e : Error) → IsErrOf result (Stop.Open e) → opens (S.state source).file ≡ Err e }
+    ensures stops { IfErr result (StopsCommand ((S.state source).steady ≡ false)) }
+    ensures failures { W.failures out.new ≡ failures_after (W.failures out.old) result }
     // The texts of some first words were written, whole.
     ensures stopped { IsErrAnd result (λ e. e ≢ Stop.Write) → WroteFirst (asks_text (S.state source).file) (W.contents out.old) (W.contents out.new) questions.now }
     // A beginning of the texts was written.
@@ -322,8 +370,8 @@ pub fn resolve_words<'s, S: Source<'s>, W: Write>(
     write_asked(alloc, &mut resolver, questions, out)
 }
 
-/// Answers the lines of a reader over a source's file, each before the next is read.
-pub fn resolve_lines<'s, S: Source<'s>, R: BufRead, W: Write>(
+/// Writes the texts of the lines of a reader over a source's file, each before the next is read.
+pub fn resolve_lines<'s, S: Source<'s>, R: BufRead, W: NotesDamage>(
     alloc: Global,
     source: S,
     options: Options,
@@ -333,6 +381,8 @@ pub fn resolve_lines<'s, S: Source<'s>, R: BufRead, W: Write>(
     ensures opened { OnOk result (opens (S.state source).file ≡ Ok tt) }
     ensures ok { IfSome (R.remaining input.old) (λ xs. OnOk result (Appends (W.contents out.old) (W.contents out.new) (flat_map (line_text (S.state source).file options) (lines_of xs)))) }
     ensures refused { (S.state source).steady ≡ true → (e : Error) → IsErrOf result (Stop.Open e) → opens (S.state source).file ≡ Err e }
+    ensures stops { IfErr result (StopsCommand ⊤) }
+    ensures failures { W.failures out.new ≡ failures_after (W.failures out.old) result }
     ensures front { IfSome (R.remaining input.old) (λ xs. OnErr result (WroteFront (W.contents out.old) (W.contents out.new) (flat_map (line_text (S.state source).file options) (lines_of xs)))) }
 {
     let mut streams = Streams::new(alloc);

@@ -34,7 +34,7 @@ fn no_bases() -> Bases
     }
 }
 
-/// The registers that a frame's record tells; none for other records.
+/// The registers that a frame's record says; none for other records.
 fn bases_at(symbol: &Symbol<'_>) -> Option<Bases>
     ensures { result ≡ bases_at (symbol_of symbol.now).bytes }
 {

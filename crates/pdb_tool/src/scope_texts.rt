@@ -268,7 +268,7 @@ fn put_further_says(
     }
 }
 
-/// The type of the variable that a further record tells.
+/// The type of the variable that a further record says.
 fn further_type(parsed: &Record<'_>) -> Option<TypeIndex>
     ensures { result ≡ further_type (Ok (shown_record parsed.now)) }
 {
@@ -280,7 +280,7 @@ fn further_type(parsed: &Record<'_>) -> Option<TypeIndex>
     }
 }
 
-/// Whether the variable that a record tells is a parameter; none for other records.
+/// Whether the variable that a record says is a parameter; none for other records.
 fn parameter_in(parsed: &SymbolData<'_>) -> Option<bool>
     ensures { result ≡ parameter_in (Ok (shown parsed.now)) }
 {
@@ -300,7 +300,7 @@ fn further_parameter_in(parsed: &Record<'_>) -> Option<bool>
     }
 }
 
-/// The line of a further record, and whether the variable that it tells is a parameter.
+/// The line of a further record, and whether the variable that it says is a parameter.
 fn put_further(
     out: &mut Vec<u8>,
     kept: &mut KeptEnds<'_, '_>,
@@ -345,7 +345,7 @@ fn put_unread(
     }
 }
 
-/// The line of a symbol, where it has one, and whether the variable that it tells is a parameter.
+/// The line of a symbol, where it has one, and whether the variable that it says is a parameter.
 fn put_line(
     alloc: Global,
     out: &mut Vec<u8>,

@@ -1,18 +1,20 @@
 //! The text of `sections`.
 
-ghost use Rattle.std.specs.Prelude.{◌≡◌, ◌∷◌, ◌++◌, ◌⊎◌, true, Ok, Err, IfErr, IsErrOf, OnOk, OnErr, codes, Some};
+ghost use Rattle.std.specs.Prelude.{◌≡◌, ◌∷◌, ◌++◌, true, false, Ok, Err, IfErr, IsErrOf, OnOk, OnErr, codes, Some};
 ghost use Rattle.std.specs.Io.KnownBytes.{Appends};
 ghost use Rattle.std.specs.Fmt.{decimal};
 ghost use Rattle.json.specs.Token.{key};
 ghost use Rattle.json.specs.Tree.{json_tokens, members_tokens};
 ghost use Rattle.pdb.specs.Container.{opens};
 ghost use Rattle.pdb.specs.Error.{Error};
-ghost use Rattle.pdb.specs.Source.{Continues};
+ghost use Rattle.pdb.specs.Source.{Continues, MayFail};
 ghost use Rattle.pdb_text.specs.Digits.{hex};
 ghost use Rattle.pdb_text.specs.Written.{WroteFront};
 ghost use Rattle.pdb_tool.specs.SectionTexts.{flags_members, placed_members, section_line, section_line_in, section_lines, section_value, sections_command, sized_members};
 ghost use Rattle.pdb_tool.specs.Objects.{Adds, json_line, text_value};
 ghost use Rattle.pdb_tool.specs.Values.{address_text};
+ghost use Rattle.pdb_tool.specs.Stops.{StopsCommand, StopsComposing};
+ghost use Rattle.pdb_tool.specs.WriteFailures.{failures_after};
 ghost use Rattle.pdb_tool.specs.declared.stop.Stop.{Stop};
 
 use crate::error_objects::{put_none_in, put_refused_in};
@@ -23,9 +25,8 @@ use crate::stop::Stop;
 use crate::values::{put_address, put_behind_blank};
 use json::Writer;
 use pdb::{ImageSectionHeader, PDB, Source};
-use pdb_text::{put_field, put_hex4, put_hex8, put_line_end, write_out};
+use pdb_text::{CountedWrite, put_field, put_hex4, put_hex8, put_line_end, write_counted};
 use std::alloc::{AllocError, Global};
-use std::io::Write;
 
 /// The line of the section of a number: its address, its size in memory, its characteristics, and its name.
 #[tactic(auto, unfolding(crate::specs::SectionTexts::section_line))]
@@ -160,7 +161,7 @@ fn put_sections<'s, S: Source<'s>>(
 ) -> Result<(), Stop>
     ensures continues { Continues pdb.old pdb.new }
     ensures text { OnOk result (out.new.items ≡ out.old.items ++ sections_command form pdb.old.file) }
-    ensures unwritten { IfErr result (λ e. (e ≡ Stop.Memory) ⊎ (e ≡ Stop.Read)) }
+    ensures unwritten { IfErr result (StopsComposing (MayFail pdb.old pdb.new)) }
 {
     match pdb.sections() {
         Ok(Some(headers)) => Ok(put_list(out, form, &headers)?),
@@ -171,7 +172,7 @@ fn put_sections<'s, S: Source<'s>>(
 
 /// Writes the section headers of a source's file.
 #[tactic(auto, using(pdb_text::proofs::Written::any_err, crate::proofs::AnsweredLines::front_none))]
-pub fn write_sections<'s, S: Source<'s>, W: Write>(
+pub fn write_sections<'s, S: Source<'s>, W: CountedWrite>(
     alloc: Global,
     source: S,
     form: Form,
@@ -180,11 +181,13 @@ pub fn write_sections<'s, S: Source<'s>, W: Write>(
     ensures opened { OnOk result (opens (S.state source).file ≡ Ok tt) }
     ensures ok { OnOk result (Appends (W.contents out.old) (W.contents out.new) (sections_command form (S.state source).file)) }
     ensures refused { (S.state source).steady ≡ true → (e : Error) → IsErrOf result (Stop.Open e) → opens (S.state source).file ≡ Err e }
+    ensures stops { IfErr result (StopsCommand ((S.state source).steady ≡ false)) }
+    ensures failures { W.failures out.new ≡ failures_after (W.failures out.old) result }
     ensures front { OnErr result (WroteFront (W.contents out.old) (W.contents out.new) (sections_command form (S.state source).file)) }
 {
     let mut pdb = opened(alloc, source)?;
     let mut text = Vec::new(alloc);
     put_sections(&mut pdb, form, &mut text)?;
-    write_out(out, &text)?;
+    write_counted(out, &text)?;
     Ok(())
 }

@@ -130,7 +130,7 @@ fn are_alike(left: &[u8], right: &[u8]) -> bool
     true
 }
 
-/// Whether nothing stands before a place of a name, or what ends a folder's name.
+/// Whether nothing stands before an offset of a name, or what ends a folder's name.
 fn begins_part(name: &[u8], at: usize) -> bool
     requires { at ≤ length name.now }
     ensures { result ≡ begins_part name.now at }

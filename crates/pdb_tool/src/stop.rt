@@ -1,6 +1,6 @@
 //! Why a command stopped.
 
-ghost use Rattle.pdb_tool.specs.Stops.{stop_of_refusal, stop_of_opening};
+ghost use Rattle.pdb_tool.specs.Stops.{StopsOpening, stop_of_refusal, stop_of_opening};
 ghost use Rattle.std.specs.Prelude.{◌≡◌, ◌≢◌};
 ghost use Rattle.pdb.specs.Error.{Error};
 ghost use Rattle.pdb_tool.specs.declared.stop.Stop.{Stop};
@@ -35,11 +35,11 @@ pub enum Stop {
     Read,
     /// The file can't be opened as a container.
     Open(Error),
-    /// The image is refused.
+    /// The image has an error.
     Image(ImageError),
     /// The image, whose PDB is wanted, names none.
     NoPdb,
-    /// Memory was refused.
+    /// Out of memory.
     Memory,
     /// Standard output failed.
     Write,
@@ -78,7 +78,7 @@ impl From<FetchError> for Stop {
     }
 }
 
-/// What a call that reads an opened file was refused for: want of memory, or else that the file can't be read.
+/// Why a call that reads an opened file failed: out of memory, or else that the file can't be read.
 pub fn stop_of(e: Error) -> Stop
     ensures { result ≡ stop_of_refusal e }
 {
@@ -88,10 +88,11 @@ pub fn stop_of(e: Error) -> Stop
     }
 }
 
-/// What a file that can't be opened was refused for: want of memory is told as such.
+/// Why a file can't be opened: out of memory is reported as such.
 pub fn stop_of_opening(e: Error) -> Stop
     ensures is { result ≡ stop_of_opening e }
     ensures opened { (x : Error) → result ≡ Stop.Open x → (e ≡ x) × (e ≢ Error.OutOfMemory) }
+    ensures unread { StopsOpening ⊥ result }
 {
     match e {
         Error::OutOfMemory => Stop::Memory,

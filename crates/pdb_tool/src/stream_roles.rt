@@ -156,14 +156,14 @@ fn put_role<'a>(
     }
 }
 
-/// The same of what has one place.
+/// The same of what is one stream.
 fn put_known(roles: &mut Vec<Role<'_>>, index: StreamIndex, known: Known) -> Result<(), AllocError>
     ensures { OnOk result (map role_view roles.new.items ≡ map role_view roles.old.items ++ indexed (known_text known) index.0) }
 {
     put_role(roles, index, What::Known(known))
 }
 
-/// The streams that stand at one place in every file.
+/// The streams that have one index in every file.
 pub fn put_fixed(roles: &mut Vec<Role<'_>>) -> Result<(), AllocError>
     ensures { OnOk result (map role_view roles.new.items ≡ map role_view roles.old.items ++ fixed_roles) }
 {

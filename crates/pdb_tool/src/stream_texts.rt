@@ -1,6 +1,6 @@
 //! The text of `streams`.
 
-ghost use Rattle.std.specs.Prelude.{◌≡◌, ◌≢◌, ◌≤◌, ◌<◌, ◌+◌, ◌++◌, ◌⊎◌, ℕ, List, Some, None, option_copied, true, codes, drop, flat_map, length, map, take, OnOk, OnErr, Ok, Err, IfOk, IfErr, IsErrOf};
+ghost use Rattle.std.specs.Prelude.{◌≡◌, ◌≢◌, ◌≤◌, ◌<◌, ◌+◌, ◌++◌, ℕ, List, Some, None, option_copied, true, false, codes, drop, flat_map, length, map, take, OnOk, OnErr, Ok, Err, IfOk, IfErr, IsErrOf};
 ghost use Rattle.std.specs.List.{filter, prefix_len, range_with_len};
 ghost use Rattle.std.specs.Io.KnownBytes.{Appends};
 ghost use Rattle.std.specs.Option.{option_map};
@@ -10,12 +10,14 @@ ghost use Rattle.pdb.specs.DbiViews.{information as information_said};
 ghost use Rattle.pdb_resolve.specs.AsIfEmpty.{if_read};
 ghost use Rattle.pdb_tool.specs.Checks.{names_in};
 ghost use Rattle.pdb.specs.Error.{Error};
-ghost use Rattle.pdb.specs.Source.{Continues};
+ghost use Rattle.pdb.specs.Source.{Continues, MayFail};
 ghost use Rattle.pdb_text.specs.Written.{WroteFront};
 ghost use Rattle.pdb_tool.specs.StreamOrder.{is_of, rises};
 ghost use Rattle.pdb_tool.specs.StreamRoles.{hash_roles, known_text, role_view, stream_number};
 ghost use Rattle.pdb_tool.specs.StreamTexts.{debug_roles, information_roles, line_in, line_of, read_or_none, role_line, roles_by, roles_of, size_text, stream_line, stream_value, streams_command, what_list};
 ghost use Rattle.pdb_tool.specs.Objects.{json_line};
+ghost use Rattle.pdb_tool.specs.Stops.{StopsCommand, StopsComposing};
+ghost use Rattle.pdb_tool.specs.WriteFailures.{failures_after};
 ghost use Rattle.pdb_tool.specs.declared.stop.Stop.{Stop};
 
 use crate::error_objects::put_refused_in;
@@ -30,9 +32,8 @@ use crate::stream_roles::{
 use pdb::{
     DBIExtraStreams, DebugInformation, Error, PDB, PDBInformation, Source, StreamIndex, StreamNames,
 };
-use pdb_text::{put_decimal, put_line_end, write_out};
+use pdb_text::{CountedWrite, put_decimal, put_line_end, write_counted};
 use std::alloc::{AllocError, Global};
-use std::io::Write;
 
 /// The size of a stream in decimal digits, or `-` of one that is absent.
 fn put_size(out: &mut Vec<u8>, size: Option<u32>) -> Result<(), AllocError>
@@ -136,7 +137,7 @@ fn put_stream<'s, S: Source<'s>>(
     }
 }
 
-/// The first of some sorted roles that are those of a stream, from a place on.
+/// The first of some sorted roles that are those of a stream, from an index on.
 fn here<'r, 'a>(roles: &'r [Role<'a>], at: usize, number: u32) -> &'r [Role<'a>]
     requires { at ≤ length roles.now }
     ensures here { result.now ≡ take (prefix_len (is_of stream_number number) (drop at roles.now)) (drop at roles.now) }
@@ -172,7 +173,7 @@ fn put_lines<'s, S: Source<'s>>(
 fn if_read<T: Drop>(answer: pdb::Result<T>) -> Result<Option<T>, Stop>
     ensures some { IfOk answer (λ x. result ≡ Ok (Some x)) }
     ensures none { IfErr answer (λ e. IfOk result (λ o. (o ≡ None) × (e ≢ Error.OutOfMemory) × (e ≢ Error.IoError))) }
-    ensures unwritten { IfErr result (λ e. (e ≡ Stop.Memory) ⊎ (e ≡ Stop.Read)) }
+    ensures unwritten { IfErr result (StopsComposing (IsErrOf answer Error.IoError)) }
 {
     match answer {
         Ok(it) => Ok(Some(it)),
@@ -204,7 +205,7 @@ fn put_information(
 fn put_debug<'s, S: Source<'s>>(pdb: &mut PDB<'s, S>, roles: &mut Vec<Role<'_>>) -> Result<(), Stop>
     ensures continues { Continues pdb.old pdb.new }
     ensures roles { OnOk result (map role_view roles.new.items ≡ map role_view roles.old.items ++ debug_roles pdb.old.file) }
-    ensures unwritten { IfErr result (λ e. (e ≡ Stop.Memory) ⊎ (e ≡ Stop.Read)) }
+    ensures unwritten { IfErr result (StopsComposing (MayFail pdb.old pdb.new)) }
 {
     match if_read(pdb.debug_information())? {
         Some(information) => Ok(put_information(roles, &information)?),
@@ -224,7 +225,7 @@ fn put_items<'s, S: Source<'s>>(
     requires { number < 5 }
     ensures continues { Continues pdb.old pdb.new }
     ensures roles { OnOk result (map role_view roles.new.items ≡ map role_view roles.old.items ++ read_or_none (stream_of pdb.old.file number None) (hash_roles (known_text hashes) (known_text further))) }
-    ensures unwritten { IfErr result (λ e. (e ≡ Stop.Memory) ⊎ (e ≡ Stop.Read)) }
+    ensures unwritten { IfErr result (StopsComposing (MayFail pdb.old pdb.new)) }
 {
     match if_read(pdb.raw_stream(StreamIndex(number)))? {
         Some(Some(stream)) => Ok(put_hashes(roles, stream.as_slice(), hashes, further)?),
@@ -241,7 +242,7 @@ fn put_all<'a, 's, S: Source<'s>>(
 ) -> Result<(), Stop>
     ensures continues { Continues pdb.old pdb.new }
     ensures roles { OnOk result (map role_view roles.new.items ≡ map role_view roles.old.items ++ roles_by pdb.old.file (option_copied names.entry)) }
-    ensures unwritten { IfErr result (λ e. (e ≡ Stop.Memory) ⊎ (e ≡ Stop.Read)) }
+    ensures unwritten { IfErr result (StopsComposing (MayFail pdb.old pdb.new)) }
 {
     put_fixed(roles)?;
     if let Some(names) = names {
@@ -259,7 +260,7 @@ fn names_of<'a>(
     information: Option<&'a PDBInformation<'_>>,
 ) -> Result<Option<StreamNames<'a>>, Stop>
     ensures names { (file : List ℕ) → option_map information_said (option_copied information.entry) ≡ if_read (information_in file) → IfOk result (λ o. o ≡ if_read (names_in file)) }
-    ensures unwritten { IfErr result (λ e. (e ≡ Stop.Memory) ⊎ (e ≡ Stop.Read)) }
+    ensures unwritten { IfErr result (λ e. e ≡ Stop.Memory) }
 {
     match information {
         Some(information) => if_read(information.stream_names(alloc)),
@@ -278,7 +279,7 @@ fn put_streams<'a, 's, S: Source<'s>>(
     out: &mut Vec<u8>,
 ) -> Result<(), Stop>
     ensures text { OnOk result (out.new.items ≡ out.old.items ++ flat_map (stream_line form pdb.old.file (roles_by pdb.old.file (option_copied names.entry))) (range_with_len 0 count)) }
-    ensures unwritten { IfErr result (λ e. (e ≡ Stop.Memory) ⊎ (e ≡ Stop.Read)) }
+    ensures unwritten { IfErr result (StopsComposing (MayFail pdb.old pdb.new)) }
 {
     let mut roles = Vec::new(alloc);
     put_all(pdb, names, &mut roles)?;
@@ -295,7 +296,7 @@ fn put_counted<'s, S: Source<'s>>(
     out: &mut Vec<u8>,
 ) -> Result<(), Stop>
     ensures text { OnOk result (out.new.items ≡ out.old.items ++ flat_map (stream_line form pdb.old.file (roles_of pdb.old.file)) (range_with_len 0 count)) }
-    ensures unwritten { IfErr result (λ e. (e ≡ Stop.Memory) ⊎ (e ≡ Stop.Read)) }
+    ensures unwritten { IfErr result (StopsComposing (MayFail pdb.old pdb.new)) }
 {
     let information = if_read(pdb.pdb_information())?;
     let names = names_of(alloc, information.as_ref())?;
@@ -311,7 +312,7 @@ fn put_command<'s, S: Source<'s>>(
     out: &mut Vec<u8>,
 ) -> Result<(), Stop>
     ensures text { OnOk result (out.new.items ≡ out.old.items ++ streams_command form pdb.old.file) }
-    ensures unwritten { IfErr result (λ e. (e ≡ Stop.Memory) ⊎ (e ≡ Stop.Read)) }
+    ensures unwritten { IfErr result (StopsComposing (MayFail pdb.old pdb.new)) }
 {
     match pdb.stream_count() {
         Ok(count) => put_counted(alloc, pdb, count, form, out),
@@ -321,7 +322,7 @@ fn put_command<'s, S: Source<'s>>(
 
 /// Writes the size of each stream of a source's file, and what it is.
 #[tactic(auto, using(pdb_text::proofs::Written::any_err, crate::proofs::AnsweredLines::front_none))]
-pub fn write_streams<'s, S: Source<'s>, W: Write>(
+pub fn write_streams<'s, S: Source<'s>, W: CountedWrite>(
     alloc: Global,
     source: S,
     form: Form,
@@ -330,11 +331,13 @@ pub fn write_streams<'s, S: Source<'s>, W: Write>(
     ensures opened { OnOk result (opens (S.state source).file ≡ Ok tt) }
     ensures ok { OnOk result (Appends (W.contents out.old) (W.contents out.new) (streams_command form (S.state source).file)) }
     ensures refused { (S.state source).steady ≡ true → (e : Error) → IsErrOf result (Stop.Open e) → opens (S.state source).file ≡ Err e }
+    ensures stops { IfErr result (StopsCommand ((S.state source).steady ≡ false)) }
+    ensures failures { W.failures out.new ≡ failures_after (W.failures out.old) result }
     ensures front { OnErr result (WroteFront (W.contents out.old) (W.contents out.new) (streams_command form (S.state source).file)) }
 {
     let mut pdb = opened(alloc, source)?;
     let mut text = Vec::new(alloc);
     put_command(alloc, &mut pdb, form, &mut text)?;
-    write_out(out, &text)?;
+    write_counted(out, &text)?;
     Ok(())
 }

@@ -115,7 +115,7 @@ fn put_name(out: &mut Vec<u8>, name: Option<RawString<'_>>) -> Result<(), AllocE
     }
 }
 
-/// The name of what a record tells; that of the function of an inlined call.
+/// The name of what a record says; that of the function of an inlined call.
 fn put_declared_name(
     out: &mut Vec<u8>,
     names: LineNames<'_, '_>,
@@ -152,7 +152,7 @@ pub fn lacks_layout(e: Error) -> bool
     matches!(e, Error::UnimplementedSymbolKind(_))
 }
 
-/// The number of an error that tells of damage.
+/// The number of an error that is damage.
 fn put_damage(out: &mut Vec<u8>, e: Error) -> Result<(), AllocError>
     ensures { OnOk result (out.new.items ≡ out.old.items ++ damage_text e) }
 {

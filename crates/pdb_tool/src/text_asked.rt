@@ -46,8 +46,8 @@ fn ask_code<'s, S: Source<'s>>(alloc: Global, source: S, questions: &[Question<'
     }
 }
 
-/// Requests the streams that the names of a module's inlined calls are found by: those of other modules, where the module
-/// imports ids from them. The result is whether all of them were read.
+/// Requests the streams that the names of a module's inlined calls are found by: those of other modules, where the
+/// module imports ids from them. The result is whether all of them were read.
 fn ask_calls<'s, S: Source<'s>>(
     alloc: Global,
     pdb: &mut PDB<'s, S>,
@@ -90,7 +90,7 @@ fn ask_all<'s, S: Source<'s>>(alloc: Global, pdb: &mut PDB<'s, S>, names_calls: 
 }
 
 /// Requests the stream of the module with this index. The result is whether it is the last one.
-fn ask_place<'s, S: Source<'s>>(
+fn ask_by_index<'s, S: Source<'s>>(
     alloc: Global,
     pdb: &mut PDB<'s, S>,
     list: &mut ModuleList<'_>,
@@ -109,13 +109,13 @@ fn ask_place<'s, S: Source<'s>>(
     }
 }
 
-/// Requests the streams of the modules of these numbers. The result is whether they are the last ones. The list of modules
-/// is read once.
-fn ask_places<'s, S: Source<'s>>(
+/// Requests the streams of the modules of these numbers. The result is whether they are the last ones. The list of
+/// modules is read once.
+fn ask_indexed<'s, S: Source<'s>>(
     alloc: Global,
     pdb: &mut PDB<'s, S>,
     names_calls: bool,
-    places: &[u32],
+    indices: &[u32],
 ) -> bool {
     let information = match pdb.debug_information() {
         Ok(information) => information,
@@ -126,8 +126,8 @@ fn ask_places<'s, S: Source<'s>>(
     };
     let mut list = ModuleList::new(alloc, modules);
     let mut is_last = true;
-    for k in places {
-        is_last = ask_place(alloc, pdb, &mut list, names_calls, *k) && is_last;
+    for k in indices {
+        is_last = ask_by_index(alloc, pdb, &mut list, names_calls, *k) && is_last;
     }
     is_last
 }
@@ -137,12 +137,12 @@ fn ask_modules<'s, S: Source<'s>>(
     alloc: Global,
     pdb: &mut PDB<'s, S>,
     names_calls: bool,
-    places: &[u32],
+    indices: &[u32],
 ) -> bool {
-    if places.is_empty() {
+    if indices.is_empty() {
         ask_all(alloc, pdb, names_calls)
     } else {
-        ask_places(alloc, pdb, names_calls, places)
+        ask_indexed(alloc, pdb, names_calls, indices)
     }
 }
 
@@ -159,22 +159,22 @@ impl TextAsked<'_> {
                 let ids = is_missed(&pdb.id_information());
                 self.shared = is_missed(&pdb.type_information()) || ids;
             }
-            FileText::Symbols(places) => {
+            FileText::Symbols(indices) => {
                 let names = is_missed(&pdb.id_information()) | is_missed(&pdb.type_information());
                 let header = is_missed(&pdb.debug_information());
-                let globals = places.is_empty() && is_missed(&pdb.global_symbols());
+                let globals = indices.is_empty() && is_missed(&pdb.global_symbols());
                 self.shared = names || header || globals;
             }
             FileText::Types(_) => self.shared = is_missed(&pdb.type_information()),
             FileText::Find(_, _) => {
                 let names = is_missed(&pdb.id_information()) | is_missed(&pdb.type_information());
-                let places = is_missed(&pdb.global_symbols()) | is_missed(&pdb.address_map());
-                self.shared = names | places;
+                let maps = is_missed(&pdb.global_symbols()) | is_missed(&pdb.address_map());
+                self.shared = names | maps;
             }
             FileText::Where(_, _) => {
                 let names = is_missed(&pdb.id_information()) | is_missed(&pdb.type_information());
-                let places = is_missed(&pdb.string_table()) | is_missed(&pdb.address_map());
-                self.shared = names | places;
+                let maps = is_missed(&pdb.string_table()) | is_missed(&pdb.address_map());
+                self.shared = names | maps;
             }
             FileText::Modules(_) => self.shared = is_missed(&pdb.debug_information()),
             FileText::Sections(_) => self.shared = is_missed(&pdb.sections()),
@@ -205,12 +205,12 @@ impl TextAsked<'_> {
         let text = self.text;
         self.modules = match text {
             FileText::Code(_) => false,
-            FileText::Lines(places) | FileText::Sources(_, places) => {
-                !ask_modules(alloc, pdb, false, places)
+            FileText::Lines(indices) | FileText::Sources(_, indices) => {
+                !ask_modules(alloc, pdb, false, indices)
             }
-            FileText::Scopes(places) => !ask_modules(alloc, pdb, true, places),
-            FileText::Symbols(places) => {
-                !places.is_empty() && !ask_modules(alloc, pdb, true, places)
+            FileText::Scopes(indices) => !ask_modules(alloc, pdb, true, indices),
+            FileText::Symbols(indices) => {
+                !indices.is_empty() && !ask_modules(alloc, pdb, true, indices)
             }
             FileText::AllSymbols => !ask_all(alloc, pdb, true),
             FileText::Find(_, _) | FileText::Where(_, _) => !ask_all(alloc, pdb, true),

@@ -27,7 +27,7 @@ fn to_one_line(bytes: &mut [u8])
     }
 }
 
-/// The same from a place on.
+/// The same from an offset on.
 fn to_one_line_from(out: &mut Vec<u8>, start: usize)
     requires { start ≤ length out.old.items }
     ensures { out.new.items ≡ take start out.old.items ++ one_line (drop start out.old.items) }

@@ -1,10 +1,11 @@
 //! The text of `types`.
 
-ghost use Rattle.std.specs.Prelude.{◌≡◌, ◌++◌, ◌⊎◌, [], true, flat_map, option_copied, None, Ok, Err, IfOk, IfErr, OnOk, OnErr, IsErrOf};
+ghost use Rattle.std.specs.Prelude.{◌≡◌, ◌++◌, [], true, false, flat_map, option_copied, None, Ok, Err, IfOk, IfErr, OnOk, OnErr, IsErrOf};
 ghost use Rattle.std.specs.Io.KnownBytes.{Appends};
 ghost use Rattle.std.specs.Option.{option_map};
 ghost use Rattle.pdb.specs.Container.{opens};
 ghost use Rattle.pdb.specs.Error.{Error};
+ghost use Rattle.pdb.specs.Source.{MayFail};
 ghost use Rattle.pdb_items.specs.ItemViews.{item_of, items_left};
 ghost use Rattle.pdb_text.specs.Written.{WroteFront};
 ghost use Rattle.pdb_resolve.specs.FileParts.{items_where};
@@ -12,6 +13,8 @@ ghost use Rattle.pdb_types.specs.FullTypes.{definitions_among, first_definition}
 ghost use Rattle.pdb_types.specs.TypeReading.{shown_tag, shown_type};
 ghost use Rattle.pdb_tool.specs.TypeTexts.{index_lines, item_lines, members_by, stream_text, types_command, types_in, types_left, underlying_of};
 ghost use Rattle.pdb_tool.specs.TypeViews.{types_of};
+ghost use Rattle.pdb_tool.specs.Stops.{StopsCommand, StopsWriting};
+ghost use Rattle.pdb_tool.specs.WriteFailures.{failures_after};
 ghost use Rattle.pdb_tool.specs.declared.stop.Stop.{Stop};
 
 use crate::commands::{definitions_of, types_stream};
@@ -24,10 +27,9 @@ use crate::type_lines::{
 };
 use pdb::{FallibleIterator, Item, ItemFinder, ItemIter, PDB, Source, TypeIndex, TypeInformation};
 use pdb_resolve::types_of;
-use pdb_text::write_out;
+use pdb_text::{CountedWrite, write_counted};
 use pdb_types::{Tag, TypeData, TypeDefinitions};
 use std::alloc::{AllocError, Global};
-use std::io::Write;
 
 /// The type that values of a type are numbers of; index 0 where it is no enumeration.
 fn underlying_of(says: &Option<TypeData<'_>>) -> TypeIndex
@@ -79,13 +81,15 @@ fn put_index(out: &mut Vec<u8>, types: Types<'_, '_>, index: u32) -> Result<(), 
 
 /// Writes the lines of the types that an iterator has left, and then that of its fault. Those of each type are composed
 /// and then written.
-fn write_left<W: Write>(
+fn write_left<W: CountedWrite>(
     alloc: Global,
     types: Types<'_, '_>,
     mut items: ItemIter<'_>,
     out: &mut W,
 ) -> Result<(), Stop>
     ensures opened { (e : Error) → IsErrOf result (Stop.Open e) → ⊥ }
+    ensures stops { IfErr result (StopsWriting ⊥) }
+    ensures failures { W.failures out.new ≡ failures_after (W.failures out.old) result }
     ensures ok { OnOk result (Appends (W.contents out.old) (W.contents out.new) (types_left (types_of types.entry) (items_left items.entry))) }
     ensures front { OnErr result (WroteFront (W.contents out.old) (W.contents out.new) (types_left (types_of types.entry) (items_left items.entry))) }
 {
@@ -97,18 +101,20 @@ fn write_left<W: Write>(
             Ok(None) => return Ok(()),
             Err(e) => return write_refused(alloc, e, out),
         }
-        write_out(out, &text)?;
+        write_counted(out, &text)?;
     }
 }
 
 /// Writes the lines of the types of these indices.
-fn write_each<W: Write>(
+fn write_each<W: CountedWrite>(
     alloc: Global,
     types: Types<'_, '_>,
     indices: &[u32],
     out: &mut W,
 ) -> Result<(), Stop>
     ensures opened { (e : Error) → IsErrOf result (Stop.Open e) → ⊥ }
+    ensures stops { IfErr result (StopsWriting ⊥) }
+    ensures failures { W.failures out.new ≡ failures_after (W.failures out.old) result }
     ensures ok { OnOk result (Appends (W.contents out.old) (W.contents out.new) (flat_map (index_lines (types_of types.entry)) indices.now)) }
     ensures front { OnErr result (WroteFront (W.contents out.old) (W.contents out.new) (flat_map (index_lines (types_of types.entry)) indices.now)) }
 {
@@ -116,20 +122,20 @@ fn write_each<W: Write>(
     for index in indices {
         text.clear();
         put_index(&mut text, types, *index)?;
-        write_out(out, &text)?;
+        write_counted(out, &text)?;
     }
     Ok(())
 }
 
-/// The types of a stream by their indices, and the full definitions among them; none where the stream isn't there or has
-/// an error.
+/// The types of a stream by their indices, and the full definitions among them; none where the stream isn't there or
+/// has an error.
 fn type_tables<'a>(
     alloc: Global,
     information: Option<&'a TypeInformation<'a>>,
 ) -> Result<(ItemFinder<'a>, TypeDefinitions<'a>), Stop>
     ensures items { IfOk result (λ t. t.0 ≡ items_where (option_copied information.entry)) }
     ensures definitions { IfOk result (λ t. first_definition t.1 ≡ first_definition (definitions_among (items_where (option_copied information.entry)))) }
-    ensures unwritten { IfErr result (λ e. (e ≡ Stop.Memory) ⊎ (e ≡ Stop.Read)) }
+    ensures unwritten { IfErr result (λ e. e ≡ Stop.Memory) }
 {
     let items = types_of(alloc, information).map_err(stop_of)?;
     let definitions = definitions_of(alloc, information)?;
@@ -138,13 +144,15 @@ fn type_tables<'a>(
 
 /// Writes the lines of the types of these indices of an opened file.
 #[tactic(auto, unfolding(pdb_resolve::specs::FileParts::items_listed))]
-fn write_asked<'s, S: Source<'s>, W: Write>(
+fn write_asked<'s, S: Source<'s>, W: CountedWrite>(
     alloc: Global,
     pdb: &mut PDB<'s, S>,
     indices: &[u32],
     out: &mut W,
 ) -> Result<(), Stop>
     ensures opened { (e : Error) → IsErrOf result (Stop.Open e) → ⊥ }
+    ensures stops { IfErr result (StopsWriting (MayFail pdb.old pdb.new)) }
+    ensures failures { W.failures out.new ≡ failures_after (W.failures out.old) result }
     ensures ok { OnOk result (Appends (W.contents out.old) (W.contents out.new) (flat_map (index_lines (types_in pdb.old.file)) indices.now)) }
     ensures front { OnErr result (WroteFront (W.contents out.old) (W.contents out.new) (flat_map (index_lines (types_in pdb.old.file)) indices.now)) }
 {
@@ -158,12 +166,14 @@ fn write_asked<'s, S: Source<'s>, W: Write>(
 }
 
 /// Writes the lines of the types of a stream.
-fn write_stream<W: Write>(
+fn write_stream<W: CountedWrite>(
     alloc: Global,
     information: &TypeInformation<'_>,
     out: &mut W,
 ) -> Result<(), Stop>
     ensures opened { (e : Error) → IsErrOf result (Stop.Open e) → ⊥ }
+    ensures stops { IfErr result (StopsWriting ⊥) }
+    ensures failures { W.failures out.new ≡ failures_after (W.failures out.old) result }
     ensures ok { OnOk result (Appends (W.contents out.old) (W.contents out.new) (stream_text information.now)) }
     ensures front { OnErr result (WroteFront (W.contents out.old) (W.contents out.new) (stream_text information.now)) }
 {
@@ -180,12 +190,14 @@ fn write_stream<W: Write>(
 }
 
 /// Writes the lines of all types of an opened file.
-fn write_all<'s, S: Source<'s>, W: Write>(
+fn write_all<'s, S: Source<'s>, W: CountedWrite>(
     alloc: Global,
     pdb: &mut PDB<'s, S>,
     out: &mut W,
 ) -> Result<(), Stop>
     ensures opened { (e : Error) → IsErrOf result (Stop.Open e) → ⊥ }
+    ensures stops { IfErr result (StopsWriting (MayFail pdb.old pdb.new)) }
+    ensures failures { W.failures out.new ≡ failures_after (W.failures out.old) result }
     ensures ok { OnOk result (Appends (W.contents out.old) (W.contents out.new) (types_command pdb.old.file [])) }
     ensures front { OnErr result (WroteFront (W.contents out.old) (W.contents out.new) (types_command pdb.old.file [])) }
 {
@@ -197,7 +209,7 @@ fn write_all<'s, S: Source<'s>, W: Write>(
 
 /// Writes the lines of types of a source's file: those of these indices, or of all where there is none.
 #[tactic(auto, using(pdb_text::proofs::Written::any_err, crate::proofs::AnsweredLines::front_none))]
-pub fn write_types<'s, S: Source<'s>, W: Write>(
+pub fn write_types<'s, S: Source<'s>, W: CountedWrite>(
     alloc: Global,
     source: S,
     indices: &[u32],
@@ -206,6 +218,8 @@ pub fn write_types<'s, S: Source<'s>, W: Write>(
     ensures opened { OnOk result (opens (S.state source).file ≡ Ok tt) }
     ensures ok { OnOk result (Appends (W.contents out.old) (W.contents out.new) (types_command (S.state source).file indices.now)) }
     ensures refused { (S.state source).steady ≡ true → (e : Error) → IsErrOf result (Stop.Open e) → opens (S.state source).file ≡ Err e }
+    ensures stops { IfErr result (StopsCommand ((S.state source).steady ≡ false)) }
+    ensures failures { W.failures out.new ≡ failures_after (W.failures out.old) result }
     ensures front { OnErr result (WroteFront (W.contents out.old) (W.contents out.new) (types_command (S.state source).file indices.now)) }
 {
     let mut pdb = opened(alloc, source)?;

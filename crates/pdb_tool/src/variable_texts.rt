@@ -1,14 +1,15 @@
 //! The text of a place with the variables in scope there.
 
-ghost use Rattle.std.specs.Prelude.{◌≡◌, ◌++◌, ◌⊎◌, ℕ, List, [], map, option_copied, replicate, IfOk, IfErr, OnOk};
+ghost use Rattle.std.specs.Prelude.{◌≡◌, ◌++◌, ℕ, List, [], map, option_copied, replicate, IfOk, IfErr, OnOk};
 ghost use Rattle.pdb.specs.Answers.{debug_information_in};
-ghost use Rattle.pdb.specs.Source.{Continues};
+ghost use Rattle.pdb.specs.Source.{Continues, MayFail};
 ghost use Rattle.pdb_resolve.specs.AsIfEmpty.{if_read};
 ghost use Rattle.pdb_resolve.specs.KeptFrames.{shown_frame};
 ghost use Rattle.pdb_resolve.specs.VariableViews.{shown_location, shown_variable};
 ghost use Rattle.pdb_tool.specs.ModuleMachines.{file_machine};
 ghost use Rattle.pdb_tool.specs.OwnedLines.{Keeps, call_texts, calls_behind, first_text, further_texts, last_texts, own_behind, with_line};
 ghost use Rattle.pdb_tool.specs.VariableTexts.{framed, framed_text, further_parts, kind_word, location_text, machine_at, parts_text, storage_text, stored_part, variable_line, variables_text};
+ghost use Rattle.pdb_tool.specs.Stops.{StopsComposing};
 ghost use Rattle.pdb_tool.specs.declared.stop.Stop.{Stop};
 
 use crate::register_names::put_register_name;
@@ -266,7 +267,7 @@ fn machine_at<'s, S: Source<'s>>(
 ) -> Result<Option<Machine>, Stop>
     ensures continues { Continues resolver.old resolver.new }
     ensures is { IfOk result (λ m. m ≡ machine_at resolver.old.file place) }
-    ensures unwritten { IfErr result (λ e. (e ≡ Stop.Memory) ⊎ (e ≡ Stop.Read)) }
+    ensures unwritten { IfErr result (StopsComposing (MayFail resolver.old resolver.new)) }
 {
     let Some(place) = place else {
         return Ok(None);
@@ -289,7 +290,7 @@ pub fn put_variables<'s, S: Source<'s>>(
 ) -> Result<(), Stop>
     ensures continues { Continues resolver.old resolver.new }
     ensures text { OnOk result (out.new.items ≡ out.old.items ++ variables_text resolver.old.file place) }
-    ensures unwritten { IfErr result (λ e. (e ≡ Stop.Memory) ⊎ (e ≡ Stop.Read)) }
+    ensures unwritten { IfErr result (StopsComposing (MayFail resolver.old resolver.new)) }
 {
     let frames = resolver.frames(place).map_err(stop_of)?;
     let variables = resolver.variables(place).map_err(stop_of)?;

@@ -1,25 +1,28 @@
 //! Which PDB is wanted, and the texts of a file where one is: nothing is written of another one.
 
-ghost use Rattle.std.specs.Prelude.{◌≡◌, ◌≢◌, ◌++◌, List, ℕ, drop, flat_map, length, map, Ok, Err, IfOk, IfSome, IsErrOf, OnErr, OnOk, option_copied};
+ghost use Rattle.std.specs.Prelude.{◌≡◌, ◌≢◌, ◌++◌, List, ℕ, drop, flat_map, length, map, Ok, Err, IfOk, IfErr, IfSome, IsErrOf, OnErr, OnOk, option_copied, ⊤};
 ghost use Rattle.std.specs.Char.{to_ascii_uppercase};
 ghost use Rattle.std.specs.Option.{ForSome, option_map};
 ghost use Rattle.pdb_tool.specs.Asked.{lines_of};
 ghost use Rattle.pdb_tool.specs.FileTexts.{file_text};
 ghost use Rattle.pdb_tool.specs.Questions.{line_text};
 ghost use Rattle.pdb_tool.specs.Wanted.{IsStopped, IsTold, other_key as other_key_of, other_than, Wants, key_in_word as key_there, wants_in as wants_there};
+ghost use Rattle.pdb_tool.specs.Stops.{StopsCommand, StopsOpening};
+ghost use Rattle.pdb_tool.specs.WriteFailures.{failures_after};
 ghost use Rattle.pdb_tool.specs.declared.stop.Stop.{Stop};
 
 use crate::file_texts::{FileText, write_text};
 use crate::in_parts::write_in_parts;
-use crate::key::{key_in_parts, key_of, text};
+use crate::key::key_in_parts;
+use crate::notes::NotesDamage;
 use crate::options::Options;
 use crate::resolve::resolve_lines;
 use crate::stop::{Stop, stop_of_opening};
-use pdb::MemorySource;
+use pdb::{MemorySource, key_of, key_text};
 use pdb_file::ReadAt;
 use pdb_image::Image;
 use std::alloc::{AllocError, Global};
-use std::io::{BufRead, Write};
+use std::io::BufRead;
 
 /// The key of the PDB that an image names, and the image's load address.
 #[derive(Drop)]
@@ -68,7 +71,7 @@ pub fn wants_in(alloc: Global, bytes: &[u8]) -> Result<ImageWants, Stop>
     let Some(pdb) = image.pdb else {
         return Err(Stop::NoPdb);
     };
-    let key = text(alloc, &pdb.guid, pdb.age)?;
+    let key = key_text(alloc, &pdb.guid, pdb.age)?;
     Ok(ImageWants {
         key,
         base: image.base,
@@ -89,6 +92,7 @@ fn unless_wanted(key: Vec<u8>, wanted: &[u8]) -> Option<Vec<u8>>
 /// The key of a file of these bytes, where another is wanted.
 fn other_key(alloc: Global, bytes: &[u8], wanted: Option<&[u8]>) -> Result<Option<Vec<u8>>, Stop>
     ensures compares { IfOk result (λ o. other_key_of bytes.now (option_copied wanted.entry) ≡ Ok (option_map (λ v. v.items) o)) }
+    ensures stops { IfErr result (StopsOpening ⊥) }
 {
     let Some(wanted) = wanted else {
         return Ok(None);
@@ -105,6 +109,7 @@ fn other_key_in_parts<R: ReadAt>(
     wanted: Option<&[u8]>,
 ) -> Result<Option<Vec<u8>>, Stop>
     ensures compares { ForSome (R.known input.now) (λ G. length G ≡ size → IfOk result (λ o. other_key_of G (option_copied wanted.entry) ≡ Ok (option_map (λ v. v.items) o))) }
+    ensures stops { IfErr result (StopsOpening ⊤) }
 {
     let Some(wanted) = wanted else {
         return Ok(None);
@@ -113,14 +118,16 @@ fn other_key_in_parts<R: ReadAt>(
     Ok(unless_wanted(key, wanted))
 }
 
-/// Writes the text of a file of these bytes, where it is the wanted one; else answers its key.
-pub fn write_wanted<W: Write>(
+/// Writes the text of a file of these bytes, where it is the wanted one; else returns its key.
+pub fn write_wanted<W: NotesDamage>(
     alloc: Global,
     bytes: &[u8],
     wanted: Option<&[u8]>,
     text: FileText<'_>,
     out: &mut W,
 ) -> Result<Option<Vec<u8>>, Stop>
+    ensures stops { IfErr result (StopsCommand ⊥) }
+    ensures failures { W.failures out.new ≡ failures_after (W.failures out.old) result }
     ensures told { IfOk result (λ o. IsTold bytes.now (option_copied wanted.entry) (W.contents out.old) (W.contents out.new) (file_text bytes.now text.entry) (option_map (λ v. v.items) o)) }
     ensures stopped { OnErr result (IsStopped bytes.now (option_copied wanted.entry) (W.contents out.old) (W.contents out.new) (file_text bytes.now text.entry)) }
 {
@@ -131,9 +138,9 @@ pub fn write_wanted<W: Write>(
     Ok(None)
 }
 
-/// Writes the text of a file of this size, where it is the wanted one; else answers its key. No more of the file is read
-/// than both ask for.
-pub fn write_wanted_in_parts<R: ReadAt, W: Write>(
+/// Writes the text of a file of this size, where it is the wanted one; else returns its key. No more of the file is
+/// read than both ask for.
+pub fn write_wanted_in_parts<R: ReadAt, W: NotesDamage>(
     alloc: Global,
     input: &R,
     size: u64,
@@ -141,6 +148,8 @@ pub fn write_wanted_in_parts<R: ReadAt, W: Write>(
     text: FileText<'_>,
     out: &mut W,
 ) -> Result<Option<Vec<u8>>, Stop>
+    ensures stops { IfErr result (StopsCommand ⊤) }
+    ensures failures { W.failures out.new ≡ failures_after (W.failures out.old) result }
     ensures told { ForSome (R.known input.now) (λ G. length G ≡ size → IfOk result (λ o. IsTold G (option_copied wanted.entry) (W.contents out.old) (W.contents out.new) (file_text G text.entry) (option_map (λ v. v.items) o))) }
     ensures stopped { ForSome (R.known input.now) (λ G. length G ≡ size → OnErr result (IsStopped G (option_copied wanted.entry) (W.contents out.old) (W.contents out.new) (file_text G text.entry))) }
 {
@@ -151,8 +160,9 @@ pub fn write_wanted_in_parts<R: ReadAt, W: Write>(
     Ok(None)
 }
 
-/// Answers the lines of a reader over a file of these bytes, where it is the wanted one; else answers its key.
-pub fn answer_wanted<R: BufRead, W: Write>(
+/// Writes the texts of the lines of a reader over a file of these bytes, where it is the wanted one; else returns its
+/// key.
+pub fn answer_wanted<R: BufRead, W: NotesDamage>(
     alloc: Global,
     bytes: &[u8],
     wanted: Option<&[u8]>,
@@ -160,6 +170,8 @@ pub fn answer_wanted<R: BufRead, W: Write>(
     input: &mut R,
     out: &mut W,
 ) -> Result<Option<Vec<u8>>, Stop>
+    ensures stops { IfErr result (StopsCommand ⊤) }
+    ensures failures { W.failures out.new ≡ failures_after (W.failures out.old) result }
     ensures told { IfSome (R.remaining input.old) (λ xs. IfOk result (λ o. IsTold bytes.now (option_copied wanted.entry) (W.contents out.old) (W.contents out.new) (flat_map (line_text bytes.now options) (lines_of xs)) (option_map (λ v. v.items) o))) }
     ensures stopped { IfSome (R.remaining input.old) (λ xs. OnErr result (IsStopped bytes.now (option_copied wanted.entry) (W.contents out.old) (W.contents out.new) (flat_map (line_text bytes.now options) (lines_of xs)))) }
 {

@@ -9,8 +9,8 @@ use bstr::ByteSlice;
 /// What stands for any bytes in a pattern.
 const STAR: u8 = b'*';
 
-/// Whether the bytes of a name from some place on match a pattern. The first place is taken at which what stands before
-/// the next star occurs: a later one leaves less for what is behind.
+/// Whether the bytes of a name from some offset on match a pattern. The first offset is taken at which what stands
+/// before the next star occurs: a later one leaves less for what is behind.
 fn matches_somewhere(pattern: &[u8], name: &[u8]) -> bool
     ensures { result ≡ from_somewhere (matches pattern.now) name.now }
 {

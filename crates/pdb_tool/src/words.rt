@@ -1,10 +1,11 @@
 //! What the program's words ask for.
 
 ghost use Rattle.std.specs.Prelude.{◌≡◌, ◌+◌, ◌<◌, ◌^◌, map, string_bytes, length};
-ghost use Rattle.pdb_tool.specs.Words.{Tells, alone, front_of, help_in, is_help, is_version, lookup_in, request_in, topic_in, wants_help};
+ghost use Rattle.pdb_text.specs.Arguments.{Tells};
+ghost use Rattle.pdb_tool.specs.Words.{alone, behind_command, help_in, is_help, is_version, lookup_in, request_in, topic_in, wants_help};
 
 use crate::options::{Options, is_dashes, options_in};
-use std::alloc::{AllocError, AllocFailed};
+use pdb_text::WordsError;
 
 /// A command.
 #[derive(Clone, Copy, Debug, PartialEq, Eq)]
@@ -50,36 +51,6 @@ pub enum Request {
     Version,
     /// A command, and its options.
     Run(Topic, Options),
-}
-
-/// Why arguments are no request.
-#[derive(Clone, Copy, Debug, PartialEq, Eq)]
-pub enum WordsError {
-    /// The argument of this index, counted from 0, is wrong. It is the number of arguments where one is missing at the
-    /// end.
-    BadWord(usize),
-    /// Out of memory.
-    OutOfMemory,
-}
-
-impl From<AllocError> for WordsError {
-    ghost use Rattle.pdb_tool.specs.declared.words.WordsError.TheVariants.{OutOfMemory};
-
-    ghost from_gives = { λ _ e. e ≡ OutOfMemory };
-
-    fn from(_e: AllocError) -> WordsError {
-        WordsError::OutOfMemory
-    }
-}
-
-impl<T: Drop> From<AllocFailed<T>> for WordsError {
-    ghost use Rattle.pdb_tool.specs.declared.words.WordsError.TheVariants.{OutOfMemory};
-
-    ghost from_gives = { λ _ e. e ≡ OutOfMemory };
-
-    fn from(_e: AllocFailed<T>) -> WordsError {
-        WordsError::OutOfMemory
-    }
 }
 
 /// The command of a name, among those that look things up or list them.
@@ -142,13 +113,13 @@ fn wants_help(words: &[String]) -> bool
 }
 
 /// This request, if no argument has this index or a greater one.
-fn alone(request: Request, words: &[String], place: usize) -> Result<Request, WordsError>
-    ensures { Tells (λ r. r) result (alone request (map string_bytes words.now) place) }
+fn alone(request: Request, words: &[String], argument: usize) -> Result<Request, WordsError>
+    ensures { Tells (λ r. r) result (alone request (map string_bytes words.now) argument) }
 {
     if words.is_empty() {
         Ok(request)
     } else {
-        Err(WordsError::BadWord(place))
+        Err(WordsError::BadWord(argument))
     }
 }
 
@@ -172,9 +143,9 @@ fn help_in(words: &[String]) -> Result<Request, WordsError>
 }
 
 /// The request of the arguments behind the name of a command.
-fn front_of(topic: Topic, words: &[String]) -> Result<Request, WordsError>
+fn behind_command(topic: Topic, words: &[String]) -> Result<Request, WordsError>
     requires { 1 + length words.now < 2 ^ 64 }
-    ensures { Tells (λ r. r) result (front_of topic (map string_bytes words.now)) }
+    ensures { Tells (λ r. r) result (behind_command topic (map string_bytes words.now)) }
 {
     let Some(word) = words.first() else {
         return Err(WordsError::BadWord(1));
@@ -197,7 +168,7 @@ pub fn request_in(words: &[String]) -> Result<Request, WordsError>
         name if is_help(name) => alone(Request::Help(None), rest, 1),
         name if is_version(name) => alone(Request::Version, rest, 1),
         name => match topic_in(name) {
-            Some(topic) => front_of(topic, rest),
+            Some(topic) => behind_command(topic, rest),
             None => Err(WordsError::BadWord(0)),
         },
     }

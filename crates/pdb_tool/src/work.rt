@@ -4,7 +4,7 @@ ghost use Rattle.std.specs.Prelude.{◌≡◌, ◌+◌, ◌<◌, ◌^◌, drop, 
 ghost use Rattle.std.specs.Option.{option_map};
 ghost use Rattle.pdb_tool.specs.Operands.{operand_view};
 ghost use Rattle.pdb_tool.specs.Work.{ending, judging, named, over_file, over_operands, sourced, split_first, task_of, work_of};
-ghost use Rattle.pdb_tool.specs.Words.{Tells};
+ghost use Rattle.pdb_text.specs.Arguments.{Tells};
 ghost use Rattle.pdb_tool.specs.declared.words.Topic.{Topic};
 
 use crate::operands::{
@@ -12,7 +12,8 @@ use crate::operands::{
 };
 use crate::options::{Form, Options, Wanted};
 use crate::sources_asked::SourceAsked;
-use crate::words::{Request, Topic, WordsError, request_in};
+use crate::words::{Request, Topic, request_in};
+use pdb_text::WordsError;
 use std::alloc::Global;
 
 /// What the program has to do. A file is the operand that names it.
@@ -90,7 +91,7 @@ fn find_work<'w>(
         return Err(WordsError::BadWord(count));
     }
     match first_empty(&rest) {
-        Some(place) => Err(WordsError::BadWord(place)),
+        Some(argument) => Err(WordsError::BadWord(argument)),
         None => Ok(Work::Find(form, file, rest)),
     }
 }
@@ -116,7 +117,7 @@ fn ending<'w>(work: Work<'w>, rest: &[Operand<'w>]) -> Result<Work<'w>, WordsErr
     ensures { Tells task_of result (ending (task_of work.entry) (map operand_view rest.now)) }
 {
     match rest.first() {
-        Some(operand) => Err(WordsError::BadWord(operand.place)),
+        Some(operand) => Err(WordsError::BadWord(operand.argument)),
         None => Ok(work),
     }
 }

@@ -1,10 +1,10 @@
 //! What is wrong with files that are made by hand.
 
 use super::files::{debug_stream, file_of, module_record};
-use crate::checks::write_check;
+use crate::checks::check_of;
 use crate::options::Form;
 use crate::stop::Stop;
-use crate::tests::fakes::{Narrow, is};
+use crate::tests::fakes::is;
 use pdb::Error;
 use std::alloc::{AllocError, Global};
 use std::process::Abort;
@@ -87,10 +87,9 @@ fn text_is(
     well: bool,
     wanted: &[u8],
 ) -> Result<(), Fail> {
-    let mut out = Vec::new(alloc);
-    let given = write_check(alloc, bytes, Form::Text, b"a.pdb", &mut out);
-    is(rt, "out.as_slice()", &out.as_slice(), &wanted);
-    is(rt, "given", &given, &Ok(well));
+    let given = check_of(alloc, bytes, Form::Text, b"a.pdb").expect(rt, "a text");
+    is(rt, "given.text.as_slice()", &given.text.as_slice(), &wanted);
+    is(rt, "given.is_well", &given.is_well, &well);
     Ok(())
 }
 
@@ -181,22 +180,8 @@ fn an_older_header_refuses_what_stands_on_it(rt: HostRuntime) -> Result<(), Fail
 
 #[test]
 fn a_file_that_is_none_has_no_text(rt: HostRuntime) -> Result<(), Fail> {
-    let mut out = Vec::new(rt.alloc());
-    let given = write_check(rt.alloc(), b"Microsoft", Form::Text, b"a.pdb", &mut out);
-    let wanted = Err(Stop::Open(Error::UnrecognizedFileFormat));
+    let given = check_of(rt.alloc(), b"Microsoft", Form::Text, b"a.pdb").err();
+    let wanted = Some(Stop::Open(Error::UnrecognizedFileFormat));
     is(&rt, "given", &given, &wanted);
-    is(&rt, "out.is_empty()", &out.is_empty(), &true);
-    Ok(())
-}
-
-#[test]
-fn a_writer_that_fails_has_a_beginning(rt: HostRuntime) -> Result<(), Fail> {
-    let file = damaged(rt.alloc())?;
-    for room in 0..FINDINGS.len() {
-        let mut out = Narrow::new(rt.alloc(), room);
-        let given = write_check(rt.alloc(), &file, Form::Text, b"a.pdb", &mut out);
-        is(&rt, "given", &given, &Err(Stop::Write));
-        is(&rt, "out.taken()", &out.taken(), &&FINDINGS[..room]);
-    }
     Ok(())
 }

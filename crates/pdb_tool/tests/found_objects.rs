@@ -5,11 +5,10 @@ use super::files::file_of;
 use super::lookups::{DATA, FILES, LABEL, LINES, PROCEDURE, STRINGS, file};
 use super::streams::{Sizes, module_of, symbols_of};
 use crate::asking::Asking;
-use crate::checks::write_check;
+use crate::checks::check_of;
 use crate::file_texts::FileText;
 use crate::find_texts::put_found_symbols;
 use crate::finder::Finder;
-use crate::fronts::{Front, put_sound_in};
 use crate::lookups::{write_find, write_sources, write_where};
 use crate::module_errors::{put_error_of, put_none_of, put_refusal_of, put_refused_of};
 use crate::operands::Operand;
@@ -17,10 +16,12 @@ use crate::options::Form;
 use crate::source_texts::put_sources;
 use crate::sources_asked::source_of;
 use crate::stop::Stop;
+use crate::subject::{Subject, put_sound_in};
 use crate::tests::fakes::is;
 use crate::where_texts::put_where;
 use pdb::{Error, FallibleIterator, ItemFinder, LineInfo, MemorySource, Stream, StringTable};
 use pdb_resolve::{CallNames, GlobalIds, PlaceAddresses};
+use pdb_text::CountedWriter;
 use std::alloc::AllocError;
 use std::test::Fail;
 
@@ -57,7 +58,7 @@ fn objects_of_symbols_by_name(rt: HostRuntime) -> Result<(), Fail> {
     };
     let info = module_of(&rt, &symbols, &sizes)?;
     let words = [Operand {
-        place: 2,
+        argument: 2,
         word: "*ab",
     }];
     let ids = ItemFinder::empty(rt.alloc());
@@ -130,13 +131,13 @@ fn objects_of_commands(rt: HostRuntime) -> Result<(), Fail> {
         MemorySource::new(bytes),
         Form::Json,
         &[1, 0, 2],
-        &mut out,
+        &mut CountedWriter::counting(&mut out),
     )?;
     let wanted: &[u8] =
         b"{\"module\":1,\"error\":null,\"text\":\"none\"}\n{\"module\":2,\"error\":null,\"text\":\"none\"}\n";
     is(&rt, "sources", &out.as_slice(), &wanted);
     let words = [Operand {
-        place: 2,
+        argument: 2,
         word: "*ab*",
     }];
     let mut out = Vec::new(rt.alloc());
@@ -145,7 +146,7 @@ fn objects_of_commands(rt: HostRuntime) -> Result<(), Fail> {
         MemorySource::new(bytes),
         Form::Json,
         &words,
-        &mut out,
+        &mut CountedWriter::counting(&mut out),
     )?;
     let wanted: &[u8] =
         b"{\"kind\":\"public\",\"at\":\"0002:00000040\",\"rva\":null,\"length\":null,\"name\":\"fab (_Z3fabv)\"}\n{\"kind\":\"data\",\"at\":\"0003:00000010\",\"rva\":null,\"length\":null,\"name\":\"gab\"}\n{\"kind\":\"procedure\",\"at\":\"0002:00000040\",\"rva\":null,\"length\":33,\"name\":\"fab\"}\n";
@@ -157,7 +158,7 @@ fn objects_of_commands(rt: HostRuntime) -> Result<(), Fail> {
         MemorySource::new(bytes),
         Form::Json,
         &asked,
-        &mut out,
+        &mut CountedWriter::counting(&mut out),
     )?;
     is(&rt, "where", &out.as_slice(), &b"".as_slice());
     is(
@@ -193,7 +194,7 @@ fn errors_outside_modules(rt: HostRuntime) -> Result<(), Fail> {
         MemorySource::new(&bytes),
         Form::Json,
         &[],
-        &mut out,
+        &mut CountedWriter::counting(&mut out),
     )?;
     let wanted: &[u8] =
         b"{\"module\":null,\"error\":1,\"text\":\"the data ends before a record does\"}\n";
@@ -204,7 +205,7 @@ fn errors_outside_modules(rt: HostRuntime) -> Result<(), Fail> {
         MemorySource::new(&bytes),
         Form::Json,
         &[7],
-        &mut out,
+        &mut CountedWriter::counting(&mut out),
     )?;
     let wanted: &[u8] =
         b"{\"module\":7,\"error\":1,\"text\":\"the data ends before a record does\"}\n";
@@ -238,17 +239,17 @@ fn objects_of_errors_of_modules(rt: HostRuntime) -> Result<(), AllocError> {
 #[test]
 fn objects_of_damage(rt: HostRuntime) -> Result<(), Fail> {
     let mut out = Vec::new(rt.alloc());
-    let front = Front::new(Form::Json, b"a\"\xff.pdb", b"module 1");
-    front.put_line(&mut out, b" symbol 0000000a", Error::StreamNotFound(9))?;
+    let subject = Subject::new(Form::Json, b"a\"\xff.pdb", b"module 1");
+    subject.put_line(&mut out, b" symbol 0000000a", Error::StreamNotFound(9))?;
     put_sound_in(&mut out, Form::Json, b"b\\\x07.pdb")?;
     put_sound_in(&mut out, Form::Text, b"c.pdb")?;
     let wanted =
         "{\"file\":\"a\\\"\u{fffd}.pdb\",\"where\":\"module 1 symbol 0000000a\",\"text\":\"there is no stream 9\"}\n{\"file\":\"b\\\\\\u0007.pdb\",\"where\":null,\"text\":null}\nc.pdb: ok\n";
     is(&rt, "out", &out.as_slice(), &wanted.as_bytes());
     let bytes = damaged(rt.alloc())?;
-    let mut out = Vec::new(rt.alloc());
-    let well = write_check(rt.alloc(), &bytes, Form::Json, b"a.pdb", &mut out)?;
-    is(&rt, "well", &well, &false);
+    let given = check_of(rt.alloc(), &bytes, Form::Json, b"a.pdb").expect(&rt, "a text");
+    is(&rt, "given.is_well", &given.is_well, &false);
+    let out = given.text;
     let first: &[u8] =
         b"{\"file\":\"a.pdb\",\"where\":\"information\",\"text\":\"the data ends before a record does\"}\n{\"file\":\"a.pdb\",\"where\":\"names\",\"text\":";
     is(&rt, "the first", &out.starts_with(first), &true);

@@ -141,7 +141,7 @@ fn texts_are(
     both(rt, &bytes, FileText::Code(&asked), wanted.0);
     both(rt, &bytes, FileText::Scopes(&[0]), wanted.1);
     let words = [Operand {
-        place: 2,
+        argument: 2,
         word: "*ab",
     }];
     both(rt, &bytes, FileText::Find(Form::Text, &words), wanted.2);

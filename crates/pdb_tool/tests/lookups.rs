@@ -18,14 +18,14 @@ use crate::stream_texts::write_streams;
 use crate::tests::fakes::is;
 use crate::where_texts::put_where;
 use crate::wildcards::matches;
-use crate::words::WordsError;
 use pdb::{Error, ItemFinder, MemorySource, Stream, StringTable, SymbolTable};
 use pdb_resolve::{CallNames, GlobalIds, PlaceAddresses};
+use pdb_text::{CountedWriter, WordsError};
 use std::alloc::{AllocError, Global};
 use std::process::Abort;
 use std::test::Fail;
 
-/// The names `a.c` at place 1 and `Src\bc.h` at place 5.
+/// The names `a.c` at offset 1 and `Src\bc.h` at offset 5.
 pub static STRINGS: &[u8] =
     b"\xfe\xef\xfe\xef\x01\x00\x00\x00\x0e\x00\x00\x00\x00a\x2ec\x00Src\x5cbc\x2eh\x00";
 
@@ -125,14 +125,17 @@ fn lines_that_an_argument_names(rt: HostRuntime) -> Result<(), Fail> {
 fn arguments_that_are_refused(rt: HostRuntime) -> Result<(), Fail> {
     let words = [
         Operand {
-            place: 3,
+            argument: 3,
             word: "a.c:7",
         },
         Operand {
-            place: 5,
+            argument: 5,
             word: ":7",
         },
-        Operand { place: 6, word: "" },
+        Operand {
+            argument: 6,
+            word: "",
+        },
     ];
     is(
         &rt,
@@ -141,7 +144,7 @@ fn arguments_that_are_refused(rt: HostRuntime) -> Result<(), Fail> {
         &true,
     );
     match all_sources(rt.alloc(), &words) {
-        Err(e) => is(&rt, "the place", &e, &WordsError::BadWord(5)),
+        Err(e) => is(&rt, "the argument", &e, &WordsError::BadWord(5)),
         Ok(_) => is(&rt, "the sources", &true, &false),
     }
     is(&rt, "all", &all_sources(rt.alloc(), &words[..1])?.len(), &1);
@@ -183,11 +186,11 @@ fn symbols_of_a_module_by_name(rt: HostRuntime) -> Result<(), Fail> {
     let info = module_of(&rt, &symbols, &sizes)?;
     let words = [
         Operand {
-            place: 2,
+            argument: 2,
             word: "?ab",
         },
         Operand {
-            place: 3,
+            argument: 3,
             word: "*ab",
         },
     ];
@@ -228,7 +231,7 @@ fn global_lines(rt: &(impl Abort + AllocGlobal), x86: bool, wanted: &[u8]) -> Re
     }
     let table = SymbolTable::new(Stream::new(&list).expect(rt, "a short stream"));
     let words = [Operand {
-        place: 2,
+        argument: 2,
         word: "*",
     }];
     let ids = ItemFinder::empty(rt.alloc());
@@ -339,16 +342,31 @@ static STREAM_OBJECTS: &[u8] =
 /// What the commands over that file print as JSON.
 fn objects_of_lists(rt: &(impl Abort + AllocGlobal), bytes: &[u8]) -> Result<(), Fail> {
     let mut out = Vec::new(rt.alloc());
-    write_modules(rt.alloc(), MemorySource::new(bytes), Form::Json, &mut out)?;
+    write_modules(
+        rt.alloc(),
+        MemorySource::new(bytes),
+        Form::Json,
+        &mut CountedWriter::counting(&mut out),
+    )?;
     let wanted: &[u8] =
         b"{\"module\":0,\"bytes\":263,\"name\":\"a\",\"object\":\"b\"}\n{\"module\":1,\"bytes\":526,\"name\":\"a\",\"object\":\"b\"}\n";
     is(rt, "modules", &out.as_slice(), &wanted);
     let mut out = Vec::new(rt.alloc());
-    write_sections(rt.alloc(), MemorySource::new(bytes), Form::Json, &mut out)?;
+    write_sections(
+        rt.alloc(),
+        MemorySource::new(bytes),
+        Form::Json,
+        &mut CountedWriter::counting(&mut out),
+    )?;
     let wanted: &[u8] = b"{\"module\":null,\"error\":null,\"text\":\"none\"}\n";
     is(rt, "sections", &out.as_slice(), &wanted);
     let mut out = Vec::new(rt.alloc());
-    write_streams(rt.alloc(), MemorySource::new(bytes), Form::Json, &mut out)?;
+    write_streams(
+        rt.alloc(),
+        MemorySource::new(bytes),
+        Form::Json,
+        &mut CountedWriter::counting(&mut out),
+    )?;
     is(rt, "streams", &out.starts_with(STREAM_OBJECTS), &true);
     let last: &[u8] = b"\n{\"stream\":8,\"size\":null,\"what\":[]}\n";
     is(rt, "last stream", &out.ends_with(last), &true);
@@ -364,15 +382,30 @@ fn commands_over_a_file(rt: HostRuntime) -> Result<(), Fail> {
     let file = file(rt.alloc())?;
     let bytes = file.as_slice();
     let mut out = Vec::new(rt.alloc());
-    write_modules(rt.alloc(), MemorySource::new(bytes), Form::Text, &mut out)?;
+    write_modules(
+        rt.alloc(),
+        MemorySource::new(bytes),
+        Form::Text,
+        &mut CountedWriter::counting(&mut out),
+    )?;
     let wanted: &[u8] = b"0 263 a [b]\n1 526 a [b]\n";
     is(&rt, "modules", &out.as_slice(), &wanted);
     let mut out = Vec::new(rt.alloc());
-    write_sections(rt.alloc(), MemorySource::new(bytes), Form::Text, &mut out)?;
+    write_sections(
+        rt.alloc(),
+        MemorySource::new(bytes),
+        Form::Text,
+        &mut CountedWriter::counting(&mut out),
+    )?;
     let wanted: &[u8] = b"none\n";
     is(&rt, "sections", &out.as_slice(), &wanted);
     let mut out = Vec::new(rt.alloc());
-    write_streams(rt.alloc(), MemorySource::new(bytes), Form::Text, &mut out)?;
+    write_streams(
+        rt.alloc(),
+        MemorySource::new(bytes),
+        Form::Text,
+        &mut CountedWriter::counting(&mut out),
+    )?;
     is(&rt, "streams", &out.as_slice(), &STREAMS);
     objects_of_lists(&rt, bytes)?;
     let mut out = Vec::new(rt.alloc());
@@ -381,12 +414,12 @@ fn commands_over_a_file(rt: HostRuntime) -> Result<(), Fail> {
         MemorySource::new(bytes),
         Form::Text,
         &[1, 0, 2],
-        &mut out,
+        &mut CountedWriter::counting(&mut out),
     )?;
     let wanted: &[u8] = b"module 1 a\nnone\nmodule 0 a\nnone\n";
     is(&rt, "sources", &out.as_slice(), &wanted);
     let words = [Operand {
-        place: 2,
+        argument: 2,
         word: "*ab*",
     }];
     let mut out = Vec::new(rt.alloc());
@@ -395,7 +428,7 @@ fn commands_over_a_file(rt: HostRuntime) -> Result<(), Fail> {
         MemorySource::new(bytes),
         Form::Text,
         &words,
-        &mut out,
+        &mut CountedWriter::counting(&mut out),
     )?;
     let wanted: &[u8] = b"public 0002:00000040 - - fab (_Z3fabv)\n\
         data 0003:00000010 - - gab\n\
@@ -408,7 +441,7 @@ fn commands_over_a_file(rt: HostRuntime) -> Result<(), Fail> {
         MemorySource::new(bytes),
         Form::Text,
         &asked,
-        &mut out,
+        &mut CountedWriter::counting(&mut out),
     )?;
     let wanted: &[u8] = b"";
     is(&rt, "where", &out.as_slice(), &wanted);
@@ -416,7 +449,7 @@ fn commands_over_a_file(rt: HostRuntime) -> Result<(), Fail> {
         rt.alloc(),
         MemorySource::new(&bytes[..40]),
         Form::Text,
-        &mut out,
+        &mut CountedWriter::counting(&mut out),
     );
     is(
         &rt,

@@ -2,6 +2,7 @@
 
 mod asked;
 mod checks;
+mod each_file;
 mod error_line;
 mod fakes;
 mod files;

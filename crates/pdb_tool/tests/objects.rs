@@ -10,6 +10,7 @@ use crate::resolve::resolve_lines;
 use crate::tests::fakes::{Narrow, is};
 use pdb::{MemorySource, PdbInternalSectionOffset, QualifiedName, RawString};
 use pdb_resolve::{Frame, FunctionName};
+use pdb_text::CountedWriter;
 use std::alloc::AllocError;
 use std::test::Fail;
 
@@ -91,7 +92,7 @@ fn objects_of_lines(rt: HostRuntime) -> Result<(), Fail> {
         MemorySource::new(&bytes),
         options,
         &mut input,
-        &mut out,
+        &mut CountedWriter::counting(&mut out),
     );
     is(&rt, "answered", &answered, &Ok(()));
     let wanted: &[u8] =

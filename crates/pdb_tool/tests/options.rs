@@ -5,7 +5,8 @@ use crate::operands::{Operand, all_numbers, all_questions, operands_in};
 use crate::options::{Detail, Form, Options, Wanted};
 use crate::question::Answer;
 use crate::tests::fakes::is;
-use crate::words::{Request, Topic, WordsError, request_in};
+use crate::words::{Request, Topic, request_in};
+use pdb_text::WordsError;
 use std::alloc::{AllocError, Global};
 use std::process::Abort;
 use std::test::Fail;
@@ -187,7 +188,7 @@ fn one_option_names_the_wanted_file(rt: HostRuntime) {
     for (line, wanted) in rows {
         let wanted = match wanted {
             Ok(wanted) => run_wanted(None, wanted),
-            Err(place) => Err(WordsError::BadWord(place)),
+            Err(argument) => Err(WordsError::BadWord(argument)),
         };
         is(&rt, line, &asked(rt.alloc(), line), &wanted);
     }
@@ -196,7 +197,7 @@ fn one_option_names_the_wanted_file(rt: HostRuntime) {
     is(&rt, line, &asked(rt.alloc(), line), &wanted);
 }
 
-/// Whether the operands of a line are these, of which each has the place beside it.
+/// Whether the operands of a line are these, of which each has the index beside it.
 fn operands_are(
     rt: &(impl Abort + AllocGlobal),
     line: &str,
@@ -205,8 +206,8 @@ fn operands_are(
     let words = words(rt.alloc(), line)?;
     let given = operands_in(rt.alloc(), &words, 1)?;
     is(rt, line, &given.len(), &wanted.len());
-    for (operand, (place, word)) in given.iter().zip(wanted) {
-        is(rt, line, &operand.place, place);
+    for (operand, (argument, word)) in given.iter().zip(wanted) {
+        is(rt, line, &operand.argument, argument);
         is(rt, line, &operand.word, word);
     }
     Ok(())
@@ -242,11 +243,11 @@ fn object_of(answer: Answer<'_>) -> Option<&[u8]> {
 /// Two operands.
 const OPERANDS: [Operand<'static>; 2] = [
     Operand {
-        place: 3,
+        argument: 3,
         word: "11",
     },
     Operand {
-        place: 5,
+        argument: 5,
         word: "2",
     },
 ];
@@ -287,7 +288,7 @@ fn operands_are_addresses_or_numbers(rt: HostRuntime) -> Result<(), Fail> {
     let numbers = all_numbers(alloc, &OPERANDS).ok().expect(&rt, "numbers");
     is(&rt, "numbers", &numbers.as_slice(), &[11, 2].as_slice());
     let bad = Operand {
-        place: 9,
+        argument: 9,
         word: "x",
     };
     is(

@@ -9,6 +9,7 @@ use crate::question::{Answer, Question};
 use crate::stop::Stop;
 use crate::tests::fakes::{Narrow, is};
 use pdb::{Error, MemorySource, PdbInternalSectionOffset};
+use pdb_text::CountedWriter;
 use std::alloc::{AllocError, Global};
 use std::process::Abort;
 use std::test::Fail;
@@ -46,11 +47,22 @@ pub fn small(alloc: Global) -> Result<Vec<u8>, AllocError> {
 pub fn both(rt: &(impl Abort + AllocGlobal), bytes: &Vec<u8>, text: FileText<'_>, wanted: &[u8]) {
     let alloc = rt.alloc();
     let mut whole = Narrow::new(alloc, 4096);
-    let written = write_text(alloc, MemorySource::new(bytes), text, &mut whole);
+    let written = write_text(
+        alloc,
+        MemorySource::new(bytes),
+        text,
+        &mut CountedWriter::counting(&mut whole),
+    );
     is(rt, "written", &written, &Ok(()));
     is(rt, "whole.taken()", &whole.taken(), &wanted);
     let mut parts = Narrow::new(alloc, 4096);
-    let written = write_in_parts(alloc, bytes, bytes.len() as u64, text, &mut parts);
+    let written = write_in_parts(
+        alloc,
+        bytes,
+        bytes.len() as u64,
+        text,
+        &mut CountedWriter::counting(&mut parts),
+    );
     is(rt, "written in parts", &written, &Ok(()));
     is(rt, "parts.taken()", &parts.taken(), &wanted);
 }
@@ -97,18 +109,42 @@ fn files_that_end_early_and_writers_that_fail(rt: HostRuntime) -> Result<(), Fai
     let size = bytes.len() as u64;
     let text = FileText::Scopes(&[]);
     let mut out = Narrow::new(alloc, 4096);
-    let shrank = write_in_parts(alloc, &bytes, size + 600, text, &mut out);
+    let shrank = write_in_parts(
+        alloc,
+        &bytes,
+        size + 600,
+        text,
+        &mut CountedWriter::counting(&mut out),
+    );
     is(&rt, "a file that shrank", &shrank, &Err(Stop::Read));
     let mut out = Narrow::new(alloc, 4096);
     let front = Vec::from_slice(alloc, bytes.get(..2000).unwrap_or(&[]))?;
-    let ended = write_in_parts(alloc, &front, size, text, &mut out);
+    let ended = write_in_parts(
+        alloc,
+        &front,
+        size,
+        text,
+        &mut CountedWriter::counting(&mut out),
+    );
     is(&rt, "a file that ends early", &ended, &Err(Stop::Read));
     assert!(rt; out.taken().is_empty());
-    let other = write_in_parts(alloc, &vec![in alloc; 7u8; 900]?, 900, text, &mut out);
+    let other = write_in_parts(
+        alloc,
+        &vec![in alloc; 7u8; 900]?,
+        900,
+        text,
+        &mut CountedWriter::counting(&mut out),
+    );
     let refused = Err(Stop::Open(Error::UnrecognizedFileFormat));
     is(&rt, "no container", &other, &refused);
     let mut out = Narrow::new(alloc, 9);
-    let full = write_in_parts(alloc, &bytes, size, text, &mut out);
+    let full = write_in_parts(
+        alloc,
+        &bytes,
+        size,
+        text,
+        &mut CountedWriter::counting(&mut out),
+    );
     is(&rt, "a full writer", &full, &Err(Stop::Write));
     let wanted: &[u8] = b"procedure";
     is(&rt, "out.taken()", &out.taken(), &wanted);

@@ -11,6 +11,7 @@ use crate::tests::fakes::{Narrow, is};
 use crate::wanted::{answer_wanted, key_in_word, wants_in, write_wanted, write_wanted_in_parts};
 use pdb::Error;
 use pdb_image::ImageError;
+use pdb_text::CountedWriter;
 use std::alloc::{AllocError, Global};
 use std::test::Fail;
 
@@ -248,7 +249,13 @@ fn nothing_is_told_of_another_file(rt: HostRuntime) -> Result<(), Fail> {
     for (age, wanted, other, told) in rows {
         let bytes = pdb(alloc, age)?;
         let mut whole = Narrow::new(alloc, 4096);
-        let given = write_wanted(alloc, &bytes, wanted, text, &mut whole);
+        let given = write_wanted(
+            alloc,
+            &bytes,
+            wanted,
+            text,
+            &mut CountedWriter::counting(&mut whole),
+        );
         is(
             &rt,
             "whole",
@@ -257,7 +264,14 @@ fn nothing_is_told_of_another_file(rt: HostRuntime) -> Result<(), Fail> {
         );
         is(&rt, "whole.taken()", &whole.taken(), &told);
         let mut parts = Narrow::new(alloc, 4096);
-        let given = write_wanted_in_parts(alloc, &bytes, 6144, wanted, text, &mut parts);
+        let given = write_wanted_in_parts(
+            alloc,
+            &bytes,
+            6144,
+            wanted,
+            text,
+            &mut CountedWriter::counting(&mut parts),
+        );
         is(
             &rt,
             "parts",
@@ -268,7 +282,14 @@ fn nothing_is_told_of_another_file(rt: HostRuntime) -> Result<(), Fail> {
         let mut lines = Narrow::new(alloc, 4096);
         let mut input = b"ffffffffffffffff".as_slice();
         let based = Options::default().with_base_of(1);
-        let given = answer_wanted(alloc, &bytes, wanted, based, &mut input, &mut lines);
+        let given = answer_wanted(
+            alloc,
+            &bytes,
+            wanted,
+            based,
+            &mut input,
+            &mut CountedWriter::counting(&mut lines),
+        );
         is(
             &rt,
             "lines",

@@ -5,8 +5,8 @@ use crate::mistakes::closest;
 use crate::operands::Operand;
 use crate::options::Wanted;
 use crate::tests::fakes::is;
-use crate::words::WordsError;
 use crate::work::{Work, work_in};
+use pdb_text::WordsError;
 use std::alloc::{AllocError, Global};
 use std::process::Abort;
 use std::test::Fail;
@@ -20,12 +20,12 @@ fn words(alloc: Global, line: &str) -> Result<Vec<String>, AllocError> {
     Ok(all)
 }
 
-/// An operand, by its place and its first byte.
+/// An operand, by its index and its first byte.
 fn seen(operand: Operand<'_>) -> (usize, Option<u8>) {
-    (operand.place, operand.word.as_bytes().first().copied())
+    (operand.argument, operand.word.as_bytes().first().copied())
 }
 
-/// The kind of work, the places of the file and of the first operand behind it, and how many operands or numbers there
+/// The kind of work, the indices of the file and of the first operand behind it, and how many operands or numbers there
 /// are behind the file.
 type Seen = (&'static str, usize, usize, usize);
 
@@ -34,7 +34,7 @@ fn operands_seen(name: &'static str, file: Operand<'_>, rest: &[Operand<'_>]) ->
         Some(operand) => seen(*operand).0,
         None => 0,
     };
-    (name, file.place, first, rest.len())
+    (name, file.argument, first, rest.len())
 }
 
 fn numbers_seen(name: &'static str, file: Operand<'_>, numbers: &[u32]) -> Seen {
@@ -42,7 +42,7 @@ fn numbers_seen(name: &'static str, file: Operand<'_>, numbers: &[u32]) -> Seen 
         Some(number) => *number as usize,
         None => 0,
     };
-    (name, file.place, first, numbers.len())
+    (name, file.argument, first, numbers.len())
 }
 
 fn work_seen(work: Work<'_>) -> Seen {
@@ -57,14 +57,14 @@ fn work_seen(work: Work<'_>) -> Seen {
         Work::Lines(file, numbers) => numbers_seen("lines", file, &numbers),
         Work::Scopes(file, numbers) => numbers_seen("scopes", file, &numbers),
         Work::Symbols(file, numbers) => numbers_seen("symbols", file, &numbers),
-        Work::AllSymbols(file) => ("all symbols", file.place, 0, 0),
+        Work::AllSymbols(file) => ("all symbols", file.argument, 0, 0),
         Work::Sources(_, file, numbers) => numbers_seen("sources", file, &numbers),
         Work::Types(file, indices) => numbers_seen("types", file, &indices),
         Work::Find(_, file, names) => operands_seen("find", file, &names),
-        Work::Where(_, file, asked) => ("where", file.place, 0, asked.len()),
-        Work::Modules(_, file) => ("modules", file.place, 0, 0),
-        Work::Sections(_, file) => ("sections", file.place, 0, 0),
-        Work::Streams(_, file) => ("streams", file.place, 0, 0),
+        Work::Where(_, file, asked) => ("where", file.argument, 0, asked.len()),
+        Work::Modules(_, file) => ("modules", file.argument, 0, 0),
+        Work::Sections(_, file) => ("sections", file.argument, 0, 0),
+        Work::Streams(_, file) => ("streams", file.argument, 0, 0),
     }
 }
 
@@ -126,12 +126,12 @@ fn the_first_wrong_argument_is_named(rt: HostRuntime) {
         ("help find x", 2),
         ("version x", 1),
     ];
-    for (line, place) in rows {
+    for (line, argument) in rows {
         is(
             &rt,
             line,
             &asked(rt.alloc(), line),
-            &Err(WordsError::BadWord(place)),
+            &Err(WordsError::BadWord(argument)),
         );
     }
 }

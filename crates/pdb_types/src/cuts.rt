@@ -7,7 +7,7 @@ ghost use Rattle.pdb_types.specs.Cuts.{IsCut};
 use pdb_text::put_decimal;
 use std::alloc::AllocError;
 
-// As much of a text as there is room for, behind what is there.
+// As much of a text as there is capacity for, behind what is there.
 #[tactic(auto, using(crate::proofs::CutLemmas::put_all, crate::proofs::CutLemmas::put_some))]
 pub(crate) fn put(out: &mut Vec<u8>, limit: usize, text: &[u8]) -> Result<(), AllocError>
     requires { length out.old.items ≤ limit }
@@ -21,7 +21,7 @@ pub(crate) fn put(out: &mut Vec<u8>, limit: usize, text: &[u8]) -> Result<(), Al
     }
 }
 
-// As many decimal digits of a number as there is room for.
+// As many decimal digits of a number as there is capacity for.
 #[tactic(auto, using(crate::proofs::CutLemmas::truncated))]
 pub(crate) fn put_number(out: &mut Vec<u8>, limit: usize, number: u64) -> Result<(), AllocError>
     requires { length out.old.items ≤ limit }

@@ -67,8 +67,8 @@ fn put_declared(
     put_back(types, definitions, out, limit, index, DEPTH)
 }
 
-/// Writes the declaration of a name with a type in C++, as `int (*name)(char)`, behind what the buffer holds. It has at most
-/// 65,536 bytes, the name among them; what is cut off shows as `<...>`, as in `put_name`.
+/// Writes the declaration of a name with a type in C++, as `int (*name)(char)`, behind what the buffer holds. It has at
+/// most 65,536 bytes, the name among them; what is cut off shows as `<...>`, as in `put_name`.
 #[tactic(auto, unfolding(crate::specs::Declarations::shown_declaration), using(crate::proofs::CutLemmas::cut_short, crate::proofs::CutLemmas::cut_long))]
 pub fn put_declaration(
     types: &ItemFinder<'_>,

@@ -174,7 +174,7 @@ impl<'t> Model for TypeDefinitions<'t> {
 
 impl<'t> TypeDefinitions<'t> {
     /// The definitions among the types that an iterator has left, up to its fault. They are sorted once, for which
-    /// memory may be refused.
+    /// memory may run out.
     pub fn new(alloc: Global, items: ItemIter<'t>) -> Result<Self, AllocError>
         ensures { IfOk result (λ t. first_definition t ≡ first_definition (definitions_among (items_left items.entry).items)) }
     {

@@ -90,8 +90,8 @@ fn number_as(index: u32, number: i128) -> EnumeratorValue
 }
 
 /// The value of an enumerator, as its type has it: `underlying` is `Enumeration::underlying`, and `value` that of
-/// `Member::Enumerate`. Compilers store a number in the shortest form, whatever its sign. With index 0, which stands for a
-/// list that no enumeration has, it is the number as it is stored.
+/// `Member::Enumerate`. Compilers store a number in the shortest form, whatever its sign. With index 0, which stands
+/// for a list that no enumeration has, it is the number as it is stored.
 #[tactic(auto, unfolding(crate::specs::Enumerators::enumerator_number))]
 pub fn enumerator_value(
     types: &ItemFinder<'_>,
@@ -103,8 +103,8 @@ pub fn enumerator_value(
     number_as(unmodified(types, underlying.0, DEPTH), value_of(value))
 }
 
-/// Where the bits of a member of this type begin, counted from the lowest bit of what is stored; none where the type is no
-/// bit field.
+/// Where the bits of a member of this type begin, counted from the lowest bit of what is stored; none where the type is
+/// no bit field.
 pub fn bit_position(types: &ItemFinder<'_>, field_type: TypeIndex) -> Option<u8>
     ensures { result ≡ bit_position_in (item_with types.now field_type.0) }
 {

@@ -12,14 +12,14 @@ ghost use Rattle.pdb_types.specs.MemberRows.{FoundEntry, entry_at};
 ghost use Rattle.pdb_types.specs.MemberPlaces.{IsEntry};
 ghost use Rattle.pdb_types.specs.MemberLists.{entries};
 
-/// What is read of a type record is what its bytes say by the places of its fields, and nothing exactly where its kind
+/// What is read of a type record is what its bytes say by the offsets of its fields, and nothing exactly where its kind
 /// has no layout.
 pub fn types_are_what_the_bytes_say()
     ensures says { (b : List ℕ) (d : TypeSays) → (type_at b ≡ Ok (Some d)) ↔ IsType b d }
     ensures none { (b : List ℕ) → (type_at b ≡ Ok None) ↔ (type_form_of (kind_at b) ≡ None) }
 {}
 
-/// What is read of an entry of a list of members is what its bytes say by the places of its parts.
+/// What is read of an entry of a list of members is what its bytes say by the offsets of its parts.
 pub fn entries_are_what_the_bytes_say()
     ensures { (b : List ℕ) (p : ℕ) (x : FoundEntry) → (entry_at b p ≡ Ok x) ↔ IsEntry b p x }
 {}

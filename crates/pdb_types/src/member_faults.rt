@@ -84,7 +84,7 @@ fn ends_of(
 }
 
 impl<'x, 't> MemberFaults<'x, 't> {
-    /// Those of a file's types, which are passed twice: as they are found, and one after another. Memory may be refused
+    /// Those of a file's types, which are passed twice: as they are found, and one after another. Memory may run out
     /// for the table of the lists' ends.
     pub fn of_types(
         alloc: Global,
@@ -117,8 +117,8 @@ impl<'x, 't> MemberFaults<'x, 't> {
         list_end(self.types, list)
     }
 
-    /// The fault of the members of the list of this index, as `Tag::fields` has it: the error of `MemberIter` over it, if
-    /// it has one.
+    /// The fault of the members of the list of this index, as `Tag::fields` has it: the error of `MemberIter` over it,
+    /// if it has one.
     pub fn fault(&self, list: TypeIndex) -> Option<Error>
         ensures { result ≡ (members_of self.now list.0).fault }
     {

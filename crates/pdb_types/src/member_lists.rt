@@ -39,8 +39,8 @@ pub(crate) fn list_bytes<'t>(types: &ItemFinder<'t>, index: u32) -> Option<&'t [
 ///
 /// # Errors
 ///
-/// `UnexpectedEof` where a list, a field or padding isn't there; `UnexpectedNumericPrefix` where a number has a prefix that
-/// isn't listed; `UnimplementedFeature` where a member has another kind. Then the list has ended.
+/// `UnexpectedEof` where a list, a field or padding isn't there; `UnexpectedNumericPrefix` where a number has a prefix
+/// that isn't listed; `UnimplementedFeature` where a member has another kind. Then the list has ended.
 #[derive(Drop)]
 pub struct MemberIter<'x, 't> {
     types: &'x ItemFinder<'t>,

@@ -321,7 +321,7 @@ fn parse_fields<'t>(buffer: &mut ParseBuffer<'t>, kind: u16) -> Result<Entry<'t>
     }
 }
 
-// How many bytes of padding stand at a place.
+// How many bytes of padding stand at an offset.
 fn padding_at(bytes: &[u8], at: usize) -> usize
     ensures { result ≡ padding_at bytes.now at }
 {
@@ -332,7 +332,7 @@ fn padding_at(bytes: &[u8], at: usize) -> usize
     }
 }
 
-// The entry at a place, and the padding behind it.
+// The entry at an offset, and the padding behind it.
 #[tactic(auto, unfolding(crate::specs::MemberRows::entry_at))]
 pub(crate) fn read_entry<'t>(bytes: &'t [u8], at: usize) -> Result<Found<'t>>
     requires { at ≤ length bytes.now }

@@ -17,8 +17,8 @@ impl FieldAttributes {
         (self.0 % 4) as u8
     }
 
-    /// What a member function is: 1 is virtual, 2 static, 3 a friend, 4 virtual and in no base class, 5 pure, 6 pure and
-    /// in no base class. It is 0 of every other function.
+    /// What a member function is: 1 is virtual, 2 static, 3 a friend, 4 virtual and in no base class, 5 pure, 6 pure
+    /// and in no base class. It is 0 of every other function.
     pub fn method_properties(self) -> u8
         ensures { result ≡ method_number self.0 }
     {
@@ -46,8 +46,8 @@ impl FieldAttributes {
         self.method_properties() == 5
     }
 
-    /// Whether a member function is virtual, pure or not, and stands in no base class. Only then it has an offset in the
-    /// table of virtual functions.
+    /// Whether a member function is virtual, pure or not, and stands in no base class. Only then it has an offset in
+    /// the table of virtual functions.
     pub fn is_intro_virtual(self) -> bool
         ensures { result ≡ is_introduced self.0 }
     {

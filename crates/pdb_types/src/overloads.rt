@@ -43,7 +43,7 @@ fn read_table_offset(buffer: &mut ParseBuffer<'_>, introduced: bool) -> Result<O
     }
 }
 
-// The function at the buffer's place.
+// The function at the buffer's offset.
 #[tactic(auto, unfolding(crate::specs::Overloads::overload_at))]
 fn read_overload(buffer: &mut ParseBuffer<'_>) -> Result<MethodListEntry>
     ensures { Reads (λ x. x) buffer.old buffer.new result (overload_at buffer.old.bytes buffer.old.place) (overload_length buffer.old.place) }
@@ -64,8 +64,8 @@ impl<'t> OverloadIter<'t> {
     ghost use Rattle.pdb_types.specs.Overloads.{overloads_of};
     ghost use Rattle.pdb_types.specs.OverloadViews.{overloads_left, overloads_steps};
 
-    /// The functions of the list of this index, as `Member::Method` has it. `UnexpectedEof` where there is no such item,
-    /// or it is no list of functions.
+    /// The functions of the list of this index, as `Member::Method` has it. `UnexpectedEof` where there is no such
+    /// item, or it is no list of functions.
     #[tactic(auto, unfolding(crate::specs::Overloads::overloads_of))]
     pub fn new(types: &ItemFinder<'t>, list: TypeIndex) -> Result<Self>
         ensures left { Answers overloads_left result (overloads_of types.now list.0) }

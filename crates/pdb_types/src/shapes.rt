@@ -1,4 +1,5 @@
-//! What the names of types depend on beside their texts: whether a pointer needs parentheses, and where qualifiers stand.
+//! What the names of types depend on beside their texts: whether a pointer needs parentheses, and where qualifiers
+//! stand.
 
 ghost use Rattle.std.specs.Prelude.{◌≡◌, ◌++◌, ◌≤◌, ℕ, List, Option, length, OnOk};
 ghost use Rattle.std.specs.Option.{option_map};

@@ -31,7 +31,7 @@ pub struct Tag<'t> {
 }
 
 impl<'t> Tag<'t> {
-    // The tag by the bytes before the name, among which the list of members stands at a place.
+    // The tag by the bytes before the name, among which the list of members stands at an offset.
     fn of(before: &[u8], place: usize, name: RawString<'t>, behind: &'t [u8]) -> Self
         requires property { 4 ≤ length before.now }
         requires fields { place + 4 ≤ length before.now }

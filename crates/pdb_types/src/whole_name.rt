@@ -16,9 +16,9 @@ const DEPTH: u32 = 64;
 /// How many bytes a name has at most, without the mark.
 const LENGTH: usize = 65_536;
 
-/// Writes the name of a type in C++, as `int (*[2])(char)`, behind what the buffer holds. A name has at most 65,536 bytes,
-/// and types that refer to one another are followed 64 deep; what is cut off there shows as `<...>`. What has no name
-/// shows as `??`.
+/// Writes the name of a type in C++, as `int (*[2])(char)`, behind what the buffer holds. A name has at most 65,536
+/// bytes, and types that refer to one another are followed 64 deep; what is cut off there shows as `<...>`. What has no
+/// name shows as `??`.
 #[tactic(auto, unfolding(crate::specs::TypeTexts::shown_name), using(crate::proofs::CutLemmas::cut_short, crate::proofs::CutLemmas::cut_long))]
 pub fn put_name(
     types: &ItemFinder<'_>,

@@ -1,4 +1,5 @@
-//! Calls on a file that are refused memory once and asked again: every call has to give its usual answer in the end.
+//! Calls on a file that fail with out of memory once and are made again: every call has to return its usual result in
+//! the end.
 
 use super::{is, put};
 use pdb::{
@@ -63,7 +64,7 @@ fn scattered(alloc: Global) -> Result<Vec<u8>, Error> {
     Ok(file)
 }
 
-/// The scattered file, whichever growth is refused as it is made.
+/// The scattered file, whichever growth fails as it is made.
 fn made(alloc: Global) -> Result<Vec<u8>, Error> {
     match scattered(alloc) {
         Err(Error::OutOfMemory) => scattered(alloc),

@@ -1,4 +1,4 @@
-//! Calls on parts of a file that are refused memory once and asked again, as those of `files` are.
+//! Calls on parts of a file that fail with out of memory once and are made again, as those of `files` are.
 
 use super::{is, put};
 use pdb::{
@@ -69,7 +69,7 @@ fn answer(alloc: Global, info: &ModuleInfo<'_>, module: &Module<'_>, call: Call)
     }
 }
 
-/// The call's answer, asked again where memory was refused.
+/// The call's result, called again where memory ran out.
 fn gives(
     rt: &impl Abort,
     alloc: Global,
@@ -126,7 +126,8 @@ fn registers(data: &SymbolData<'_>) -> usize {
     }
 }
 
-/// A record of several registers, and a copy of what it says, where the call that is refused memory is asked again.
+/// A record of several registers, and a copy of what it says, where the call that fails with out of memory is made
+/// again.
 fn registers_are_read(rt: &impl Abort, alloc: Global, bytes: &[u8]) -> Result<(), Error> {
     let symbol = Symbol::new(SymbolIndex(0), bytes).ok_or(Error::UnexpectedEof)?;
     let data = match symbol.parse(alloc) {
@@ -194,14 +195,14 @@ fn refused_copies_of_tables_are_made_when_asked_again(rt: HostRuntime) -> Result
     Ok(())
 }
 
-/// So much memory is never there. `tests/memory/check` takes it for a mark: until it is asked for again, no memory is to
-/// be asked for.
+/// So much memory is never there. `tests/memory/check` takes it for a mark: until it is asked for again, no memory is
+/// to be asked for.
 pub fn mark(alloc: Global) -> bool {
     let room: std::result::Result<Vec<u8>, _> = Vec::with_capacity(alloc, 0x4000_0000_0000);
     room.is_ok()
 }
 
-/// What calls that take no memory answer.
+/// What calls that take no memory return.
 fn without_memory(
     program: &LineProgram<'_>,
     imports: &CrossModuleImports<'_>,

@@ -71,8 +71,8 @@ fn sample(alloc: Global) -> Result<Vec<u8>> {
     file_of(alloc, &all)
 }
 
-/// A resolver of a file, with rooms for its streams. It stands in a box, since the borrow checker doesn't cover the end
-/// of a variable that is one.
+/// A resolver of a file, with buffers for its streams. It stands in a box, since the borrow checker doesn't cover the
+/// end of a variable that is one.
 fn resolver<'a, 's>(
     alloc: Global,
     file: &'s [u8],
@@ -176,7 +176,7 @@ fn code_takes_none(rt: &impl Abort, alloc: Global) -> Result<()> {
     Ok(())
 }
 
-/// The module at a place is found without memory, once its table was made at the second question.
+/// The module at a place is found without memory, once its table was made at the second call.
 fn modules_take_none(rt: &impl Abort, alloc: Global) -> Result<()> {
     let stream = Stream::new(&streams::DBI).ok_or(Error::UnexpectedEof)?;
     let information = DebugInformation::parse(stream)?;

@@ -15,10 +15,10 @@ returns-in-Err-clause-wrote g c = λ steady.
     let new = c.debug_information.new.self in
     let on = c.in-Err.ensures.continues in
     let e = c.in-Err.e in
-    let k = c.in-Some-module_place.field-0 in
+    let k = c.in-Some-module_index.field-0 in
     let first = c.in-Some.first.now in
     let said : e ≢ OutOfMemory → command_text new.file first ≡ error_text e = λ n.
-    rw on.file (c.in-Some-module_place.ensures.text old.file
+    rw on.file (c.in-Some-module_index.ensures.text old.file
     ∙ text_refused old.file k (of_module_text first) e (ap (λ r. r >>= modules_in) (refused_steadily old new e _ steady c.in-Err.ensures.answer n))) in
     let wrote = rw on.file at (c.write_refused.ensures.wrote (on.steady steady).0 first said) in
     rw c.in-Some.ensures.cases.0 wrote
@@ -38,10 +38,10 @@ returns-clause-wrote g c = λ steady.
     let new = c.debug_information.new.self in
     let on = c.in-Ok.ensures.continues in
     let e = c.in-Err-modules.e in
-    let k = c.in-Some-module_place.field-0 in
+    let k = c.in-Some-module_index.field-0 in
     let first = c.in-Some.first.now in
     let said : e ≢ OutOfMemory → command_text new.file first ≡ error_text e = λ n.
-    rw on.file (c.in-Some-module_place.ensures.text old.file
+    rw on.file (c.in-Some-module_index.ensures.text old.file
     ∙ text_refused old.file k (of_module_text first) e (ap (λ r. r >>= modules_in) c.in-Ok.ensures.answer ∙ c.in-Err-modules.ensures.left.0)) in
     let wrote = rw on.file at (c.write_refused-in-Err-modules.ensures.wrote (on.steady steady).0 first said) in
     rw c.in-Some.ensures.cases.0 wrote

@@ -8,10 +8,10 @@ use Rattle.pdb_tool.proofs.commands.write_lines.Goals as goal
 
 pub returns-clause-front : goal.returns-clause-front
 returns-clause-front g c =
-    let front : OnErr c.write_modules.result (WroteFront (g.W.Write.contents c.args.out.now) (g.W.Write.contents c.write_modules.new.out) (modules_text Text (λ (k : ℕ). lines_text (option_copied c.as_ref.result)) c.strings_of.new.pdb.file c.args.places.now)) = c.write_modules.ensures.front in
+    let front : OnErr c.write_modules.result (WroteFront (g.W.Write.contents c.args.out.now) (g.W.Write.contents c.write_modules.new.out) (modules_text Text (λ (k : ℕ). lines_text (option_copied c.as_ref.result)) c.strings_of.new.pdb.file c.args.indices.now)) = c.write_modules.ensures.front in
     rw (c.as_ref.ensures.value, c.in_ok-strings.ensures.is, c.strings_of.ensures.continues.file, c.in_ok-pdb.ensures.file) at front
 
 pub returns-clause-ok : goal.returns-clause-ok
 returns-clause-ok g c =
-    let ok : OnOk c.write_modules.result (Appends (g.W.Write.contents c.args.out.now) (g.W.Write.contents c.write_modules.new.out) (modules_text Text (λ (k : ℕ). lines_text (option_copied c.as_ref.result)) c.strings_of.new.pdb.file c.args.places.now)) = c.write_modules.ensures.ok in
+    let ok : OnOk c.write_modules.result (Appends (g.W.Write.contents c.args.out.now) (g.W.Write.contents c.write_modules.new.out) (modules_text Text (λ (k : ℕ). lines_text (option_copied c.as_ref.result)) c.strings_of.new.pdb.file c.args.indices.now)) = c.write_modules.ensures.ok in
     rw (c.as_ref.ensures.value, c.in_ok-strings.ensures.is, c.strings_of.ensures.continues.file, c.in_ok-pdb.ensures.file) at ok

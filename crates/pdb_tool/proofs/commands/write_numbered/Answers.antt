@@ -4,29 +4,41 @@ use Rattle.std.specs.Io.KnownBytes.{Appends}
 use Rattle.pdb.specs.ModuleStream.{ModuleBytes}
 use Rattle.pdb_text.specs.Written.{WroteFront}
 use Rattle.pdb_tool.specs.LineNames.{names_from}
-use Rattle.pdb_tool.specs.ModuleTexts.{in_file, places_text}
+use Rattle.pdb_tool.specs.ModuleTexts.{in_file, indexed_text}
 use Rattle.pdb_tool.specs.SymbolTexts.{symbols_text}
-use Rattle.pdb_tool.proofs.PlacesTexts.{no_symbols, some_symbols}
+use Rattle.pdb_tool.proofs.IndexedTexts.{no_symbols, some_symbols}
 use Rattle.pdb_tool.specs.declared.options.Form.TheVariants.{Text}
+use Rattle.pdb.proofs.Passing.{continues_then, may_after}
+use Rattle.pdb_tool.proofs.Stops.{if_stopped, writing_weaken}
 use Rattle.pdb_tool.proofs.commands.write_numbered.Goals as goal
 
 pub returns-in-Some-clause-ok : goal.returns-in-Some-clause-ok
 returns-in-Some-clause-ok g c =
     let t = c.in_ok-tables.tables in
     let p = c.machine_of_file.new.pdb.file in
-    let named = subst (λ (f : List ℕ → Option ℕ). OnOk c.write_places.result (Appends (g.W.Write.contents c.args.out.now) (g.W.Write.contents c.write_places.new.out) (places_text Text (in_file (λ (ids : ℕ → Option ℕ) (k : ℕ) (m : ModuleBytes). symbols_text (names_from t.ids t.types f ids) t.header m) p) p c.args.places.now))) c.in_ok-tables.ensures.definitions c.write_places.ensures.ok in
+    let named = subst (λ (f : List ℕ → Option ℕ). OnOk c.write_indexed.result (Appends (g.W.Write.contents c.args.out.now) (g.W.Write.contents c.write_indexed.new.out) (indexed_text Text (in_file (λ (ids : ℕ → Option ℕ) (k : ℕ) (m : ModuleBytes). symbols_text (names_from t.ids t.types f ids) t.header m) p) p c.args.indices.now))) c.in_ok-tables.ensures.definitions c.write_indexed.ensures.ok in
     let written = rw (c.in_ok-tables.ensures.ids, c.in_ok-tables.ensures.types, c.in_ok-tables.ensures.header, c.as_ref.ensures.value, c.as_ref-2.ensures.value, c.in_ok-ids.ensures.is, c.in_ok-types.ensures.is, c.in_ok-header.ensures.is, c.machine_of_file.ensures.continues.file, c.types_stream.ensures.continues.file, c.ids_stream.ensures.continues.file) at named in
-    rw (some_symbols c.args.pdb.now.file c.args.places.now _ _ c.in-Some.ensures.cases.0) written
+    rw (some_symbols c.args.pdb.now.file c.args.indices.now _ _ c.in-Some.ensures.cases.0) written
 
 pub returns-in-Some-clause-front : goal.returns-in-Some-clause-front
 returns-in-Some-clause-front g c =
     let t = c.in_ok-tables.tables in
     let p = c.machine_of_file.new.pdb.file in
-    let named = subst (λ (f : List ℕ → Option ℕ). OnErr c.write_places.result (WroteFront (g.W.Write.contents c.args.out.now) (g.W.Write.contents c.write_places.new.out) (places_text Text (in_file (λ (ids : ℕ → Option ℕ) (k : ℕ) (m : ModuleBytes). symbols_text (names_from t.ids t.types f ids) t.header m) p) p c.args.places.now))) c.in_ok-tables.ensures.definitions c.write_places.ensures.front in
+    let named = subst (λ (f : List ℕ → Option ℕ). OnErr c.write_indexed.result (WroteFront (g.W.Write.contents c.args.out.now) (g.W.Write.contents c.write_indexed.new.out) (indexed_text Text (in_file (λ (ids : ℕ → Option ℕ) (k : ℕ) (m : ModuleBytes). symbols_text (names_from t.ids t.types f ids) t.header m) p) p c.args.indices.now))) c.in_ok-tables.ensures.definitions c.write_indexed.ensures.front in
     let written = rw (c.in_ok-tables.ensures.ids, c.in_ok-tables.ensures.types, c.in_ok-tables.ensures.header, c.as_ref.ensures.value, c.as_ref-2.ensures.value, c.in_ok-ids.ensures.is, c.in_ok-types.ensures.is, c.in_ok-header.ensures.is, c.machine_of_file.ensures.continues.file, c.types_stream.ensures.continues.file, c.ids_stream.ensures.continues.file) at named in
-    rw (some_symbols c.args.pdb.now.file c.args.places.now _ _ c.in-Some.ensures.cases.0) written
+    rw (some_symbols c.args.pdb.now.file c.args.indices.now _ _ c.in-Some.ensures.cases.0) written
 
 pub returns-clause-front : goal.returns-clause-front
 returns-clause-front g c =
     let written = rw (c.in_ok-tables.ensures.definitions, c.in_ok-tables.ensures.ids, c.in_ok-tables.ensures.types, c.in_ok-tables.ensures.header, c.as_ref.ensures.value, c.as_ref-2.ensures.value, c.in_ok-ids.ensures.is, c.in_ok-types.ensures.is, c.in_ok-header.ensures.is, c.machine_of_file.ensures.continues.file, c.types_stream.ensures.continues.file, c.ids_stream.ensures.continues.file) at c.write_globals.ensures.front in
-    rw (no_symbols c.args.pdb.now.file c.args.places.now c.in-None.ensures.cases) written
+    rw (no_symbols c.args.pdb.now.file c.args.indices.now c.in-None.ensures.cases) written
+
+pub returns-in-Some-clause-stops : goal.returns-in-Some-clause-stops
+returns-in-Some-clause-stops g c =
+    let on = continues_then _ _ _ (continues_then _ _ _ c.ids_stream.ensures.continues c.types_stream.ensures.continues) c.machine_of_file.ensures.continues in
+    if_stopped _ _ c.write_indexed.result (writing_weaken _ _ (may_after _ _ _ on)) c.write_indexed.ensures.stops
+
+pub returns-clause-stops : goal.returns-clause-stops
+returns-clause-stops g c =
+    let on = continues_then _ _ _ (continues_then _ _ _ c.ids_stream.ensures.continues c.types_stream.ensures.continues) c.machine_of_file.ensures.continues in
+    if_stopped _ _ c.write_globals.result (writing_weaken _ _ (may_after _ _ _ on)) c.write_globals.ensures.stops

@@ -7,18 +7,25 @@ use Rattle.pdb_tool.specs.LineNames.{names_from}
 use Rattle.pdb_tool.specs.ModuleTexts.{in_file, modules_text}
 use Rattle.pdb_tool.specs.ScopeTexts.{scopes_text}
 use Rattle.pdb_tool.specs.declared.options.Form.TheVariants.{Text}
+use Rattle.pdb.proofs.Passing.{continues_then}
+use Rattle.pdb_tool.proofs.Stops.{if_stopped, unsteady_source, writing_command}
 use Rattle.pdb_tool.proofs.commands.write_scopes.Goals as goal
 
 pub returns-clause-front : goal.returns-clause-front
 returns-clause-front g c =
     let t = c.in_ok-tables.tables in
     let p = c.machine_of_file.new.pdb.file in
-    let named = subst (λ (f : List ℕ → Option ℕ). OnErr c.write_modules.result (WroteFront (g.W.Write.contents c.args.out.now) (g.W.Write.contents c.write_modules.new.out) (modules_text Text (in_file (λ (ids : ℕ → Option ℕ) (k : ℕ) (m : ModuleBytes). scopes_text (names_from t.ids t.types f ids) t.header m) p) p c.args.places.now))) c.in_ok-tables.ensures.definitions c.write_modules.ensures.front in
+    let named = subst (λ (f : List ℕ → Option ℕ). OnErr c.write_modules.result (WroteFront (g.W.Write.contents c.args.out.now) (g.W.Write.contents c.write_modules.new.out) (modules_text Text (in_file (λ (ids : ℕ → Option ℕ) (k : ℕ) (m : ModuleBytes). scopes_text (names_from t.ids t.types f ids) t.header m) p) p c.args.indices.now))) c.in_ok-tables.ensures.definitions c.write_modules.ensures.front in
     rw (c.in_ok-tables.ensures.ids, c.in_ok-tables.ensures.types, c.in_ok-tables.ensures.header, c.as_ref.ensures.value, c.as_ref-2.ensures.value, c.in_ok-ids.ensures.is, c.in_ok-types.ensures.is, c.in_ok-header.ensures.is, c.machine_of_file.ensures.continues.file, c.types_stream.ensures.continues.file, c.ids_stream.ensures.continues.file, c.in_ok-pdb.ensures.file) at named
 
 pub returns-clause-ok : goal.returns-clause-ok
 returns-clause-ok g c =
     let t = c.in_ok-tables.tables in
     let p = c.machine_of_file.new.pdb.file in
-    let named = subst (λ (f : List ℕ → Option ℕ). OnOk c.write_modules.result (Appends (g.W.Write.contents c.args.out.now) (g.W.Write.contents c.write_modules.new.out) (modules_text Text (in_file (λ (ids : ℕ → Option ℕ) (k : ℕ) (m : ModuleBytes). scopes_text (names_from t.ids t.types f ids) t.header m) p) p c.args.places.now))) c.in_ok-tables.ensures.definitions c.write_modules.ensures.ok in
+    let named = subst (λ (f : List ℕ → Option ℕ). OnOk c.write_modules.result (Appends (g.W.Write.contents c.args.out.now) (g.W.Write.contents c.write_modules.new.out) (modules_text Text (in_file (λ (ids : ℕ → Option ℕ) (k : ℕ) (m : ModuleBytes). scopes_text (names_from t.ids t.types f ids) t.header m) p) p c.args.indices.now))) c.in_ok-tables.ensures.definitions c.write_modules.ensures.ok in
     rw (c.in_ok-tables.ensures.ids, c.in_ok-tables.ensures.types, c.in_ok-tables.ensures.header, c.as_ref.ensures.value, c.as_ref-2.ensures.value, c.in_ok-ids.ensures.is, c.in_ok-types.ensures.is, c.in_ok-header.ensures.is, c.machine_of_file.ensures.continues.file, c.types_stream.ensures.continues.file, c.ids_stream.ensures.continues.file, c.in_ok-pdb.ensures.file) at named
+
+pub returns-clause-stops : goal.returns-clause-stops
+returns-clause-stops g c =
+    let on = continues_then _ _ _ (continues_then _ _ _ (continues_then _ _ _ c.in_ok-pdb.ensures.continues c.ids_stream.ensures.continues) c.types_stream.ensures.continues) c.machine_of_file.ensures.continues in
+    if_stopped _ _ c.write_modules.result (writing_command _ _ (unsteady_source _ _ _ on)) c.write_modules.ensures.stops

@@ -1,4 +1,10 @@
+use Rattle.pdb_tool.proofs.Stops.{if_stopped, unsteady_source, writing_command}
 use Rattle.pdb_tool.proofs.commands.write_symbols.Goals as goal
 
 pub returns-clause-front : goal.returns-clause-front
 returns-clause-front g c = rw c.in_ok-pdb.ensures.file at c.write_numbered.ensures.front
+
+pub returns-clause-stops : goal.returns-clause-stops
+returns-clause-stops g c =
+    let on = c.in_ok-pdb.ensures.continues in
+    if_stopped _ _ c.write_numbered.result (writing_command _ _ (unsteady_source _ _ _ on)) c.write_numbered.ensures.stops

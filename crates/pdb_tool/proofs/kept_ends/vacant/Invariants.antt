@@ -1,7 +1,7 @@
 use Rattle.std.proofs.Common.{◌≡◌, ◌≤◌, ◌-◌, None, length, replicate}
 use Rattle.pdb_tool.proofs.kept_ends.vacant.Given as goal
 
--- so many places so far
+-- so many slots so far
 abbrev pub invariant-loop-rows : goal.invariant-loop-rows
 invariant-loop-rows l = record {
   vacant : l.rows.items ≡ replicate (length l.rows.items) None;

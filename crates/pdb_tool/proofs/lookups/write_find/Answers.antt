@@ -1,5 +1,7 @@
 use Rattle.pdb_text.proofs.Written.{on_ok}
 use Rattle.pdb_resolve.specs.FileParts.{items_listed}
+use Rattle.pdb.proofs.Passing.{continues_then}
+use Rattle.pdb_tool.proofs.Stops.{if_stopped, unsteady_source, writing_command}
 use Rattle.pdb_tool.proofs.lookups.write_find.Goals as goal
 
 pub returns-clause-opened : goal.returns-clause-opened
@@ -8,3 +10,8 @@ returns-clause-opened g c = on_ok c.write_found.result (λ w. c.in_ok-pdb.ensure
 pub returns-clause-front : goal.returns-clause-front
 unfolding items_listed
 returns-clause-front g c = rw (c.in_ok-finder.ensures.is, c.as_ref.ensures.value, c.as_ref-2.ensures.value, c.in_ok-ids.ensures.is, c.in_ok-types.ensures.is, c.in_ok-map.ensures.is, c.address_map.ensures.continues.file, c.types_stream.ensures.continues.file, c.ids_stream.ensures.continues.file, c.in_ok-pdb.ensures.file) at c.write_found.ensures.front
+
+pub returns-clause-stops : goal.returns-clause-stops
+returns-clause-stops g c =
+    let on = continues_then _ _ _ (continues_then _ _ _ (continues_then _ _ _ c.in_ok-pdb.ensures.continues c.ids_stream.ensures.continues) c.types_stream.ensures.continues) c.address_map.ensures.continues in
+    if_stopped _ _ c.write_found.result (writing_command _ _ (unsteady_source _ _ _ on)) c.write_found.ensures.stops

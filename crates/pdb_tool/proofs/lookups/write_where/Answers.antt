@@ -1,5 +1,9 @@
 use Rattle.pdb_text.proofs.Written.{on_ok}
 use Rattle.pdb_resolve.specs.FileParts.{items_listed}
+use Rattle.pdb.proofs.Passing.{continues_then}
+use Rattle.pdb_tool.proofs.Stops.{if_stopped, unsteady_source, writing_command, composing_passed}
+use Rattle.std.proofs.Common.{◌≡◌, false}
+use Rattle.pdb.specs.Source.{MayFail}
 use Rattle.pdb_tool.proofs.lookups.write_where.Goals as goal
 
 pub returns-clause-opened : goal.returns-clause-opened
@@ -12,3 +16,18 @@ returns-clause-front g c = rw (c.in_ok-asking.ensures.is, c.as_ref.ensures.value
 pub returns-clause-ok : goal.returns-clause-ok
 unfolding items_listed
 returns-clause-ok g c = rw (c.in_ok-asking.ensures.is, c.as_ref.ensures.value, c.as_ref-2.ensures.value, c.as_ref-3.ensures.value, c.in_ok-strings.ensures.is, c.in_ok-ids.ensures.is, c.in_ok-types.ensures.is, c.in_ok-map.ensures.is, c.address_map.ensures.continues.file, c.types_stream.ensures.continues.file, c.ids_stream.ensures.continues.file, c.strings_of.ensures.continues.file, c.in_ok-pdb.ensures.file) at c.write_plain.ensures.ok
+
+pub returns-clause-stops : goal.returns-clause-stops
+returns-clause-stops g c =
+    let on = continues_then _ _ _ (continues_then _ _ _ (continues_then _ _ _ (continues_then _ _ _ c.in_ok-pdb.ensures.continues c.strings_of.ensures.continues) c.ids_stream.ensures.continues) c.types_stream.ensures.continues) c.address_map.ensures.continues in
+    if_stopped _ _ c.write_plain.result (writing_command _ _ (unsteady_source _ _ _ on)) c.write_plain.ensures.stops
+
+pub returns-in_err-types-clause-stops : goal.returns-in_err-types-clause-stops
+returns-in_err-types-clause-stops g c =
+    let on = continues_then _ _ _ (continues_then _ _ _ c.in_ok-pdb.ensures.continues c.strings_of.ensures.continues) c.ids_stream.ensures.continues in
+    composing_passed (MayFail c.ids_stream.new.pdb c.types_stream.new.pdb) ((g.S.Meaning.state c.args.source).steady ≡ false) (unsteady_source _ _ _ on) c.from_residual-in_err-types.result _ c.from_residual-in_err-types.ensures.1 c.in_err-types.ensures.unwritten
+
+pub returns-in_err-map-clause-stops : goal.returns-in_err-map-clause-stops
+returns-in_err-map-clause-stops g c =
+    let on = continues_then _ _ _ (continues_then _ _ _ (continues_then _ _ _ c.in_ok-pdb.ensures.continues c.strings_of.ensures.continues) c.ids_stream.ensures.continues) c.types_stream.ensures.continues in
+    composing_passed (MayFail c.types_stream.new.pdb c.address_map.new.pdb) ((g.S.Meaning.state c.args.source).steady ≡ false) (unsteady_source _ _ _ on) c.from_residual-in_err-map.result _ c.from_residual-in_err-map.ensures.1 c.in_err-map.ensures.unwritten

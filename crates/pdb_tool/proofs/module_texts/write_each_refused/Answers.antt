@@ -10,11 +10,11 @@ more f xs i lt = grind (arith, common_steps)
 
 pub loop-k-preserved : goal.loop-k-preserved
 loop-k-preserved g c = record {
-  told = rw c.from.ensures at c.in_ok-put_error_of.ensures ∙ (ap (λ (l : List ℕ). l ++ error_of c.args.form (get_or c.args.places.now c.loop-k.k-index 0) c.args.e) c.loop-k.invariant.told ∙ sym (more (λ k. error_of c.args.form k c.args.e) c.args.places.now c.loop-k.k-index c.loop-k-test.true));
+  told = rw c.from.ensures at c.in_ok-put_error_of.ensures ∙ (ap (λ (l : List ℕ). l ++ error_of c.args.form (get_or c.args.indices.now c.loop-k.k-index 0) c.args.e) c.loop-k.invariant.told ∙ sym (more (λ k. error_of c.args.form k c.args.e) c.args.indices.now c.loop-k.k-index c.loop-k-test.true));
 }
 
-pub returns-in_err-write_out-clause-front : goal.returns-in_err-write_out-clause-front
-returns-in_err-write_out-clause-front g c =
-    let whole = c.loop-k.invariant.told ∙ ap (flat_map (λ k. error_of c.args.form k c.args.e)) (take_all c.loop-k.k-index c.args.places.now c.loop-k-test.false) in
-    let wrote = rw (c.deref.ensures.value, whole) at c.in_err-write_out.ensures.err in
-    any_err c.from_residual-in_err-write_out.result wrote
+pub returns-in_err-write_counted-clause-front : goal.returns-in_err-write_counted-clause-front
+returns-in_err-write_counted-clause-front g c =
+    let whole = c.loop-k.invariant.told ∙ ap (flat_map (λ k. error_of c.args.form k c.args.e)) (take_all c.loop-k.k-index c.args.indices.now c.loop-k-test.false) in
+    let wrote = rw (c.deref.ensures.value, whole) at c.in_err-write_counted.ensures.err in
+    any_err c.from_residual-in_err-write_counted.result wrote

@@ -5,12 +5,13 @@ use Rattle.pdb_tool.specs.ModuleTexts.{in_file, list_text}
 use Rattle.pdb_tool.proofs.WrittenSoFar.{Before}
 use Rattle.pdb_tool.proofs.module_texts.write_left.Given as goal
 
--- the file is the same; what was written, and the texts of the modules that are left, are those of all
+-- the file is the same; what was written, and the texts of the modules that are left, are those of all; no write failed
 abbrev pub invariant-loop-module : goal.invariant-loop-module
 invariant-loop-module g l = record {
   continues : Continues l.fn.pdb l.pdb;
   counted : modules_steps l.modules ≡ l.k;
   told : Before (g.W.Write.contents l.fn.out) (g.W.Write.contents l.out) (list_text l.form l.several (in_file (g.T.ModuleText.text l.texts) l.fn.pdb.file) l.fn.pdb.file l.k (modules_left l.modules)) (list_text l.form l.several (in_file (g.T.ModuleText.text l.texts) l.fn.pdb.file) l.fn.pdb.file 0 (modules_left l.fn.modules));
+  failures : g.W.CountedWrite.failures l.out ≡ g.W.CountedWrite.failures l.fn.out;
 }
 
 abbrev pub decreases-loop-module : goal.decreases-loop-module

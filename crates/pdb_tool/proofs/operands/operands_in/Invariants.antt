@@ -6,5 +6,5 @@ use Rattle.pdb_tool.proofs.operands.operands_in.Given as goal
 -- all operands are those so far, and then those of the other words
 abbrev pub invariant-loop-index : goal.invariant-loop-index
 invariant-loop-index l = record {
-  told : operands_of Word (map string_bytes l.words) l.place ≡ map operand_view l.all.items ++ operands_of l.next (map string_bytes (drop l.index l.words)) (l.place + l.index);
+  told : operands_of Word (map string_bytes l.words) l.argument ≡ map operand_view l.all.items ++ operands_of l.next (map string_bytes (drop l.index l.words)) (l.argument + l.index);
 }

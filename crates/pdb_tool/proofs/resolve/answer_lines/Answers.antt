@@ -1,4 +1,4 @@
-use Rattle.std.proofs.Common.{flat_map}
+use Rattle.std.proofs.Common.{flat_map, ◌∙◌}
 use Rattle.pdb_text.specs.Written.{WroteFront}
 use Rattle.pdb_tool.specs.Asked.{lines_of}
 use Rattle.pdb_tool.specs.Questions.{line_text}
@@ -29,6 +29,7 @@ loop-preserved g c =
     record {
       continues = continues_then _ _ _ so_far.continues on;
       told = answered_more (line_text c.args.resolver.now.file c.args.options) (g.R.Read.remaining c.args.input.now) (g.R.Read.remaining c.loop.input) (g.R.Read.remaining c.answer_line.new.input) (g.W.Write.contents c.args.out.now) (g.W.Write.contents c.loop.out) (g.W.Write.contents c.answer_line.new.out) so_far.told c.in_ok-answer_line.ensures.read wrote;
+      failures = c.in_ok-answer_line.ensures.failures ∙ so_far.failures;
     }
 
 pub returns-clause-refused : goal.returns-clause-refused

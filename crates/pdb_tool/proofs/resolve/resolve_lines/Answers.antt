@@ -1,5 +1,8 @@
+use Rattle.std.proofs.Common.{◌≡◌, false}
 use Rattle.pdb_text.proofs.Written.{any_err}
 use Rattle.pdb_tool.proofs.AnsweredLines.{front_none, if_any, on_ok_failed, on_ok_of}
+use Rattle.pdb_tool.proofs.Stops.{if_stopped, opening_command, stopped_as, writing_command}
+use Rattle.pdb_tool.proofs.WriteFailures.{opening_failures}
 use Rattle.pdb_tool.proofs.resolve.resolve_lines.Goals as goal
 
 pub returns-in_err-resolver-clause-ok : goal.returns-in_err-resolver-clause-ok
@@ -16,3 +19,12 @@ returns-clause-ok g c = rw c.in_ok-resolver.ensures.file at c.answer_lines.ensur
 
 pub returns-clause-front : goal.returns-clause-front
 returns-clause-front g c = rw c.in_ok-resolver.ensures.file at c.answer_lines.ensures.refused
+
+pub returns-in_err-resolver-clause-stops : goal.returns-in_err-resolver-clause-stops
+returns-in_err-resolver-clause-stops g c = stopped_as _ c.from_residual.result _ c.from_residual.ensures.1 (opening_command _ _ (λ h. tt) _ c.in_err-resolver.ensures.unwritten)
+
+pub returns-clause-stops : goal.returns-clause-stops
+returns-clause-stops g c = if_stopped _ _ c.answer_lines.result (writing_command _ _ (λ h. tt)) c.answer_lines.ensures.stops
+
+pub returns-in_err-resolver-clause-failures : goal.returns-in_err-resolver-clause-failures
+returns-in_err-resolver-clause-failures g c = opening_failures ((g.S.Meaning.state c.args.source).steady ≡ false) (g.W.CountedWrite.failures c.args.out.now) c.from_residual.result _ c.from_residual.ensures.1 c.in_err-resolver.ensures.unwritten

@@ -1,3 +1,4 @@
+use Rattle.std.proofs.Common.{◌∙◌}
 use Rattle.pdb_text.proofs.Written.{texts_front, texts_more}
 use Rattle.pdb_tool.specs.declared.asked.Asked.TheVariants.{Address}
 use Rattle.pdb_tool.specs.declared.options.Detail.TheVariants.{Plain}
@@ -11,20 +12,21 @@ use Rattle.pdb_tool.proofs.resolve.write_asked.Goals as goal
 abbrev none_asked : Question
 none_asked = record { answer = Frames; detail = Plain; asked = Address 0 }
 
-pub returns-in_err-write_out-clause-write : goal.returns-in_err-write_out-clause-write
-returns-in_err-write_out-clause-write g c = λ told.
+pub returns-in_err-write_counted-clause-write : goal.returns-in_err-write_counted-clause-write
+returns-in_err-write_counted-clause-write g c = λ told.
     let so_far = c.loop-question.invariant in
-    let text = rw c.clear.ensures.items at c.in_ok-put_question.ensures.text in
-    let wrote = rw (c.deref.ensures.value, text, so_far.continues.file) at c.in_err-write_out.ensures.err in
-    texts_front (asks_text c.args.resolver.now.file) (g.W.Write.contents c.args.out.now) (g.W.Write.contents c.loop-question.out) (g.W.Write.contents c.write_out.new.out) c.args.questions.now c.loop-question.question-index none_asked c.loop-question-test.true so_far.told wrote
+    let text = rw c.clear.ensures.items at c.in_ok-is_whole.ensures.text in
+    let wrote = rw (c.deref.ensures.value, text, so_far.continues.file, c.note_unless.ensures.contents) at c.in_err-write_counted.ensures.err in
+    texts_front (asks_text c.args.resolver.now.file) (g.W.Write.contents c.args.out.now) (g.W.Write.contents c.loop-question.out) (g.W.Write.contents c.write_counted.new.out) c.args.questions.now c.loop-question.question-index none_asked c.loop-question-test.true so_far.told wrote
 
 pub loop-question-preserved : goal.loop-question-preserved
 loop-question-preserved g c =
     let so_far = c.loop-question.invariant in
     let on = c.put_question.ensures.continues in
-    let text = rw c.clear.ensures.items at c.in_ok-put_question.ensures.text in
-    let wrote = rw (c.deref.ensures.value, text, so_far.continues.file) at c.in_ok-write_out.ensures.ok in
+    let text = rw c.clear.ensures.items at c.in_ok-is_whole.ensures.text in
+    let wrote = rw (c.deref.ensures.value, text, so_far.continues.file, c.note_unless.ensures.contents) at c.in_ok-write_counted.ensures.ok in
     record {
       continues = continues_then _ _ _ so_far.continues on;
-      told = texts_more (asks_text c.args.resolver.now.file) (g.W.Write.contents c.args.out.now) (g.W.Write.contents c.loop-question.out) (g.W.Write.contents c.write_out.new.out) c.args.questions.now c.loop-question.question-index none_asked c.loop-question-test.true so_far.told wrote;
+      told = texts_more (asks_text c.args.resolver.now.file) (g.W.Write.contents c.args.out.now) (g.W.Write.contents c.loop-question.out) (g.W.Write.contents c.write_counted.new.out) c.args.questions.now c.loop-question.question-index none_asked c.loop-question-test.true so_far.told wrote;
+      failures = c.in_ok-write_counted.ensures.failures ∙ (c.note_unless.ensures.failures ∙ so_far.failures);
     }

@@ -5,10 +5,10 @@ use Rattle.pdb_tool.proofs.type_texts.write_each.Goals as goal
 
 pub returns-in_err-put_index-clause-front : goal.returns-in_err-put_index-clause-front
 returns-in_err-put_index-clause-front g c =
-    any_err c.from_residual.result (so_far_front (index_lines (types_of c.args.types)) _ _ c.args.indices.now c.loop-index.index-index c.loop-index.invariant)
+    any_err c.from_residual.result (so_far_front (index_lines (types_of c.args.types)) _ _ c.args.indices.now c.loop-index.index-index c.loop-index.invariant.told)
 
-pub returns-in_err-write_out-clause-front : goal.returns-in_err-write_out-clause-front
-returns-in_err-write_out-clause-front g c =
+pub returns-in_err-write_counted-clause-front : goal.returns-in_err-write_counted-clause-front
+returns-in_err-write_counted-clause-front g c =
     let text = rw c.clear.ensures.items at c.in_ok-put_index.ensures in
-    let wrote = rw (c.deref.ensures.value, text) at c.in_err-write_out.ensures.err in
-    any_err c.from_residual-in_err-write_out.result (texts_front (index_lines (types_of c.args.types)) (g.W.Write.contents c.args.out.now) (g.W.Write.contents c.loop-index.out) (g.W.Write.contents c.write_out.new.out) c.args.indices.now c.loop-index.index-index 0 c.loop-index-test.true c.loop-index.invariant wrote)
+    let wrote = rw (c.deref.ensures.value, text) at c.in_err-write_counted.ensures.err in
+    any_err c.from_residual-in_err-write_counted.result (texts_front (index_lines (types_of c.args.types)) (g.W.Write.contents c.args.out.now) (g.W.Write.contents c.loop-index.out) (g.W.Write.contents c.write_counted.new.out) c.args.indices.now c.loop-index.index-index 0 c.loop-index-test.true c.loop-index.invariant.told wrote)

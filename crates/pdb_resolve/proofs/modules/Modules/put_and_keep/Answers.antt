@@ -1,6 +1,5 @@
 use Rattle.std.proofs.Common.{Some, ap, sym, ◌∙◌}
 use Rattle.std.specs.Prelude.{slice_index_or, None}
-use Rattle.std.proofs.Common.{◌≡◌}
 use Rattle.pdb_resolve.specs.KeptParts.{codes_of}
 use Rattle.pdb_resolve.proofs.Kepts.{put_then, kept_then, stays_then}
 use Rattle.pdb_resolve.proofs.modules.Modules.put_and_keep.Goals as goal

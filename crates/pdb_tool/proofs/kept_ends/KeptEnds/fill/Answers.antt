@@ -6,11 +6,11 @@ use Rattle.pdb_tool.proofs.kept_ends.KeptEnds.fill.Goals as goal
 
 pub invariant_of-self-2 : goal.invariant_of-self-2
 invariant_of-self-2 c =
-    let kept = c.take_places.new.self in
+    let kept = c.take_slots.new.self in
     let end = c.in_ok-end.end in
     record {
-      exact = one_more_end (λ (index : ℕ). typed_end (names_of_lines kept.names) (Some (record { 0 = index }))) kept.rows.items c.args.place c.args.index end c.in_ok-end.ensures.index c.in_ok-end.ensures.text kept.exact;
-      full = λ some. as_many_ends kept.rows.items c.args.place end c.in_ok-take_places.ensures.full;
+      exact = one_more_end (λ (index : ℕ). typed_end (names_of_lines kept.names) (Some (record { 0 = index }))) kept.rows.items c.args.slot c.args.index end c.in_ok-end.ensures.index c.in_ok-end.ensures.text kept.exact;
+      full = λ some. as_many_ends kept.rows.items c.args.slot end c.in_ok-take_slots.ensures.full;
       exact_calls = kept.exact_calls;
       full_calls = kept.full_calls;
     }

@@ -10,6 +10,6 @@ invariant_of-self-2 c =
     record {
       exact = kept.exact;
       full = kept.full;
-      exact_calls = one_more_end (call_end (names_of_lines kept.names)) kept.calls.items c.args.place c.args.id end c.in_ok-end.ensures.id c.in_ok-end.ensures.text kept.exact_calls;
-      full_calls = λ some. as_many_ends kept.calls.items c.args.place end c.in_ok-take_calls.ensures.full;
+      exact_calls = one_more_end (call_end (names_of_lines kept.names)) kept.calls.items c.args.slot c.args.id end c.in_ok-end.ensures.id c.in_ok-end.ensures.text kept.exact_calls;
+      full_calls = λ some. as_many_ends kept.calls.items c.args.slot end c.in_ok-take_calls.ensures.full;
     }

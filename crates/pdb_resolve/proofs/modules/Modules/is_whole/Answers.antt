@@ -1,0 +1,16 @@
+use Rattle.std.proofs.Common.{sym, ap, ◌∙◌}
+use Rattle.std.specs.Prelude.{option_copied, slice_get}
+use Rattle.pdb_resolve.proofs.WholeParts.{whole_absent, whole_read, whole_unread}
+use Rattle.pdb_resolve.proofs.modules.Modules.is_whole.Goals as goal
+
+pub returns-in-Some : goal.returns-in-Some
+returns-in-Some c file ms e = c.is_whole.ensures ∙ whole_read file _ _ (sym e ∙ (sym c.code.ensures ∙ ap option_copied c.in-Some.is))
+
+pub returns-in-Some-module_at : goal.returns-in-Some-module_at
+returns-in-Some-module_at c file ms e =
+    let none = sym c.code.ensures ∙ ap option_copied c.in_default.is in
+    let listed = sym c.module_at.ensures ∙ ap option_copied c.in-Some-module_at.is in
+    c.has_no_stream.ensures ∙ whole_unread file c.args.number _ (sym e ∙ none) (rw ms.listed at listed)
+
+pub returns-in-None : goal.returns-in-None
+returns-in-None c file ms e = whole_absent file c.args.number (rw ms.listed at (sym c.module_at.ensures ∙ ap option_copied c.in-None.is))
