@@ -4,6 +4,7 @@
 
 mod asking;
 mod held;
+mod last_round;
 mod missed;
 mod reading;
 mod run;
@@ -12,6 +13,7 @@ mod whole;
 
 pub use asking::{Asks, fetch_asked};
 pub use held::Held;
+pub use last_round::LastRound;
 pub use missed::Missed;
 pub use reading::{FetchError, Fetched, ReadAt, fetch};
 pub use run::Run;

@@ -3,7 +3,9 @@
 
 use crate::tests::fakes::{Counted, is};
 use crate::tests::slice;
-use crate::{AnyFile, Asks, FetchError, Fetched, Held, HeldSource, Missed, fetch, fetch_asked};
+use crate::{
+    AnyFile, Asks, FetchError, Fetched, Held, HeldSource, LastRound, Missed, fetch, fetch_asked,
+};
 use pdb_base::{Error, Result, Source, SourceSlice, View};
 use std::alloc::{AllocError, Global};
 use std::process::Abort;
@@ -202,11 +204,22 @@ fn a_file_that_ends_early_is_an_error(rt: HostRuntime) -> std::result::Result<()
 struct Chain {
     next: u64,
     count: u64,
+    last: LastRound,
 }
 
-impl Asks for Chain {
-    fn ask(&mut self, alloc: Global, source: HeldSource<'_, '_, '_, AnyFile>) -> bool {
-        let mut source = source;
+impl Chain {
+    /// So many bytes are asked for, and none was so far.
+    fn of(count: u64) -> Chain {
+        Chain {
+            next: 0,
+            count,
+            last: LastRound::before_any(),
+        }
+    }
+
+    /// Asks for the bytes up to the first that isn't held, and returns whether that is none.
+    fn ask_from(&mut self, alloc: Global, held: &Held, missed: &mut Missed) -> bool {
+        let mut source = HeldSource::new(held, missed, &AnyFile);
         while self.next < self.count {
             let at = FAR.saturating_mul(self.next);
             if source.view(alloc, &[slice(at, 1)]).is_err() {
@@ -218,6 +231,16 @@ impl Asks for Chain {
     }
 }
 
+impl Asks for Chain {
+    ghost last_missed = { λ chain. chain.last.missed };
+
+    fn ask(&mut self, alloc: Global, held: &Held, missed: &mut Missed) -> bool {
+        let is_last = self.ask_from(alloc, held, missed);
+        self.last.note(missed);
+        is_last
+    }
+}
+
 #[test]
 fn what_is_asked_for_is_read(rt: HostRuntime) -> std::result::Result<(), Fail> {
     let alloc = rt.alloc();
@@ -226,7 +249,7 @@ fn what_is_asked_for_is_read(rt: HostRuntime) -> std::result::Result<(), Fail> {
         let mut held = Held::new(alloc, 5_000_000);
         let mut fetched = Fetched::default();
         let input = Counted::of(&bytes);
-        let mut chain = Chain { next: 0, count };
+        let mut chain = Chain::of(count);
         let done = fetch_asked(alloc, &mut held, &input, &mut chain, &mut fetched);
         is(&rt, "asked", &done, &Ok(()));
         is(&rt, "rounds", &fetched.rounds, &count);
@@ -238,7 +261,7 @@ fn what_is_asked_for_is_read(rt: HostRuntime) -> std::result::Result<(), Fail> {
     let mut held = Held::new(alloc, 5_000_000);
     let mut fetched = Fetched::default();
     let input = Counted::failing(&bytes, 3);
-    let mut chain = Chain { next: 0, count: 24 };
+    let mut chain = Chain::of(24);
     let done = fetch_asked(alloc, &mut held, &input, &mut chain, &mut fetched);
     is(&rt, "failed", &done, &Err(FetchError::Read));
     is(&rt, "reads", &input.reads(), &4);

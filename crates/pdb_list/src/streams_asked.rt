@@ -4,7 +4,7 @@ use crate::command::Command;
 use pdb::{
     DBIExtraStreams, DBIHeader, DebugInformation, FallibleIterator, Msf, Source, StreamIndex,
 };
-use pdb_file::{AnyFile, Asks, HeldSource};
+use pdb_file::{AnyFile, Asks, Held, HeldSource, LastRound, Missed};
 use std::alloc::{AllocError, Global};
 
 /// The information stream.
@@ -25,6 +25,7 @@ pub(crate) struct StreamsAsked {
     globals: bool,
     modules: bool,
     indices: Vec<u32>,
+    last: LastRound,
 }
 
 impl StreamsAsked {
@@ -37,6 +38,7 @@ impl StreamsAsked {
             globals: false,
             modules: false,
             indices: Vec::new(alloc),
+            last: LastRound::before_any(),
         };
         for command in commands {
             asked.add(*command)?;
@@ -123,8 +125,9 @@ fn ask_modules<'s, S: Source<'s>>(msf: &mut Msf<'s, S>, indices: &[u32]) -> bool
     true
 }
 
-impl Asks for StreamsAsked {
-    fn ask(&mut self, alloc: Global, source: HeldSource<'_, '_, '_, AnyFile>) -> bool {
+impl StreamsAsked {
+    /// Asks for the streams that are left, and returns whether they are the last ones.
+    fn ask_streams<'s, S: Source<'s>>(&mut self, alloc: Global, source: S) -> bool {
         let Ok(mut msf) = Msf::open(alloc, source) else {
             return false;
         };
@@ -140,5 +143,15 @@ impl Asks for StreamsAsked {
         self.sections = self.sections && !ask_sections(&mut msf);
         self.modules = self.modules && !ask_modules(&mut msf, &self.indices);
         !self.globals && !self.sections && !self.modules
+    }
+}
+
+impl Asks for StreamsAsked {
+    ghost last_missed = { λ asked. asked.last.missed };
+
+    fn ask(&mut self, alloc: Global, held: &Held, missed: &mut Missed) -> bool {
+        let is_last = self.ask_streams(alloc, HeldSource::new(held, missed, &AnyFile));
+        self.last.note(missed);
+        is_last
     }
 }

@@ -4,7 +4,7 @@ use crate::file_texts::FileText;
 use crate::question::Question;
 use crate::resolve::{put_question, resolver_over};
 use pdb::{Error, FallibleIterator, ModuleInfo, ModuleList, PDB, Result, Source};
-use pdb_file::{AnyFile, Asks, HeldSource};
+use pdb_file::{AnyFile, Asks, Held, HeldSource, LastRound, Missed};
 use pdb_resolve::{GlobalIds, Streams};
 use std::alloc::Global;
 
@@ -15,6 +15,7 @@ pub struct TextAsked<'a> {
     // The streams that all modules share.
     shared: bool,
     modules: bool,
+    last: LastRound,
 }
 
 impl<'a> TextAsked<'a> {
@@ -24,6 +25,7 @@ impl<'a> TextAsked<'a> {
             text,
             shared: true,
             modules: true,
+            last: LastRound::before_any(),
         }
     }
 }
@@ -220,10 +222,8 @@ impl TextAsked<'_> {
             | FileText::Types(_) => false,
         };
     }
-}
-
-impl Asks for TextAsked<'_> {
-    fn ask(&mut self, alloc: Global, source: HeldSource<'_, '_, '_, AnyFile>) -> bool {
+    /// Requests what is left of the text's streams. The result is whether they are the last ones.
+    fn ask_text<'s, S: Source<'s>>(&mut self, alloc: Global, source: S) -> bool {
         let text = self.text;
         match text {
             FileText::Code(questions) => {
@@ -232,5 +232,15 @@ impl Asks for TextAsked<'_> {
             }
             _ => self.ask_streams(alloc, source),
         }
+    }
+}
+
+impl Asks for TextAsked<'_> {
+    ghost last_missed = { λ asked. asked.last.missed };
+
+    fn ask(&mut self, alloc: Global, held: &Held, missed: &mut Missed) -> bool {
+        let is_last = self.ask_text(alloc, HeldSource::new(held, missed, &AnyFile));
+        self.last.note(missed);
+        is_last
     }
 }
