@@ -14,7 +14,7 @@ use crate::line_info::{LineInfo, LineInfoKind};
 use crate::line_subsection::LineSubsection;
 use pdb_base::{Error, FileIndex, ParseBuffer, PdbInternalSectionOffset, Result};
 
-/// A line record as it is kept. The fields stand so that there is no capacity between them.
+/// A line record as it is kept. The fields are in an order that leaves no padding between them.
 #[derive(Clone, Copy)]
 pub struct Row {
     offset: u32,
