@@ -1,6 +1,6 @@
 //! What a program asks for before it runs.
 
-ghost use Rattle.std.specs.Prelude.{◌≡◌, ℕ, List, OnOk};
+ghost use Rattle.std.specs.Prelude.{◌≡◌, ℕ, List, true, IsErrOf, OnOk};
 ghost use Rattle.std.specs.List.{All};
 ghost use Rattle.std.specs.Option.{ForSome};
 ghost use Rattle.pdb_file.specs.HeldBytes.{IsOf, IsAllHeld};
@@ -8,6 +8,7 @@ ghost use Rattle.pdb_file.specs.HeldBytes.{IsOf, IsAllHeld};
 use crate::held::Held;
 use crate::missed::Missed;
 use crate::reading::{FetchError, Fetched, ReadAt, fetch};
+use crate::source::are_held;
 use std::alloc::Global;
 
 /// What a program asks for of a file before it runs over it.
@@ -40,10 +41,11 @@ fn ask_once<R: ReadAt, A: Asks>(
     ensures kept { (F : List ℕ) → IsOf F held.new → IsOf F held.old }
     ensures size { held.new.size ≡ held.old.size }
     ensures held { OnOk result (All (IsAllHeld held.new) (A.last_missed asks.new)) }
+    ensures steady { R.is_steady input.now ≡ true → ForSome (R.known input.now) (λ F. IsOf F held.old → IsErrOf result FetchError.Read → ⊥) }
 {
     let mut missed = Missed::new(alloc);
     let is_last = asks.ask(alloc, held, &mut missed);
-    if missed.is_empty() {
+    if are_held(held, missed.slices()) {
         return Ok(true);
     }
     fetch(alloc, held, &mut missed, input, fetched)?;
@@ -64,6 +66,7 @@ pub fn fetch_asked<R: ReadAt, A: Asks>(
     ensures size { held.new.size ≡ held.old.size }
     // All that the last round missed was read.
     ensures held { OnOk result (All (IsAllHeld held.new) (A.last_missed asks.new)) }
+    ensures steady { R.is_steady input.now ≡ true → ForSome (R.known input.now) (λ F. IsOf F held.old → IsErrOf result FetchError.Read → ⊥) }
 {
     let mut is_last = ask_once(alloc, held, input, asks, fetched)?;
     for _ in 1..MOST_ROUNDS {

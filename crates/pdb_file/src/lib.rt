@@ -17,5 +17,5 @@ pub use last_round::LastRound;
 pub use missed::Missed;
 pub use reading::{FetchError, Fetched, ReadAt, fetch};
 pub use run::Run;
-pub use source::{AnyFile, HeldSource, KnownFile, Meant};
+pub use source::{AnyFile, HeldSource, KnownFile, Meant, are_held};
 pub use whole::{MOST_BYTES, read_all, size_of};

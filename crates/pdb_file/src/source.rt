@@ -1,10 +1,10 @@
 //! A source over what is held of a file.
 
-ghost use Rattle.std.specs.Prelude.{◌≡◌, ◌≢◌, ℕ, ◌+◌, ◌<◌, ◌≤◌, ◌^◌, ◌++◌, ◌∷◌, [], ◌↔◌, List, length, take, drop, get_or, min, None, true, false, IsErrOf, IfOk, IfErr, IfSome, IsOk, IsSome, OnOk};
-ghost use Rattle.std.specs.List.{list_all, flat_map};
+ghost use Rattle.std.specs.Prelude.{◌≡◌, ◌≢◌, ℕ, ◌+◌, ◌<◌, ◌≤◌, ◌^◌, ◌++◌, ◌∷◌, [], ◌↔◌, List, length, take, drop, get_or, min, max, None, true, false, IsErrOf, IfOk, IfErr, IfSome, IsOk, IsSome, OnOk};
+ghost use Rattle.std.specs.List.{All, list_all, flat_map};
 ghost use Rattle.pdb_base.specs.Refusal.{Gives};
 ghost use Rattle.pdb_base.specs.Source.{State, Continues, MayFail, IsLent, in_memory, is_inside, slice_bytes, view_bytes, viewed};
-ghost use Rattle.pdb_file.specs.HeldBytes.{Agrees, AreHeld, IsHeldAt, IsOf, Seen, StandsIn, is_inside_of, known_or_empty, supposed};
+ghost use Rattle.pdb_file.specs.HeldBytes.{Agrees, AreHeld, IsAllHeld, IsHeldAt, IsOf, Seen, StandsIn, is_inside_of, known_or_empty, supposed};
 ghost use Rattle.pdb_file.specs.declared.run.Run.{Run};
 
 use crate::held::Held;
@@ -198,6 +198,36 @@ fn is_held(held: &Held, slice: SourceSlice) -> bool
             return false;
         };
         seen += part.len();
+    }
+    true
+}
+
+/// The part of a slice that a file of this size has.
+fn inside(size: u64, slice: SourceSlice) -> SourceSlice
+    ensures offset { result.offset ≡ slice.offset }
+    ensures end { result.offset + result.size ≡ max slice.offset (min (slice.offset + slice.size) size) }
+{
+    SourceSlice {
+        offset: slice.offset,
+        size: size.saturating_sub(slice.offset).min(slice.size as u64) as usize,
+    }
+}
+
+/// Whether all of a slice is held, as far as the file has it.
+fn is_all_held(held: &Held, slice: SourceSlice) -> bool
+    ensures { (result ≡ true) ↔ IsAllHeld held.now slice }
+{
+    is_held(held, inside(held.size(), slice))
+}
+
+/// Whether all of the slices is held, as far as the file has them.
+pub fn are_held(held: &Held, slices: &[SourceSlice]) -> bool
+    ensures { (result ≡ true) ↔ All (IsAllHeld held.now) slices.now }
+{
+    for slice in slices {
+        if !is_all_held(held, *slice) {
+            return false;
+        }
     }
     true
 }

@@ -4,7 +4,7 @@ mod fakes;
 mod parts;
 mod whole;
 
-use crate::{AnyFile, FetchError, Fetched, Held, HeldSource, Missed, Run, fetch};
+use crate::{AnyFile, FetchError, Fetched, Held, HeldSource, Missed, Run, are_held, fetch};
 use pdb_base::{Error, Source, SourceSlice, View};
 use std::alloc::Global;
 use std::test::Fail;
@@ -87,12 +87,15 @@ fn what_is_missed_is_read(rt: HostRuntime) -> Result<(), Fail> {
             .view(alloc, &missing)
             .is_err()
     );
+    assert!(rt; !are_held(&held, missed.slices()));
     let mut fetched = Fetched::default();
     assert!(rt; fetch(alloc, &mut held, &mut missed, &file, &mut fetched).is_ok());
     assert!(rt; missed.is_empty());
     assert!(rt; held.count() == 2 && fetched.rounds == 1);
     // From 0 to 70200, and from 250000 to the file's end.
     assert!(rt; fetched.bytes == 70200 + 50000);
+    assert!(rt; are_held(&held, &missing) && are_held(&held, &[slice(299999, 7), slice(300007, 7)]));
+    assert!(rt; !are_held(&held, &[slice(0, 4), slice(70199, 2)]));
     let view = HeldSource::new(&held, &mut missed, &AnyFile)
         .view(alloc, &missing)
         .expect(&rt, "a view");

@@ -5,7 +5,9 @@ use Rattle.pdb_list.specs.declared.engine.RunError.{RunError}
 use Rattle.pdb_list.specs.declared.engine.RunError.TheVariants as run
 use Rattle.pdb_list.specs.declared.report.Fault.{Fault}
 use Rattle.pdb_list.specs.declared.report.Fault.TheVariants.{Read, Open, Memory, Write}
-use Rattle.pdb_list.specs.Faults.{fault_of_run}
+use Rattle.pdb_list.specs.Faults.{fault_of_fetch, fault_of_run}
+use Rattle.pdb_file.specs.declared.reading.FetchError.{FetchError}
+use Rattle.pdb_file.specs.declared.reading.FetchError.TheVariants as fetch
 use Rattle.pdb.specs.Error.{Error}
 use Rattle.pdb.specs.Refusal.{number_of}
 
@@ -25,3 +27,14 @@ pub only_open : {T : Type 0} (e : RunError) (f : Fault) (n : ℕ) (r : Result T 
 only_open run.OutOfMemory f n r s h told = absurd cc
 only_open run.Write f n r s h told = absurd cc
 only_open (run.Open x) f n r s h told = rw (told x refl) cc
+
+-- a run has no read error
+pub never_read : {T : Type 0} (e : RunError) (f : Fault) → f ≡ fault_of_run e → IsErrOf {T = T} (Err f) Read → ⊥
+never_read run.OutOfMemory f s h = absurd cc
+never_read run.Write f s h = absurd cc
+never_read (run.Open x) f s h = absurd cc
+
+-- a read error is that of a fetch
+pub read_failed : (e : FetchError) → fault_of_fetch e ≡ Read → e ≡ fetch.Read
+read_failed fetch.Read same = refl
+read_failed fetch.Memory same = absurd cc

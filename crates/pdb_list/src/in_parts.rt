@@ -1,6 +1,6 @@
 //! Texts of a file of which no more is read than the commands ask for.
 
-ghost use Rattle.std.specs.Prelude.{◌≡◌, ◌≤◌, ◌⊎◌, ℕ, List, length, take, OnOk, IsErrOf, IsErrAnd, Ok, Err};
+ghost use Rattle.std.specs.Prelude.{◌≡◌, ◌≤◌, ◌⊎◌, ℕ, List, length, take, true, OnOk, IsErrOf, IsErrAnd, Ok, Err};
 ghost use Rattle.std.specs.Option.{ForSome};
 ghost use Rattle.std.specs.Io.KnownBytes.{Appends};
 ghost use Rattle.pdb.specs.Error.{Error};
@@ -15,7 +15,8 @@ use crate::engine::{RunError, run_counted};
 use crate::report::Fault;
 use crate::streams_asked::StreamsAsked;
 use pdb_file::{
-    Fetched, Held, HeldSource, KnownFile, MOST_BYTES, Meant, Missed, ReadAt, fetch, fetch_asked,
+    Fetched, Held, HeldSource, KnownFile, MOST_BYTES, Meant, Missed, ReadAt, are_held, fetch,
+    fetch_asked,
 };
 use std::alloc::Global;
 use std::io::Write;
@@ -70,6 +71,7 @@ pub fn run_in_parts<R: ReadAt, F: Meant, W: Write>(
     // A beginning of the texts was written.
     ensures write { IsOf (F.file file.now) held.new → IsErrOf result Fault.Write
         → WroteFront (W.contents out.old) (W.contents out.new) (texts (F.file file.now) commands.now) }
+    ensures steady { R.is_steady input.now ≡ true → ForSome (R.known input.now) (λ G. IsOf G held.old → IsErrOf result Fault.Read → ⊥) }
 {
     let mut missed = Missed::new(alloc);
     let mut done = 0;
@@ -79,12 +81,13 @@ pub fn run_in_parts<R: ReadAt, F: Meant, W: Write>(
         let left = commands.split_at(done).1;
         match run_held(alloc, held, &mut missed, file, left, out, &mut written) {
             Ok(()) => return Ok(()),
-            Err(RunError::OutOfMemory) if !missed.is_empty() => done += written,
+            Err(RunError::OutOfMemory) if !are_held(held, missed.slices()) => done += written,
             Err(e) => return Err(Fault::from(e)),
         }
         fetch(alloc, held, &mut missed, input, fetched)?;
     }
-    Err(Fault::Read)
+    // Each round holds a byte more, so the rounds end before.
+    Err(Fault::Memory)
 }
 
 /// Lists what the commands ask for of a file of this size: asks for the streams that they read, and then runs.
@@ -105,6 +108,8 @@ pub fn list_in_parts<R: ReadAt, W: Write>(
         → IsErrAnd (opens G) (λ e. n ≡ number_of e)) }
     ensures write { ForSome (R.known input.now) (λ G. length G ≡ size → IsErrOf result Fault.Write
         → WroteFront (W.contents out.old) (W.contents out.new) (texts G commands.now)) }
+    // A reader that works gives no read error, but for a file over a TiB.
+    ensures steady { R.is_steady input.now ≡ true → ForSome (R.known input.now) (λ G. length G ≡ size → size ≤ 1099511627776 → IsErrOf result Fault.Read → ⊥) }
 {
     if size > MOST_BYTES as u64 {
         return Err(Fault::Read);

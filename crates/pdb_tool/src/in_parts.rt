@@ -1,6 +1,6 @@
 //! Texts of a file of which no more is read than they are made of.
 
-ghost use Rattle.std.specs.Prelude.{◌≡◌, Ok, Err, IfErr, IsErrOf, OnOk, OnErr, List, ℕ, length, ⊤};
+ghost use Rattle.std.specs.Prelude.{◌≡◌, Ok, Err, IfErr, IsErrOf, OnOk, OnErr, List, ℕ, length, true, ⊤};
 ghost use Rattle.std.specs.Option.{ForSome};
 ghost use Rattle.std.specs.Io.KnownBytes.{Appends};
 ghost use Rattle.pdb.specs.Container.{opens};
@@ -52,6 +52,7 @@ pub fn write_in_parts<R: ReadAt, W: NotesDamage>(
     ensures ok { ForSome (R.known input.now) (λ G. length G ≡ size → OnOk result (Appends (W.contents out.old) (W.contents out.new) (file_text G text.entry))) }
     ensures refused { ForSome (R.known input.now) (λ G. length G ≡ size → (e : Error) → IsErrOf result (Stop.Open e) → opens G ≡ Err e) }
     ensures stops { IfErr result (StopsCommand ⊤) }
+    ensures steady { R.is_steady input.now ≡ true → ForSome (R.known input.now) (λ G. length G ≡ size → IsErrOf result Stop.Read → ⊥) }
     ensures failures { W.failures out.new ≡ failures_after (W.failures out.old) result }
     // A beginning of the text was written.
     ensures front { ForSome (R.known input.now) (λ G. length G ≡ size → OnErr result (WroteFront (W.contents out.old) (W.contents out.new) (file_text G text.entry))) }

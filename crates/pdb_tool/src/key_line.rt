@@ -134,6 +134,7 @@ pub fn key_line(alloc: Global, form: Form, bytes: &[u8], name: &[u8]) -> Result<
 fn byte_at<R: ReadAt>(input: &R, at: u64) -> Result<u8, Stop>
     ensures byte { ForSome (R.known input.now) (λ G. at < length G → IfOk result (λ b. b ≡ get_or G at 0)) }
     ensures stopped { (s : Stop) → IsErrOf result s → s ≡ Stop.Read }
+    ensures steady { R.is_steady input.now ≡ true → ForSome (R.known input.now) (λ G. at < length G → IsErrOf result Stop.Read → ⊥) }
 {
     let mut byte = [0u8; 1];
     match input.read_bytes_at(&mut byte, at) {
@@ -146,6 +147,7 @@ fn byte_at<R: ReadAt>(input: &R, at: u64) -> Result<u8, Stop>
 fn begins_as_image<R: ReadAt>(input: &R, size: u64) -> Result<bool, Stop>
     ensures image { ForSome (R.known input.now) (λ G. length G ≡ size → IfOk result (λ b. b ≡ is_image G)) }
     ensures stopped { (s : Stop) → IsErrOf result s → s ≡ Stop.Read }
+    ensures steady { R.is_steady input.now ≡ true → ForSome (R.known input.now) (λ G. length G ≡ size → IsErrOf result Stop.Read → ⊥) }
 {
     if size < 2 {
         return Ok(false);
@@ -168,6 +170,7 @@ pub fn line_in_parts<R: ReadAt>(
     ensures line { ForSome (R.known input.now) (λ G. length G ≡ size → IfOk result (λ o. IsLine form name.now G (option_map (λ v. v.items) o))) }
     ensures open { ForSome (R.known input.now) (λ G. length G ≡ size → (e : Error) → IsErrOf result (Stop.Open e) → (is_image G ≡ false) × (key_of_file G ≡ Err e)) }
     ensures stops { IfErr result (StopsOpening ⊤) }
+    ensures steady { R.is_steady input.now ≡ true → ForSome (R.known input.now) (λ G. length G ≡ size → IsErrOf result Stop.Read → ⊥) }
 {
     if begins_as_image(input, size)? {
         return Ok(None);

@@ -1,6 +1,6 @@
 //! Which PDB is wanted, and the texts of a file where one is: nothing is written of another one.
 
-ghost use Rattle.std.specs.Prelude.{◌≡◌, ◌≢◌, ◌++◌, List, ℕ, drop, flat_map, length, map, Ok, Err, IfOk, IfErr, IfSome, IsErrOf, OnErr, OnOk, option_copied, ⊤};
+ghost use Rattle.std.specs.Prelude.{◌≡◌, ◌≢◌, ◌++◌, List, ℕ, drop, flat_map, length, map, true, Ok, Err, IfOk, IfErr, IfSome, IsErrOf, OnErr, OnOk, option_copied, ⊤};
 ghost use Rattle.std.specs.Char.{to_ascii_uppercase};
 ghost use Rattle.std.specs.Option.{ForSome, option_map};
 ghost use Rattle.pdb_tool.specs.Asked.{lines_of};
@@ -110,6 +110,7 @@ fn other_key_in_parts<R: ReadAt>(
 ) -> Result<Option<Vec<u8>>, Stop>
     ensures compares { ForSome (R.known input.now) (λ G. length G ≡ size → IfOk result (λ o. other_key_of G (option_copied wanted.entry) ≡ Ok (option_map (λ v. v.items) o))) }
     ensures stops { IfErr result (StopsOpening ⊤) }
+    ensures steady { R.is_steady input.now ≡ true → ForSome (R.known input.now) (λ G. length G ≡ size → IsErrOf result Stop.Read → ⊥) }
 {
     let Some(wanted) = wanted else {
         return Ok(None);
@@ -149,6 +150,7 @@ pub fn write_wanted_in_parts<R: ReadAt, W: NotesDamage>(
     out: &mut W,
 ) -> Result<Option<Vec<u8>>, Stop>
     ensures stops { IfErr result (StopsCommand ⊤) }
+    ensures steady { R.is_steady input.now ≡ true → ForSome (R.known input.now) (λ G. length G ≡ size → IsErrOf result Stop.Read → ⊥) }
     ensures failures { W.failures out.new ≡ failures_after (W.failures out.old) result }
     ensures told { ForSome (R.known input.now) (λ G. length G ≡ size → IfOk result (λ o. IsTold G (option_copied wanted.entry) (W.contents out.old) (W.contents out.new) (file_text G text.entry) (option_map (λ v. v.items) o))) }
     ensures stopped { ForSome (R.known input.now) (λ G. length G ≡ size → OnErr result (IsStopped G (option_copied wanted.entry) (W.contents out.old) (W.contents out.new) (file_text G text.entry))) }

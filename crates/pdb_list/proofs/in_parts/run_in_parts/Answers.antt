@@ -1,7 +1,9 @@
-use Rattle.std.proofs.Common.{◌≡◌, ◌+◌, ap, Err, arith}
+use Rattle.std.proofs.Common.{◌≡◌, ◌+◌, ◌∙◌, ap, Err, arith, sym, true≢false}
+use Rattle.std.proofs.lemmas.Result.{err_from_is_err_and}
 use Rattle.pdb_list.specs.declared.engine.RunError.TheVariants.{OutOfMemory, Write}
+use Rattle.pdb_list.specs.declared.report.Fault.TheVariants.{Read}
 use Rattle.pdb_list.specs.CommandTexts.{command_text}
-use Rattle.pdb_list.proofs.Stopped.{only_memory, only_open, only_write}
+use Rattle.pdb_list.proofs.Stopped.{never_read, only_memory, only_open, only_write, read_failed}
 use Rattle.pdb_text.proofs.Written.{first_more, first_front}
 use Rattle.pdb_list.proofs.in_parts.run_in_parts.Goals as goal
 
@@ -39,6 +41,17 @@ returns-in_err-fetch-clause-stopped g c = λ is h.
       omega (arith, c.loop.invariant.within, c.in-Err-OutOfMemory.ensures.most, c.split_at.ensures.back_len),
       first_more (command_text (g.F.Meant.file c.args.file.now)) _ _ _ c.args.commands.now c.loop.done c.run_held.new.written (c.loop.invariant.wrote was) texts,
     )
+
+pub returns-in-Err-clause-steady : goal.returns-in-Err-clause-steady
+returns-in-Err-clause-steady g c = λ steady G known is read. never_read _ c.from.result c.from.ensures read
+
+pub returns-in_err-fetch-clause-steady : goal.returns-in_err-fetch-clause-steady
+returns-in_err-fetch-clause-steady g c = λ steady G known is read.
+    let p = err_from_is_err_and c.from_residual.result c.from_residual.ensures.1 in
+    let said : p.0 ≡ Read = cc in
+    let failed = read_failed c.in_err-fetch.field-0.0 (sym p.2 ∙ said) in
+    let all = c.in_err-fetch.ensures.steady steady G known (c.loop.invariant.told G known is) (ap Err failed) in
+    true≢false (sym (c.are_held.ensures.1 (rw c.slices.ensures all)) ∙ c.if-not-are_held.true)
 
 pub loop-preserved : goal.loop-preserved
 loop-preserved g c = record {
