@@ -1,24 +1,26 @@
 -- The key under which a symbol server has a file.
-use Rattle.std.specs.Prelude.{ℕ, ◌/◌, ◌%◌, List, [], ◌∷◌, ◌++◌, flat_map, Option, Some, Result, Ok, true}
+use Rattle.std.specs.Prelude.{ℕ, ◌/◌, ◌%◌, List, [], ◌∷◌, ◌++◌, ◌==◌, flat_map, Some, Result, Ok, Err, true, if◌then◌else◌}
 use Rattle.std.specs.Fmt.{digits, digit_glyph}
 use Rattle.pdb_base.specs.declared.error.Error.{Error}
 use Rattle.pdb_base.specs.Refusal.{◌>>=◌}
-use Rattle.pdb_dbi.specs.Header.{age_in}
+use Rattle.pdb_dbi.specs.Header.{header_in}
+use Rattle.pdb_dbi.specs.declared.header.DBIHeader.{DBIHeader}
 use Rattle.pdb_base.specs.Container.{opens}
-use Rattle.pdb.specs.Answers.{information_in, debug_information_in}
+use Rattle.pdb.specs.Answers.{information_in}
 
 -- two hex digits, in upper case
 abbrev pub byte_text : ℕ → List ℕ
 byte_text b = digit_glyph true (b / 16) ∷ digit_glyph true (b % 16) ∷ []
 
--- the age that the DBI stream tells; another one where the stream is refused, or tells 0
-abbrev pub age_told : Result (Option ℕ) Error → ℕ → ℕ
-age_told (Ok (Some age)) other = age
-age_told told other = other
+-- the age that the header of the DBI stream has; another one where it is refused, or has 0
+abbrev pub age_told : Result DBIHeader Error → ℕ → ℕ
+age_told (Ok h) other = if h.age == 0 then other else h.age
+age_told (Err e) other = other
 
 -- piece: age_of_file
+-- by the front of the DBI stream
 abbrev pub age_of_file : List ℕ → ℕ → ℕ
-age_of_file file other = age_told (debug_information_in file >>= age_in) other
+age_of_file file other = age_told (header_in file (Some 1024)) other
 
 -- end
 

@@ -52,13 +52,14 @@ pub fn key_text(
 }
 
 // piece: age
-/// The age that the DBI stream has, or else `other`.
+/// The age that the header of the DBI stream has, or else `other`.
 fn age<'s, S: Source<'s>>(pdb: &mut PDB<'s, S>, other: u32) -> Result<u32>
     ensures continues { Continues pdb.old pdb.new }
     ensures answer { Gives (λ n. n) (MayFail pdb.old pdb.new) result (Ok (age_of_file pdb.old.file other)) }
 {
-    match pdb.debug_information() {
-        Ok(stream) => Ok(stream.age().unwrap_or(other)),
+    match pdb.dbi_header() {
+        Ok(header) if header.age != 0 => Ok(header.age),
+        Ok(_) => Ok(other),
         Err(Error::OutOfMemory) => Err(Error::OutOfMemory),
         Err(Error::IoError) => Err(Error::IoError),
         Err(_) => Ok(other),
@@ -67,9 +68,10 @@ fn age<'s, S: Source<'s>>(pdb: &mut PDB<'s, S>, other: u32) -> Result<u32>
 // end
 
 // piece: key_in
-/// The key of an opened file, as `key_text` writes it: the GUID of the information stream, and the age of the DBI
-/// stream. The age is that of the information stream where the DBI stream has none, or is in error. An error is that of
-/// the information stream, out of memory, or `IoError` where the source failed.
+/// The key of an opened file, as `key_text` writes it: the GUID of the information stream, and the age in the header of
+/// the DBI stream, of which at most the first 1024 bytes are read. The age is that of the information stream where the
+/// header has none, or can't be read. An error is that of the information stream, out of memory, or `IoError` where the
+/// source failed.
 #[tactic(auto, unfolding(crate::specs::Keys::key_in))]
 pub fn key_in<'s, S: Source<'s>>(alloc: Global, pdb: &mut PDB<'s, S>) -> Result<Vec<u8>>
     ensures continues { Continues pdb.old pdb.new }

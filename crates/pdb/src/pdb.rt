@@ -152,7 +152,7 @@ impl<'s, S: Source<'s>> PDB<'s, S> {
 
     /// The header in the front of the DBI stream; read once.
     #[tactic(auto, unfolding(pdb_dbi::specs::Header::header_in))]
-    fn dbi_header(&mut self) -> Result<DBIHeader>
+    pub(crate) fn dbi_header(&mut self) -> Result<DBIHeader>
         ensures continues { Continues self.old self.new }
         ensures header { Gives (λ h. h) (MayFail self.old self.new) result (header_in self.old.file (Some 1024)) }
     {

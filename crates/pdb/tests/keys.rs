@@ -1,6 +1,6 @@
 //! Keys of symbol servers.
 
-use super::is;
+use super::{file, is, put};
 use crate::tests::put_numbers;
 use crate::tests::sample::{DBI, INFORMATION, SAMPLE, changed, file_of};
 use crate::*;
@@ -62,6 +62,28 @@ fn without_a_dbi_stream_the_age_is_that_of_the_information_stream(rt: HostRuntim
         has_key(&rt, "without an age", alloc, &bytes, wanted)?;
     }
     Ok(())
+}
+
+/// A file whose DBI stream has the age 2 and a third page that isn't there; its information stream has the age 0xb.
+pub fn broken_behind_the_front(alloc: Global) -> Result<Vec<u8>> {
+    let mut bytes = file(alloc, 6, 5)?;
+    let absent = 0xffff_ffff;
+    put_numbers(&mut bytes, 44, &[48]);
+    put_numbers(
+        &mut bytes,
+        2048,
+        &[6, 0, 67, absent, 3000, absent, 12, 5, 3, 4, 6, 5],
+    );
+    put(&mut bytes, 5120, information(alloc)?.as_slice());
+    Ok(bytes)
+}
+
+#[test]
+fn the_age_is_in_the_front_of_the_dbi_stream(rt: HostRuntime) -> Result<()> {
+    let alloc = rt.alloc();
+    let bytes = broken_behind_the_front(alloc)?;
+    let wanted = b"00112233445566778899AABBCCDDEEFF2";
+    has_key(&rt, "broken behind the front", alloc, &bytes, wanted)
 }
 
 #[test]

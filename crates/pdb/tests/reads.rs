@@ -1,5 +1,6 @@
 //! Which bytes of the file each accessor asks for.
 
+use super::keys::broken_behind_the_front;
 use super::{file, is};
 use crate::tests::sample::{SAMPLE, dbi_with, file_of};
 use crate::*;
@@ -121,6 +122,25 @@ fn each_accessor_reads_its_streams_alone(rt: HostRuntime) -> Result<()> {
     reads(&rt, &asked, pdb.string_table().err(), (2, names));
     reads(&rt, &asked, pdb.raw_stream(symbols).err(), (1, SYMBOLS));
     reads(&rt, &asked, pdb.pdb_information().err(), (1, INFORMATION));
+    Ok(())
+}
+
+#[test]
+fn a_key_reads_the_front_of_the_dbi_stream(rt: HostRuntime) -> Result<()> {
+    let alloc = rt.alloc();
+    let bytes = broken_behind_the_front(alloc)?;
+    let asked = Asked::new();
+    let mut pdb = opened(alloc, &bytes, &asked)?;
+    asked.take();
+    // The start of the information stream, and the first of the three pages of the DBI stream.
+    let (information, front) = (1024, 64 | 128);
+    reads(
+        &rt,
+        &asked,
+        key_in(alloc, &mut pdb).err(),
+        (2, information | front),
+    );
+    reads(&rt, &asked, key_in(alloc, &mut pdb).err(), (1, information));
     Ok(())
 }
 

@@ -1,6 +1,6 @@
 //! What the options of a command say.
 
-ghost use Rattle.std.specs.Prelude.{◌≡◌, ◌+◌, ◌<◌, ◌^◌, map, string_bytes, length};
+ghost use Rattle.std.specs.Prelude.{◌≡◌, ◌≢◌, ◌+◌, ◌<◌, ◌^◌, IfErr, map, string_bytes, length};
 ghost use Rattle.pdb_tool.specs.Options.{is_base, is_dashes, is_option, is_key, is_value, nothing_given, options_of, takes_json, wanting_base, with_address_option, with_base, with_base_of, with_json, with_option, with_plain, with_resolve_option, with_symbols_option, with_variables, with_wanted, with_wanted_option, with_word};
 ghost use Rattle.std.specs.Char.{is_ascii_hexdigit};
 ghost use Rattle.pdb_text.specs.Arguments.{Tells};
@@ -329,7 +329,8 @@ fn is_value(next: Next) -> bool
 #[tactic(auto, using(crate::proofs::OptionWords::bad_there, crate::proofs::OptionWords::begins, crate::proofs::OptionWords::ends, crate::proofs::OptionWords::one_more))]
 pub fn options_in(topic: Topic, words: &[String], argument: usize) -> Result<Options, WordsError>
     requires { argument + length words.now < 2 ^ 64 }
-    ensures { Tells (λ o. o) result (options_of topic nothing_given (map string_bytes words.now) argument) }
+    ensures is { Tells (λ o. o) result (options_of topic nothing_given (map string_bytes words.now) argument) }
+    ensures memory { IfErr result (λ e. e ≢ WordsError.OutOfMemory) }
 {
     let mut given = Given::default();
     for (index, word) in words.iter().enumerate() {

@@ -1,6 +1,6 @@
 //! What the program's words ask for.
 
-ghost use Rattle.std.specs.Prelude.{◌≡◌, ◌+◌, ◌<◌, ◌^◌, map, string_bytes, length};
+ghost use Rattle.std.specs.Prelude.{◌≡◌, ◌≢◌, ◌+◌, ◌<◌, ◌^◌, IfErr, map, string_bytes, length};
 ghost use Rattle.pdb_text.specs.Arguments.{Tells};
 ghost use Rattle.pdb_tool.specs.Words.{alone, behind_command, help_in, is_help, is_version, lookup_in, request_in, topic_in, wants_help};
 
@@ -114,7 +114,8 @@ fn wants_help(words: &[String]) -> bool
 
 /// This request, if no argument has this index or a greater one.
 fn alone(request: Request, words: &[String], argument: usize) -> Result<Request, WordsError>
-    ensures { Tells (λ r. r) result (alone request (map string_bytes words.now) argument) }
+    ensures is { Tells (λ r. r) result (alone request (map string_bytes words.now) argument) }
+    ensures memory { IfErr result (λ e. e ≢ WordsError.OutOfMemory) }
 {
     if words.is_empty() {
         Ok(request)
@@ -125,7 +126,8 @@ fn alone(request: Request, words: &[String], argument: usize) -> Result<Request,
 
 /// The request of the arguments behind `help`.
 fn help_in(words: &[String]) -> Result<Request, WordsError>
-    ensures { Tells (λ r. r) result (help_in (map string_bytes words.now)) }
+    ensures is { Tells (λ r. r) result (help_in (map string_bytes words.now)) }
+    ensures memory { IfErr result (λ e. e ≢ WordsError.OutOfMemory) }
 {
     let Some((word, rest)) = words.split_first() else {
         return Ok(Request::Help(None));
@@ -145,7 +147,8 @@ fn help_in(words: &[String]) -> Result<Request, WordsError>
 /// The request of the arguments behind the name of a command.
 fn behind_command(topic: Topic, words: &[String]) -> Result<Request, WordsError>
     requires { 1 + length words.now < 2 ^ 64 }
-    ensures { Tells (λ r. r) result (behind_command topic (map string_bytes words.now)) }
+    ensures is { Tells (λ r. r) result (behind_command topic (map string_bytes words.now)) }
+    ensures memory { IfErr result (λ e. e ≢ WordsError.OutOfMemory) }
 {
     let Some(word) = words.first() else {
         return Err(WordsError::BadWord(1));
@@ -158,7 +161,8 @@ fn behind_command(topic: Topic, words: &[String]) -> Result<Request, WordsError>
 
 /// The request of arguments.
 pub fn request_in(words: &[String]) -> Result<Request, WordsError>
-    ensures { Tells (λ r. r) result (request_in (map string_bytes words.now)) }
+    ensures is { Tells (λ r. r) result (request_in (map string_bytes words.now)) }
+    ensures memory { IfErr result (λ e. e ≢ WordsError.OutOfMemory) }
 {
     let Some((word, rest)) = words.split_first() else {
         return Ok(Request::Help(None));
