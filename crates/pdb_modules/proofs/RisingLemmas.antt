@@ -1,5 +1,5 @@
 -- What is known of rising entries while blocks are read.
-use Rattle.std.proofs.Common.{ℕ, zero, List, Bool, arith}
+use Rattle.std.proofs.Common.{ℕ, List, Bool, arith}
 use Rattle.pdb_base.specs.declared.index.PdbInternalSectionOffset.{PdbInternalSectionOffset}
 use Rattle.pdb_modules.specs.Rising.{RiseAt}
 

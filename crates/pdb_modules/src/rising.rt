@@ -1,16 +1,25 @@
 //! The first entries of a block, as far as they are no markers and their offsets never fall: among them is halved.
 
-ghost use Rattle.std.specs.Prelude.{◌*◌, ◌≤◌, length};
+ghost use Rattle.std.specs.Prelude.{◌≡◌, ◌*◌, ◌≤◌, false, length};
 ghost use Rattle.pdb_modules.specs.Blocks.{entry_width};
 ghost use Rattle.pdb_modules.specs.BlockViews.{block_of};
 ghost use Rattle.pdb_modules.specs.LineSearch.{ArePassed};
+ghost use Rattle.pdb_modules.specs.Lines.{is_marker};
 ghost use Rattle.pdb_modules.specs.Rising.{AreRising, RiseAt};
 
 use crate::blocks::{Block, entry, read_block};
-use crate::rows::is_marker;
 use pdb_base::{ParseBuffer, PdbInternalSectionOffset};
 
-/// How many of a block's first entries are no markers and stand at offsets that never fall.
+/// Whether flags may be those of a marker: few lines have numbers as great as those of markers.
+#[inline]
+fn may_be_marker(flags: u32) -> bool
+    ensures { result ≡ false → is_marker flags ≡ false }
+{
+    flags % 0x100_0000 >= 0xf0_0f00
+}
+
+/// How many of a block's first entries are no markers and stand at offsets that never fall. It may be fewer, where a
+/// line has a number as great as those of markers.
 #[inline]
 fn count_rising(from: PdbInternalSectionOffset, block: Block<'_>, has_columns: bool) -> usize
     requires { block.count * entry_width has_columns ≤ length block.body.now }
@@ -20,7 +29,7 @@ fn count_rising(from: PdbInternalSectionOffset, block: Block<'_>, has_columns: b
     for i in 0..block.count {
         let entry = entry(block, has_columns, i);
         let offset = from.wrapping_add(entry.offset).offset;
-        if offset < before || is_marker(entry.line.flags) {
+        if offset < before || may_be_marker(entry.line.flags) {
             return i;
         }
         before = offset;

@@ -8,7 +8,7 @@ use Rattle.std.proofs.lemmas.List.{length-drop, length-take}
 use Rattle.pdb_base.specs.declared.error.Error.{Error}
 use Rattle.pdb_base.specs.declared.error.Error.TheVariants.{UnexpectedEof, SymbolTooShort}
 use Rattle.pdb_base.specs.Fields.{number}
-use Rattle.pdb_base.specs.Left.{Left, Follows}
+use Rattle.pdb_base.specs.Left.{Left}
 use Rattle.pdb_base.specs.Tiling.{fault_at, listing}
 use Rattle.pdb_base.proofs.Tilings.{listing_item, listing_padding, listing_stop, listing_end}
 use Rattle.pdb_symbols.specs.declared.symbol.Symbol.{Symbol}

@@ -39,3 +39,4 @@ pub mod WalkSteps
 pub mod VariablesFound
 pub mod CallNumbers
 mod WholeParts
+pub mod ProcedureRecords

@@ -1,5 +1,5 @@
 -- The name of the procedure at a place is the one that its symbol's heading has.
-use Rattle.std.proofs.Common.{◌≡◌, ℕ, ◌∷◌, ◌++◌, ◌==◌, List, Option, Some, None, Result, Ok, Err, refl, sym, ap, subst, ◌∙◌}
+use Rattle.std.proofs.Common.{◌≡◌, ℕ, ◌==◌, List, Option, Some, Result, Ok, Err, refl, sym, ap, subst, ◌∙◌}
 use Rattle.std.specs.Prelude.{find}
 use Rattle.std.specs.Option.{option_map}
 use Rattle.pdb.specs.Error.{Error}
@@ -10,11 +10,11 @@ use Rattle.pdb.specs.ModuleStream.{ModuleBytes}
 use Rattle.pdb.specs.PdbInternalSectionOffset.{PdbInternalSectionOffset}
 use Rattle.pdb.specs.SymbolList.{Entry}
 use Rattle.pdb.specs.Refusal.{◌>>=◌}
-use Rattle.pdb_symbols.specs.Data.{ProcedureSays, name_of}
+use Rattle.pdb_symbols.specs.Data.{ProcedureSays}
 use Rattle.pdb_symbols.specs.Headings.{heading_at, title_of}
 use Rattle.pdb_resolve.specs.AsIfEmpty.{if_read}
-use Rattle.pdb_resolve.specs.Kept.{IsListed, head_says}
-use Rattle.pdb_resolve.specs.ModuleCode.{Code, code_covers, function_at, index_of, named, named_in, procedure_at, procedure_of, procedures_in, role, says, says_at, says_if, symbols_in}
+use Rattle.pdb_resolve.specs.Kept.{IsListed}
+use Rattle.pdb_resolve.specs.ModuleCode.{Code, code_covers, function_at, index_of, named, named_in, procedure_at, procedure_of, role, says, says_at, says_if, symbols_in}
 use Rattle.pdb_resolve.specs.ModuleCode.Role.{at_procedure}
 use Rattle.pdb_resolve.specs.SaidNames.{name_said, name_titled}
 use Rattle.pdb_resolve.proofs.Scopes.{Rises, Stands, is_procedure, stands}

@@ -1,20 +1,18 @@
 -- A public symbol's place, where its record shows at once that the name ends.
-use Rattle.std.proofs.Common.{◌≡◌, ℕ, zero, suc, ◌+◌, ◌-◌, ◌<◌, ◌≤◌, Bool, true, false, cond, List, [], ◌∷◌, ◌++◌, length, get_or, drop, take, map, Option, Some, None, Result, Ok, Err, refl, sym, ap, ◌∙◌, arith, leb}
+use Rattle.std.proofs.Common.{◌≡◌, ℕ, zero, suc, ◌+◌, ◌-◌, ◌<◌, ◌≤◌, true, List, [], ◌∷◌, length, get_or, drop, take, map, Option, Some, None, Ok, refl, sym, ap, ◌∙◌, arith, leb}
 use Rattle.std.specs.Prelude.{IsSome}
 use Rattle.std.specs.Option.{option_map, option_to_list}
 use Rattle.std.proofs.lemmas.Bool.{le-leb}
-use Rattle.std.proofs.lemmas.Bool.Decides.{nat_tests}
 use Rattle.std.proofs.lemmas.List.{get_or-drop, length-drop, length-take}
-use Rattle.pdb.specs.Error.{Error}
 use Rattle.pdb.specs.Fields.{number, number_at, cstring_at}
-use Rattle.pdb.specs.Forms.{kind_at, record_at, fields_at}
+use Rattle.pdb.specs.Forms.{fields_at}
 use Rattle.pdb.specs.PdbInternalSectionOffset.{PdbInternalSectionOffset}
 use Rattle.pdb.specs.SymbolList.{Entry}
 use Rattle.pdb_base.proofs.Places.{is_cstring}
 use Rattle.pdb_symbols.specs.FormTable.{read_of}
 use Rattle.pdb_symbols.specs.Kinds.{row}
 use Rattle.pdb_symbols.specs.Parts.{offset_at, name_at}
-use Rattle.pdb_resolve.specs.PublicNames.{PublicAt, nearer, public_of, public_said, stands_upto}
+use Rattle.pdb_resolve.specs.PublicNames.{PublicAt, nearer, public_of, public_said}
 use Rattle.pdb_resolve.specs.PublicPlaces.{IsPublicAt}
 use Rattle.pdb_resolve.specs.PublicTable.{if_upto, public_parts}
 

@@ -1,5 +1,5 @@
 -- Words of private functions, and what is kept of a module.
-use Rattle.std.specs.Prelude.{◌≡◌, ◌<◌, ◌≤◌, find, filter_map, get_or, length, drop, ℕ, nat_le, nat_lt, if◌then◌else◌, List, [], ◌∷◌, ◌++◌, Option, Some, None, Result, ◌==◌, map}
+use Rattle.std.specs.Prelude.{◌≡◌, ◌<◌, ◌≤◌, ◌-◌, find, filter_map, get_or, length, drop, ℕ, nat_le, nat_lt, if◌then◌else◌, List, [], ◌∷◌, ◌++◌, Option, Some, None, Result, ◌==◌, map}
 use Rattle.std.specs.List.Sorted.{IsNonDecreasingBy}
 use Rattle.std.specs.Ordering.{nat_cmp}
 use Rattle.std.specs.BTreeMap.{BTreeMap, get}
@@ -37,6 +37,15 @@ shown_role Passed = passed
 -- what a site's record is to the code, whose annotations begin at a place
 abbrev pub site_role : ℕ → List ℕ → Role
 site_role from b = if nat_le from (length b) then at_site (number b 10 4) (drop from b) else passed
+
+-- what a procedure's record is to the code, by the places of its numbers
+abbrev pub procedure_role : List ℕ → Role
+procedure_role b = at_procedure (record { offset = number b 30 4; section = number b 34 2 }) (number b 14 4) (number b 6 4)
+
+-- a record has a byte of a name behind the numbers of a procedure, and its last byte is zero
+pub record EndsInZero (b : List ℕ) : Type 0 where
+  pub long : 38 ≤ length b
+  pub zero : number b (length b - 1) 1 ≡ 0
 
 abbrev pub shown_call : InlinedCall → Call
 shown_call c = record { id = c.id.0; line = c.line }

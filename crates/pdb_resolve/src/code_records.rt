@@ -1,6 +1,6 @@
 //! The symbol records of a module that may be code; most are none, and are passed over.
 
-ghost use Rattle.std.specs.Prelude.{◌≡◌, ◌≤◌, ◌<◌, ◌^◌, ◌∷◌, [], false, true, None, length, IfSome, IfNone, IsTrue, ◌+◌, ◌↔◌};
+ghost use Rattle.std.specs.Prelude.{◌≡◌, ◌≤◌, ◌<◌, ◌^◌, ◌∷◌, [], false, true, None, length, IfSome, IfNone, IsTrue, ◌+◌};
 ghost use Rattle.pdb.specs.Forms.{kind_at};
 ghost use Rattle.pdb.specs.SymbolList.{symbols};
 ghost use Rattle.pdb.specs.Tiling.{listing};
@@ -47,7 +47,8 @@ fn is_code_kind(kind: u16) -> bool
     )
 }
 
-/// The same, where those of variables are seen first: most symbols of a module are variables.
+/// The same, where those of variables are seen first, and then those of sites and of their ends: most symbols of a module
+/// are such.
 #[inline(always)]
 pub(crate) fn may_be_code(kind: u16) -> bool
     ensures { result ≡ is_code_kind kind }
@@ -55,38 +56,31 @@ pub(crate) fn may_be_code(kind: u16) -> bool
     if is_of_variables(kind) {
         return false;
     }
-    is_code_kind(kind)
-}
-
-/// Whether a record has a kind, and so many bytes behind it at most. One comparison shows both: most records fit.
-#[inline(always)]
-fn fits(length: usize, behind: usize) -> bool
-    requires { behind < 2 ^ 32 }
-    ensures { IsTrue result ↔ (2 ≤ length) × (length ≤ behind + 2) }
-{
-    length.wrapping_sub(2) <= behind
+    match kind {
+        0x114d => true,
+        0x114e => false,
+        _ => is_code_kind(kind),
+    }
 }
 
 /// The bytes of the record at an offset, its kind among them; none where no whole record is there.
 #[inline(always)]
-#[tactic(auto, using(crate::proofs::CodeRecords::no_head, crate::proofs::CodeRecords::no_record, crate::proofs::CodeRecords::a_record))]
+#[tactic(auto, using(crate::proofs::CodeRecords::no_head, crate::proofs::CodeRecords::no_record, crate::proofs::CodeRecords::short_record, crate::proofs::CodeRecords::a_record))]
 fn whole_record(bytes: &[u8], at: usize) -> Option<&[u8]>
     requires inside { at ≤ length bytes.now }
     requires small { length bytes.now < 2 ^ 32 }
     ensures some { IfSome result (λ s. IsRecord bytes.entry.now at s.now) }
     ensures none { IfNone result (symbols.piece bytes.entry.now at ≡ None) }
 {
-    let left = bytes.len() - at;
-    if left < 4 {
+    if bytes.len() < 4 || at > bytes.len() - 4 {
         return None;
     }
     let length = usize::from(u16_at(bytes, at));
-    if !fits(length, left - 4) {
+    let end = at + 2 + length;
+    if length < 2 || end > bytes.len() {
         return None;
     }
-    let (_, behind) = bytes.split_at(at + 2);
-    let (record, _) = behind.split_at(length);
-    Some(record)
+    Some(&bytes[at + 2..end])
 }
 
 /// The next record that may be code, from an offset on, which then stands behind it. None where the list ends or has

@@ -1,18 +1,18 @@
 //! The role of a symbol record in the code of a module.
 
-ghost use Rattle.std.specs.Prelude.{◌≡◌, ◌≤◌, false, IfOk, IfErr};
-ghost use Rattle.pdb.specs.Forms.{record_at};
+ghost use Rattle.std.specs.Prelude.{◌≡◌, ◌≤◌, ◌⊎◌, false, IfOk, IfErr, IfSome};
+ghost use Rattle.pdb.specs.Forms.{kind_at, record_at};
 ghost use Rattle.pdb.specs.Views.{symbol_of};
 ghost use Rattle.pdb_resolve.specs.ModuleCode.{is_managed, is_trampoline, role};
 ghost use Rattle.pdb_resolve.specs.ModuleCode.Role.{passed};
-ghost use Rattle.pdb_resolve.specs.Kept.{shown_role, site_role};
+ghost use Rattle.pdb_resolve.specs.Kept.{EndsInZero, procedure_role, shown_role, site_role};
 
 use crate::code_records::may_be_code;
 use pdb::{
     BinaryAnnotations, Error, IdIndex, InlineSiteSymbol, PdbInternalSectionOffset, Result, Symbol,
     SymbolData, SymbolIndex,
 };
-use pdb_base::little_endian::u32_at;
+use pdb_base::little_endian::{u8_at, u16_at, u32_at};
 use std::alloc::Global;
 
 /// A piece of code: where it begins, how many bytes it has, and the symbol that ends its scope.
@@ -84,6 +84,26 @@ fn parsed_role<'t>(alloc: Global, symbol: &Symbol<'t>) -> Result<Role<'t>>
     }
 }
 
+/// The code of a procedure, by the places of the numbers in its record. None where the record's last byte isn't zero:
+/// then its name may not end, and all of it has to be read.
+#[inline]
+fn procedure_span(bytes: &[u8]) -> Option<Span>
+    ensures span { IfSome result (λ s. shown_role (Role.Procedure s) ≡ procedure_role bytes.now) }
+    ensures ends { IfSome result (λ _. EndsInZero bytes.now) }
+{
+    if bytes.len() < 38 {
+        return None;
+    }
+    if u8_at(bytes, bytes.len() - 1) != 0 {
+        return None;
+    }
+    Some(Span {
+        place: PdbInternalSectionOffset::new(u16_at(bytes, 34), u32_at(bytes, 30)),
+        length: u32_at(bytes, 14),
+        end: SymbolIndex(u32_at(bytes, 6)),
+    })
+}
+
 /// Whether a symbol may have a role.
 #[inline(always)]
 #[tactic(auto, using(crate::proofs::CodeKinds::passed_over))]
@@ -121,6 +141,20 @@ fn other_role<'t>(alloc: Global, symbol: &Symbol<'t>) -> Result<Role<'t>>
     parsed_role(alloc, symbol)
 }
 
+/// The role of a symbol of one of the two usual kinds of procedures; out of memory is passed on.
+#[inline]
+#[tactic(auto, using(crate::proofs::ProcedureRecords::procedure_read))]
+fn usual_procedure<'t>(alloc: Global, symbol: &Symbol<'t>) -> Result<Role<'t>>
+    requires { (kind_at (symbol_of symbol.now).bytes ≡ 0x110f) ⊎ (kind_at (symbol_of symbol.now).bytes ≡ 0x1110) }
+    ensures is { IfOk result (λ h. shown_role h ≡ role (record_at (symbol_of symbol.now).bytes)) }
+    ensures refused { IfErr result (λ e. e ≡ Error.OutOfMemory) }
+{
+    match procedure_span(symbol.raw_bytes()) {
+        Some(span) => Ok(Role::Procedure(span)),
+        None => other_role(alloc, symbol),
+    }
+}
+
 /// The role of a symbol; out of memory is passed on.
 #[inline(always)]
 pub(crate) fn role_of<'t>(alloc: Global, symbol: &Symbol<'t>) -> Result<Role<'t>>
@@ -130,6 +164,7 @@ pub(crate) fn role_of<'t>(alloc: Global, symbol: &Symbol<'t>) -> Result<Role<'t>
     match symbol.raw_kind() {
         0x114d => Ok(site_role(symbol.raw_bytes(), 14)),
         0x115d => Ok(site_role(symbol.raw_bytes(), 18)),
+        0x110f | 0x1110 => usual_procedure(alloc, symbol),
         _ => other_role(alloc, symbol),
     }
 }

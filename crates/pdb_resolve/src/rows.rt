@@ -245,7 +245,11 @@ pub(crate) fn rows_of<'t>(alloc: Global, symbols: &'t [u8], is_there: bool) -> R
     };
     let mut at = symbols.len().min(4);
     while let Some(symbol) = next_code(symbols, &mut at) {
-        add(alloc, &mut rows, symbol)?;
+        // Out of memory is the only error here. To pass on what came would copy an error for each symbol.
+        match add(alloc, &mut rows, symbol) {
+            Ok(()) => {}
+            Err(_) => return Err(Error::OutOfMemory),
+        }
     }
     rows.is_whole = are_both(is_there, at == symbols.len());
     Ok(rows)

@@ -1,4 +1,4 @@
-use Rattle.std.proofs.Common.{sym, ◌∙◌, arith}
+use Rattle.std.proofs.Common.{sym, ◌∙◌}
 use Rattle.pdb_resolve.proofs.PublicPlaces.{place_is}
 use Rattle.pdb_resolve.proofs.publics.quick_place.Goals as goal
 

@@ -1,5 +1,5 @@
 use Rattle.std.proofs.Common.{sym, ap, ◌∙◌}
-use Rattle.std.specs.Prelude.{option_copied, slice_get}
+use Rattle.std.specs.Prelude.{option_copied}
 use Rattle.pdb_resolve.proofs.WholeParts.{whole_absent, whole_read, whole_unread}
 use Rattle.pdb_resolve.proofs.modules.Modules.is_whole.Goals as goal
 
