@@ -220,7 +220,7 @@ fn is_all_held(held: &Held, slice: SourceSlice) -> bool
     is_held(held, inside(held.size(), slice))
 }
 
-/// Whether all of the slices is held, as far as the file has them.
+/// Whether all of the slices are held, as far as the file has them.
 pub fn are_held(held: &Held, slices: &[SourceSlice]) -> bool
     ensures { (result ≡ true) ↔ All (IsAllHeld held.now) slices.now }
 {

@@ -108,7 +108,7 @@ pub fn list_in_parts<R: ReadAt, W: Write>(
         → IsErrAnd (opens G) (λ e. n ≡ number_of e)) }
     ensures write { ForSome (R.known input.now) (λ G. length G ≡ size → IsErrOf result Fault.Write
         → WroteFront (W.contents out.old) (W.contents out.new) (texts G commands.now)) }
-    // A reader that works gives no read error, but for a file over a TiB.
+    // A reader that does not fail gives no read error, unless the file has more than 1 TiB.
     ensures steady { R.is_steady input.now ≡ true → ForSome (R.known input.now) (λ G. length G ≡ size → size ≤ 1099511627776 → IsErrOf result Fault.Read → ⊥) }
 {
     if size > MOST_BYTES as u64 {
