@@ -94,7 +94,9 @@ fn what_is_missed_is_read(rt: HostRuntime) -> Result<(), Fail> {
     assert!(rt; held.count() == 2 && fetched.rounds == 1);
     // From 0 to 70200, and from 250000 to the file's end.
     assert!(rt; fetched.bytes == 70200 + 50000);
-    assert!(rt; are_held(&held, &missing) && are_held(&held, &[slice(299999, 7), slice(300007, 7)]));
+    assert!(rt;
+        are_held(&held, &missing) && are_held(&held, &[slice(299999, 7), slice(300007, 7)])
+    );
     assert!(rt; !are_held(&held, &[slice(0, 4), slice(70199, 2)]));
     let view = HeldSource::new(&held, &mut missed, &AnyFile)
         .view(alloc, &missing)
