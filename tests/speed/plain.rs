@@ -227,10 +227,13 @@ fn site(out: &mut Vec<u8>, b: &[u8], (section, start): (u16, u32), (file, first)
     }
 }
 
-/// The one part of a kind, where there is but one part.
+/// The first part of a kind.
 fn part(b: &[u8], kind: u32) -> &[u8] {
-    assert!(u32_at(b, 0) == kind);
-    &b[8..8 + u32_at(b, 4) as usize]
+    let mut at = 0;
+    while u32_at(b, at) != kind {
+        at += 8 + (u32_at(b, at + 4) as usize + 3 & !3);
+    }
+    &b[at + 8..at + 8 + u32_at(b, at + 4) as usize]
 }
 
 fn files(out: &mut Vec<u8>, b: &[u8]) {

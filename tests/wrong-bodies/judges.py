@@ -2,7 +2,8 @@
 definitions that this file cites and those that they cite, the contracts of the functions that it calls, the types and
 constants that it names, and the traits that any of these name; all from files and crates that it brings in, or that those
 bring in.
-Comments decide nothing."""
+Comments decide nothing. Nor do private fields of another crate's type that contracts see as a value, nor how the value
+comes from them: outside of its crate the value alone is seen."""
 import os
 import re
 
@@ -12,6 +13,10 @@ CONSTANT = re.compile(r"(?m)^[ \t]*(pub(?:\([a-z]+\))? )?(?:const|static) ([A-Z_
 TYPE = re.compile(r"(?m)^(pub(?:\([a-z]+\))? )?(?:struct|enum) (\w+)")
 TRAIT = re.compile(r"(?m)^(?:pub(?:\([a-z]+\))? )?trait \w+")
 MODEL = re.compile(r"(?m)^(impl)\b[^\n{]*\bModel for (\w+)")
+VALUE = re.compile(r"(?m)^    ghost Value = ")
+# What another crate doesn't see of a type that has a value: private fields, how the value comes from them, what they keep.
+UNSEEN_FIELD = re.compile(r"(?m)^[ \t]+(?!pub |[ \t])[^\n]*\n")
+UNSEEN_MEMBER = re.compile(r"(?ms)^    ghost (?:use [^;]*;|(?:view|invariant) = \{.*?\};)\n+")
 # Where a block ends: at a brace at the line's begin; that of a type perhaps at a semicolon, since it may have no fields.
 BRACE = re.compile(r"(?m)^\}")
 BRACE_OR_SEMICOLON = re.compile(r"(?m);$|^\}")
@@ -128,8 +133,13 @@ class Source:
         self.origins = dict(brought_in(text))
         found = [(it, it[0]) for kind in (FUNCTION, CONSTANT) for it in kind.finditer(text)]
         self.free = {it[0] for it in FUNCTION.finditer(text) if not it[0][0].isspace()}
-        found += [(it, block_at(text, it.start())) for it in TYPE.finditer(text)]
-        found += [(it, block_at(text, it.start(), BRACE)) for it in MODEL.finditer(text)]
+        models = [(it, block_at(text, it.start(), BRACE)) for it in MODEL.finditer(text)]
+        types = [(it, block_at(text, it.start())) for it in TYPE.finditer(text)]
+        if not is_own:
+            values = {it[2] for it, block in models if VALUE.search(block)}
+            models = [(it, UNSEEN_MEMBER.sub("", block) if it[2] in values else block) for it, block in models]
+            types = [(it, UNSEEN_FIELD.sub("", block) if it[2] in values else block) for it, block in types]
+        found += types + models
         seen = ("pub ", "impl", "pub(crate) ", "pub(super) ") if is_own else ("pub ", "impl")
         self.items = [(it[2], item) for it, item in found if it[1] in seen]
 

@@ -1,5 +1,5 @@
 -- What each accessor answers for a file: a function of the file and of the call's arguments, whatever was called before.
-use Rattle.std.specs.Prelude.{◌≡◌, ℕ, List, [], ◌∷◌, Option, Some, None, Result, Ok, Err, ◌==◌, if◌then◌else◌, codes}
+use Rattle.std.specs.Prelude.{◌≡◌, ℕ, true, List, [], ◌∷◌, Option, Some, None, Result, Ok, Err, ◌==◌, if◌then◌else◌, codes}
 use Rattle.std.specs.Option.{unwrap_or, option_map}
 use Rattle.std.specs.List.{slice_get}
 use Rattle.pdb_base.specs.declared.error.Error.{Error}
@@ -209,7 +209,7 @@ pub record Made : Type 0 where
 -- what the contract of an accessor says of a call, which goes on from the state before it
 pub record GoesOn (m : Made) : Type 0 where
   pub continues : Continues m.before m.behind
-  pub answers : Gives (λ x. x) (MayFail m.before m.behind) m.given (answer m.before.file m.call)
+  pub answers : m.behind.told ≡ true → Gives (λ x. x) (MayFail m.before m.behind) m.given (answer m.before.file m.call)
 
 -- a call that gave this, seen by view
 abbrev pub made : {X : Type 0} → State → State → (call : Call) → (X → Seen call) → Result X Error → Made
@@ -220,6 +220,7 @@ abbrev pub AreMade : State → List Made → Type 0
 AreMade old [] = Unit {0}
 AreMade old (m ∷ others) = (m.before ≡ old) × GoesOn m × AreMade m.behind others
 
--- what a call gave is its answer for this file alone, or want of memory, or the failure that its source told in that call
+-- what a call gave is its answer for this file alone, or want of memory, or the failure that its source told in that call,
+-- where all that was read is the file's
 abbrev pub IsAnswered : List ℕ → Made → Type 0
-IsAnswered file m = Gives (λ x. x) (MayFail m.before m.behind) m.given (answer file m.call)
+IsAnswered file m = m.behind.told ≡ true → Gives (λ x. x) (MayFail m.before m.behind) m.given (answer file m.call)

@@ -1,9 +1,9 @@
 //! The key under which a symbol server has a file.
 
-ghost use Rattle.std.specs.Prelude.{◌≡◌, ◌<◌, ◌++◌, flat_map, false, true, Ok, IfOk, OnOk};
+ghost use Rattle.std.specs.Prelude.{◌≡◌, ◌<◌, ◌++◌, flat_map, false, true, Ok, IfOk, OnOk, IsErrOf};
 ghost use Rattle.std.specs.Fmt.{digits, digit_glyph};
 ghost use Rattle.pdb_base.specs.Refusal.{Gives};
-ghost use Rattle.pdb_base.specs.Source.{Continues, MayFail};
+ghost use Rattle.pdb_base.specs.Source.{Continues, IsKnown, MayFail};
 ghost use Rattle.pdb.specs.Keys.{age_of_file, byte_text, key_in, key_of_file, key_text};
 
 use crate::pdb::PDB;
@@ -55,7 +55,8 @@ pub fn key_text(
 /// The age that the header of the DBI stream has, or else `other`.
 fn age<'s, S: Source<'s>>(pdb: &mut PDB<'s, S>, other: u32) -> Result<u32>
     ensures continues { Continues pdb.old pdb.new }
-    ensures answer { Gives (λ n. n) (MayFail pdb.old pdb.new) result (Ok (age_of_file pdb.old.file other)) }
+    ensures failed { IsErrOf result Error.IoError → MayFail pdb.old pdb.new }
+    ensures answer { pdb.new.told ≡ true → Gives (λ n. n) (MayFail pdb.old pdb.new) result (Ok (age_of_file pdb.old.file other)) }
 {
     match pdb.dbi_header() {
         Ok(header) if header.age != 0 => Ok(header.age),
@@ -75,7 +76,8 @@ fn age<'s, S: Source<'s>>(pdb: &mut PDB<'s, S>, other: u32) -> Result<u32>
 #[tactic(auto, unfolding(crate::specs::Keys::key_in))]
 pub fn key_in<'s, S: Source<'s>>(alloc: Global, pdb: &mut PDB<'s, S>) -> Result<Vec<u8>>
     ensures continues { Continues pdb.old pdb.new }
-    ensures answer { Gives (λ v. v.items) (MayFail pdb.old pdb.new) result (key_in pdb.old.file) }
+    ensures failed { IsErrOf result Error.IoError → MayFail pdb.old pdb.new }
+    ensures answer { pdb.new.told ≡ true → Gives (λ v. v.items) (MayFail pdb.old pdb.new) result (key_in pdb.old.file) }
 {
     let information = pdb.pdb_information()?;
     let age = age(pdb, information.age)?;
@@ -86,7 +88,8 @@ pub fn key_in<'s, S: Source<'s>>(alloc: Global, pdb: &mut PDB<'s, S>) -> Result<
 /// The key of a source's file, as `key_in` has it. A further error is that with which the file can't be opened.
 #[tactic(auto, unfolding(crate::specs::Keys::key_of_file))]
 pub fn key_of<'s, S: Source<'s>>(alloc: Global, source: S) -> Result<Vec<u8>>
-    ensures { (S.state source).steady ≡ true → Gives (λ v. v.items) ((S.state source).steady ≡ false) result (key_of_file (S.state source).file) }
+    ensures failed { IsErrOf result Error.IoError → (S.state source).steady ≡ false }
+    ensures key { IsKnown (S.state source) → Gives (λ v. v.items) ((S.state source).steady ≡ false) result (key_of_file (S.state source).file) }
 {
     let mut pdb = PDB::open(alloc, source)?;
     key_in(alloc, &mut pdb)

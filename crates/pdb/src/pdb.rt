@@ -1,9 +1,9 @@
 //! An opened PDB file, and its streams.
 
-ghost use Rattle.std.specs.Prelude.{◌≡◌, ◌≢◌, ℕ, List, Ok, IfOk, IfErr, false, None};
+ghost use Rattle.std.specs.Prelude.{◌≡◌, ◌≢◌, ℕ, List, Ok, IfOk, IfErr, IsErrOf, false, true, None};
 ghost use Rattle.std.specs.Option.{option_map};
 ghost use Rattle.pdb_base.specs.Refusal.{Gives};
-ghost use Rattle.pdb_base.specs.Source.{State, Continues, MayFail};
+ghost use Rattle.pdb_base.specs.Source.{State, Continues, MayFail, IsKnown};
 ghost use Rattle.pdb_base.specs.Container.{opens, stream_of, stream_count as count_in, stream_size as size_in};
 ghost use Rattle.pdb_dbi.specs.Header.{header_in};
 ghost use Rattle.pdb_dbi.specs.DbiViews.{information};
@@ -56,13 +56,14 @@ pub struct PDB<'s, S: Meaning> {
 
 impl<'s, S: Meaning> Model for PDB<'s, S> {
     ghost use Rattle.pdb_base.specs.Source.{State};
+    ghost use Rattle.std.specs.Prelude.{◌≡◌, true};
     ghost use Rattle.pdb.specs.Answers.{AreKept};
 
     ghost Value = { State };
 
     ghost view = { λ p. p.msf };
 
-    ghost invariant = { λ p. AreKept p.msf.file p.header p.extra_streams };
+    ghost invariant = { λ p. p.msf.told ≡ true → AreKept p.msf.file p.header p.extra_streams };
 }
 
 impl<'s, S: Source<'s>> PDB<'s, S> {
@@ -70,7 +71,9 @@ impl<'s, S: Source<'s>> PDB<'s, S> {
     /// file of the format MSF 7.00, `UnimplementedFeature` for one of version 2.00, and `InvalidPageSize`.
     pub fn open(alloc: Global, source: S) -> Result<Self>
         ensures continues { IfOk result (λ pdb. Continues (S.state source) pdb) }
-        ensures opened { Gives (λ _. tt) ((S.state source).steady ≡ false) result (opens (S.state source).file) }
+        ensures failed { IsErrOf result Error.IoError → (S.state source).steady ≡ false }
+        ensures opened { IfOk result (λ pdb. pdb.told ≡ true → opens (S.state source).file ≡ Ok tt) }
+        ensures answer { IsKnown (S.state source) → Gives (λ _. tt) ((S.state source).steady ≡ false) result (opens (S.state source).file) }
     {
         Ok(PDB {
             alloc,
@@ -83,7 +86,7 @@ impl<'s, S: Source<'s>> PDB<'s, S> {
     /// How many views of the source failed so far.
     pub fn failures(&self) -> u64
         ensures failures { result ≡ self.now.failures }
-        ensures opened { opens self.now.file ≡ Ok tt }
+        ensures opened { self.now.told ≡ true → opens self.now.file ≡ Ok tt }
     {
         self.msf.failures()
     }
@@ -91,7 +94,7 @@ impl<'s, S: Source<'s>> PDB<'s, S> {
     /// Whether no view of the source can fail.
     pub fn steady(&self) -> bool
         ensures steady { result ≡ self.now.steady }
-        ensures opened { opens self.now.file ≡ Ok tt }
+        ensures opened { self.now.told ≡ true → opens self.now.file ≡ Ok tt }
     {
         self.msf.steady()
     }
@@ -99,8 +102,9 @@ impl<'s, S: Source<'s>> PDB<'s, S> {
     /// How many streams the directory lists, absent ones too. `UnexpectedEof` where the directory ends before their
     /// sizes do.
     pub fn stream_count(&self) -> Result<u32>
-        ensures count { Gives (λ n. n) ⊥ result (count_in self.now.file) }
+        ensures count { self.now.told ≡ true → Gives (λ n. n) ⊥ result (count_in self.now.file) }
         ensures memory { IfErr result (λ e. e ≢ Error.OutOfMemory) }
+        ensures read { IfErr result (λ e. e ≢ Error.IoError) }
     {
         self.msf.stream_count()
     }
@@ -108,8 +112,9 @@ impl<'s, S: Source<'s>> PDB<'s, S> {
     /// How many bytes a stream has, by the directory. `StreamNotFound` where there is no such stream or it is absent,
     /// and `UnexpectedEof` where the directory ends before the sizes do.
     pub fn stream_size(&self, number: u32) -> Result<u32>
-        ensures size { Gives (λ n. n) ⊥ result (size_in self.now.file number) }
+        ensures size { self.now.told ≡ true → Gives (λ n. n) ⊥ result (size_in self.now.file number) }
         ensures memory { IfErr result (λ e. e ≢ Error.OutOfMemory) }
+        ensures read { IfErr result (λ e. e ≢ Error.IoError) }
     {
         self.msf.stream_size(number)
     }
@@ -119,7 +124,8 @@ impl<'s, S: Source<'s>> PDB<'s, S> {
     #[tactic(auto, unfolding(crate::specs::Answers::information_in))]
     pub fn pdb_information(&mut self) -> Result<PDBInformation<'s>>
         ensures continues { Continues self.old self.new }
-        ensures answer { Gives information (MayFail self.old self.new) result (information_in self.old.file) }
+        ensures failed { IsErrOf result Error.IoError → MayFail self.old self.new }
+        ensures answer { self.new.told ≡ true → Gives information (MayFail self.old self.new) result (information_in self.old.file) }
     {
         let stream = self.msf.get(INFORMATION_STREAM, None)?;
         PDBInformation::parse(stream)
@@ -130,7 +136,8 @@ impl<'s, S: Source<'s>> PDB<'s, S> {
     #[tactic(auto, unfolding(crate::specs::Answers::named_stream_in))]
     pub fn named_stream(&mut self, name: &[u8]) -> Result<Stream<'s>>
         ensures continues { Continues self.old self.new }
-        ensures answer { Gives (λ s. s) (MayFail self.old self.new) result (named_stream_in self.old.file name.now) }
+        ensures failed { IsErrOf result Error.IoError → MayFail self.old self.new }
+        ensures answer { self.new.told ≡ true → Gives (λ s. s) (MayFail self.old self.new) result (named_stream_in self.old.file name.now) }
     {
         let information = self.pdb_information()?;
         let names = information.stream_names(self.alloc)?;
@@ -142,7 +149,8 @@ impl<'s, S: Source<'s>> PDB<'s, S> {
     fn listed_stream(&mut self, index: StreamIndex, refusal: Error) -> Result<Stream<'s>>
         requires { refusal ≢ Error.IoError }
         ensures continues { Continues self.old self.new }
-        ensures answer { Gives (λ s. s) (MayFail self.old self.new) result (listed_stream_in self.old.file index.0 refusal) }
+        ensures failed { IsErrOf result Error.IoError → MayFail self.old self.new }
+        ensures answer { self.new.told ≡ true → Gives (λ s. s) (MayFail self.old self.new) result (listed_stream_in self.old.file index.0 refusal) }
     {
         match index.msf_number() {
             Some(number) => self.msf.get(number, None),
@@ -154,7 +162,8 @@ impl<'s, S: Source<'s>> PDB<'s, S> {
     #[tactic(auto, unfolding(pdb_dbi::specs::Header::header_in))]
     pub(crate) fn dbi_header(&mut self) -> Result<DBIHeader>
         ensures continues { Continues self.old self.new }
-        ensures header { Gives (λ h. h) (MayFail self.old self.new) result (header_in self.old.file (Some 1024)) }
+        ensures failed { IsErrOf result Error.IoError → MayFail self.old self.new }
+        ensures header { self.new.told ≡ true → Gives (λ h. h) (MayFail self.old self.new) result (header_in self.old.file (Some 1024)) }
     {
         if let Some(header) = self.header {
             return Ok(header);
@@ -170,7 +179,8 @@ impl<'s, S: Source<'s>> PDB<'s, S> {
     #[tactic(auto, unfolding(crate::specs::Answers::debug_information_in))]
     pub fn debug_information(&mut self) -> Result<DebugInformation<'s>>
         ensures continues { Continues self.old self.new }
-        ensures answer { Gives (λ d. d) (MayFail self.old self.new) result (debug_information_in self.old.file) }
+        ensures failed { IsErrOf result Error.IoError → MayFail self.old self.new }
+        ensures answer { self.new.told ≡ true → Gives (λ d. d) (MayFail self.old self.new) result (debug_information_in self.old.file) }
     {
         let stream = self.msf.get(DBI_STREAM, None)?;
         let information = DebugInformation::parse(stream)?;
@@ -183,7 +193,8 @@ impl<'s, S: Source<'s>> PDB<'s, S> {
     #[tactic(auto, using(pdb_base::proofs::Passing::may_after), unfolding(crate::specs::Answers::global_symbols_in))]
     pub fn global_symbols(&mut self) -> Result<SymbolTable<'s>>
         ensures continues { Continues self.old self.new }
-        ensures answer { Gives (λ t. t) (MayFail self.old self.new) result (global_symbols_in self.old.file) }
+        ensures failed { IsErrOf result Error.IoError → MayFail self.old self.new }
+        ensures answer { self.new.told ≡ true → Gives (λ t. t) (MayFail self.old self.new) result (global_symbols_in self.old.file) }
     {
         let header = self.dbi_header()?;
         let records = header.symbol_records_stream;
@@ -194,7 +205,8 @@ impl<'s, S: Source<'s>> PDB<'s, S> {
     /// The stream of type records, stream 2.
     pub fn type_information(&mut self) -> Result<TypeInformation<'s>>
         ensures continues { Continues self.old self.new }
-        ensures answer { Gives (λ t. t) (MayFail self.old self.new) result (stream_of self.old.file 2 None) }
+        ensures failed { IsErrOf result Error.IoError → MayFail self.old self.new }
+        ensures answer { self.new.told ≡ true → Gives (λ t. t) (MayFail self.old self.new) result (stream_of self.old.file 2 None) }
     {
         Ok(TypeInformation::new(self.msf.get(TYPE_STREAM, None)?))
     }
@@ -202,7 +214,8 @@ impl<'s, S: Source<'s>> PDB<'s, S> {
     /// The stream of id records, stream 4.
     pub fn id_information(&mut self) -> Result<IdInformation<'s>>
         ensures continues { Continues self.old self.new }
-        ensures answer { Gives (λ i. i) (MayFail self.old self.new) result (stream_of self.old.file 4 None) }
+        ensures failed { IsErrOf result Error.IoError → MayFail self.old self.new }
+        ensures answer { self.new.told ≡ true → Gives (λ i. i) (MayFail self.old self.new) result (stream_of self.old.file 4 None) }
     {
         Ok(IdInformation::new(self.msf.get(ID_STREAM, None)?))
     }
@@ -211,7 +224,8 @@ impl<'s, S: Source<'s>> PDB<'s, S> {
     #[tactic(auto, using(pdb_base::proofs::Passing::may_after), unfolding(crate::specs::Answers::extra_streams_of_file))]
     fn extra_streams(&mut self) -> Result<DBIExtraStreams>
         ensures continues { Continues self.old self.new }
-        ensures answer { Gives (λ x. x) (MayFail self.old self.new) result (extra_streams_of_file self.old.file) }
+        ensures failed { IsErrOf result Error.IoError → MayFail self.old self.new }
+        ensures answer { self.new.told ≡ true → Gives (λ x. x) (MayFail self.old self.new) result (extra_streams_of_file self.old.file) }
     {
         if let Some(extra_streams) = self.extra_streams {
             return Ok(extra_streams);
@@ -226,7 +240,8 @@ impl<'s, S: Source<'s>> PDB<'s, S> {
     #[tactic(auto, using(pdb_base::proofs::Passing::may_after), unfolding(crate::specs::Answers::headers_in))]
     fn headers(&mut self, index: StreamIndex) -> Result<Option<Vec<ImageSectionHeader>>>
         ensures continues { Continues self.old self.new }
-        ensures answer { Gives (option_map (λ v. v.items)) (MayFail self.old self.new) result (headers_in self.old.file index.0) }
+        ensures failed { IsErrOf result Error.IoError → MayFail self.old self.new }
+        ensures answer { self.new.told ≡ true → Gives (option_map (λ v. v.items)) (MayFail self.old self.new) result (headers_in self.old.file index.0) }
     {
         let Some(stream) = self.raw_stream(index)? else {
             return Ok(None);
@@ -241,7 +256,8 @@ impl<'s, S: Source<'s>> PDB<'s, S> {
     #[tactic(auto, using(pdb_base::proofs::Passing::may_after), unfolding(crate::specs::Answers::sections_in))]
     pub fn sections(&mut self) -> Result<Option<Vec<ImageSectionHeader>>>
         ensures continues { Continues self.old self.new }
-        ensures answer { Gives (option_map (λ v. v.items)) (MayFail self.old self.new) result (sections_in self.old.file) }
+        ensures failed { IsErrOf result Error.IoError → MayFail self.old self.new }
+        ensures answer { self.new.told ≡ true → Gives (option_map (λ v. v.items)) (MayFail self.old self.new) result (sections_in self.old.file) }
     {
         let extra_streams = self.extra_streams()?;
         self.headers(extra_streams.section_headers)
@@ -251,7 +267,8 @@ impl<'s, S: Source<'s>> PDB<'s, S> {
     #[tactic(auto, using(pdb_base::proofs::Passing::may_after), unfolding(crate::specs::Answers::frame_table_in))]
     pub fn frame_table(&mut self) -> Result<FrameTable<'s>>
         ensures continues { Continues self.old self.new }
-        ensures answer { Gives (λ t. t) (MayFail self.old self.new) result (frame_table_in self.old.file) }
+        ensures failed { IsErrOf result Error.IoError → MayFail self.old self.new }
+        ensures answer { self.new.told ≡ true → Gives (λ t. t) (MayFail self.old self.new) result (frame_table_in self.old.file) }
     {
         let extra_streams = self.extra_streams()?;
         let old_stream = self.raw_stream(extra_streams.fpo)?;
@@ -264,7 +281,8 @@ impl<'s, S: Source<'s>> PDB<'s, S> {
     #[tactic(auto, using(pdb_base::proofs::Passing::may_after), unfolding(crate::specs::Answers::address_map_in))]
     pub fn address_map(&mut self) -> Result<AddressMap<'s>>
         ensures continues { Continues self.old self.new }
-        ensures answer { Gives (λ m. m) (MayFail self.old self.new) result (address_map_in self.old.file) }
+        ensures failed { IsErrOf result Error.IoError → MayFail self.old self.new }
+        ensures answer { self.new.told ≡ true → Gives (λ m. m) (MayFail self.old self.new) result (address_map_in self.old.file) }
     {
         let extra_streams = self.extra_streams()?;
         let sections = match self.headers(extra_streams.section_headers)? {
@@ -286,7 +304,8 @@ impl<'s, S: Source<'s>> PDB<'s, S> {
         original: Vec<ImageSectionHeader>,
     ) -> Result<AddressMap<'s>>
         ensures continues { Continues self.old self.new }
-        ensures answer { Gives (λ m. m) (MayFail self.old self.new) result (transformed_in self.old.file extra_streams sections.items original.items) }
+        ensures failed { IsErrOf result Error.IoError → MayFail self.old self.new }
+        ensures answer { self.new.told ≡ true → Gives (λ m. m) (MayFail self.old self.new) result (transformed_in self.old.file extra_streams sections.items original.items) }
     {
         let missing = Error::AddressMapNotFound;
         let from_src = self.listed_stream(extra_streams.omap_from_src, missing)?;
@@ -300,7 +319,8 @@ impl<'s, S: Source<'s>> PDB<'s, S> {
     #[tactic(auto, using(pdb_base::proofs::Passing::answers_give), unfolding(crate::specs::Answers::string_table_in))]
     pub fn string_table(&mut self) -> Result<StringTable<'s>>
         ensures continues { Continues self.old self.new }
-        ensures answer { Gives (λ t. t) (MayFail self.old self.new) result (string_table_in self.old.file) }
+        ensures failed { IsErrOf result Error.IoError → MayFail self.old self.new }
+        ensures answer { self.new.told ≡ true → Gives (λ t. t) (MayFail self.old self.new) result (string_table_in self.old.file) }
     {
         let stream = self.named_stream(NAMES)?;
         StringTable::parse(stream)
@@ -310,7 +330,8 @@ impl<'s, S: Source<'s>> PDB<'s, S> {
     #[tactic(auto, unfolding(crate::specs::Answers::module_info_in))]
     pub fn module_info(&mut self, module: &Module<'_>) -> Result<Option<ModuleInfo<'s>>>
         ensures continues { Continues self.old self.new }
-        ensures answer { Gives (λ i. i) (MayFail self.old self.new) result (module_info_in self.old.file «module».now) }
+        ensures failed { IsErrOf result Error.IoError → MayFail self.old self.new }
+        ensures answer { self.new.told ≡ true → Gives (λ i. i) (MayFail self.old self.new) result (module_info_in self.old.file «module».now) }
     {
         let Some(stream) = self.raw_stream(module.stream())? else {
             return Ok(None);
@@ -325,7 +346,8 @@ impl<'s, S: Source<'s>> PDB<'s, S> {
     #[tactic(auto, using(pdb_base::proofs::Passing::may_after), unfolding(crate::specs::Answers::module_of_file, crate::specs::Answers::module_listed))]
     pub fn module_at(&mut self, place: usize) -> Result<Option<ModuleInfo<'s>>>
         ensures continues { Continues self.old self.new }
-        ensures answer { Gives (λ i. i) (MayFail self.old self.new) result (module_of_file self.old.file place) }
+        ensures failed { IsErrOf result Error.IoError → MayFail self.old self.new }
+        ensures answer { self.new.told ≡ true → Gives (λ i. i) (MayFail self.old self.new) result (module_of_file self.old.file place) }
     {
         let information = self.debug_information()?;
         let modules = information.modules()?;
@@ -339,7 +361,8 @@ impl<'s, S: Source<'s>> PDB<'s, S> {
     #[tactic(auto, unfolding(crate::specs::Answers::raw_stream_in))]
     pub fn raw_stream(&mut self, index: StreamIndex) -> Result<Option<Stream<'s>>>
         ensures continues { Continues self.old self.new }
-        ensures answer { Gives (λ s. s) (MayFail self.old self.new) result (raw_stream_in self.old.file index.0) }
+        ensures failed { IsErrOf result Error.IoError → MayFail self.old self.new }
+        ensures answer { self.new.told ≡ true → Gives (λ s. s) (MayFail self.old self.new) result (raw_stream_in self.old.file index.0) }
     {
         let Some(number) = index.msf_number() else {
             return Ok(None);
@@ -366,7 +389,8 @@ pub trait StreamIndexExt<P: Meaning>: Copy {
     /// The stream of this index, unparsed; none for the index of no stream. It is `PDB::raw_stream`.
     fn get(self, pdb: &mut P) -> Result<Option<Self::Stream>>
         ensures continues { Continues (P.state pdb.old) (P.state pdb.new) }
-        ensures answer { Gives (option_map stream_bytes) (MayFail (P.state pdb.old) (P.state pdb.new)) result (raw_stream_in (P.state pdb.old).file (stream_number self)) };
+        ensures failed { IsErrOf result Error.IoError → MayFail (P.state pdb.old) (P.state pdb.new) }
+        ensures answer { (P.state pdb.new).told ≡ true → Gives (option_map stream_bytes) (MayFail (P.state pdb.old) (P.state pdb.new)) result (raw_stream_in (P.state pdb.old).file (stream_number self)) };
 }
 
 impl<'s, S: Source<'s>> StreamIndexExt<PDB<'s, S>> for StreamIndex {

@@ -32,7 +32,7 @@ unless_ok : {A : Type 0} (o : Option ℕ) (x y : A) → unless_refused o x ≡ O
 unless_ok (Some page) x y e = absurd cc
 unless_ok None x y e = cc
 
-tested-length : (P used : ℕ) (pages : List ℕ) (size : ℕ) (ps : List ℕ) → tested P used pages size ≡ Ok ps → length ps ≡ size
+pub tested-length : (P used : ℕ) (pages : List ℕ) (size : ℕ) (ps : List ℕ) → tested P used pages size ≡ Ok ps → length ps ≡ size
 unfolding tested places
 tested-length P used pages size ps e = ap length (unless_ok _ (places P pages size) ps e) ∙ length-map-range_with_len (place P pages) 0 size
 

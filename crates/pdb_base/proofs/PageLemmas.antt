@@ -1,8 +1,9 @@
 -- The places of a stream, page by page.
 use Rattle.std.proofs.Common.{◌≡◌, ℕ, ◌+◌, ◌-◌, ◌*◌, ◌/◌, ◌%◌, ◌<◌, ◌≤◌, min, true, false, cond, not, List, [], ◌∷◌, ◌++◌, length, get_or, map, drop, Option, Some, None, Ok, Err, refl, sym, ap, ◌∙◌, arith, zero-add, append_assoc}
-use Rattle.std.specs.List.{range_with_len, flat_map, find}
+use Rattle.std.specs.List.{range_with_len, flat_map, sum_by, find}
 use Rattle.std.proofs.lemmas.List.{map-append, append-nil, same_lists, at_drop_more, at_drop_all}
-use Rattle.std.proofs.lemmas.List.Concat.{flat_map-append}
+use Rattle.std.proofs.lemmas.List.Concat.{flat_map-append, length-flat_map}
+use Rattle.std.proofs.lemmas.List.Sums.{sum_by-cons}
 use Rattle.std.proofs.lemmas.List.FromFn.{length-map-range_with_len, get_or-map-range_with_len, length-range_with_len, get_or-range_with_len}
 use Rattle.std.proofs.lemmas.Bool.Decides.{nat_tests}
 use Rattle.std.proofs.lemmas.Nat.{div-mul-add, mod-mul-add}
@@ -98,6 +99,15 @@ page-read bytes count k page lt e = get_or-numbers bytes 0 count k lt ∙ ap (λ
 
 pub no_page : (used page : ℕ) → (page < 1 → not (is_page used page) ≡ true) × (used ≤ page → not (is_page used page) ≡ true) × (0 < page → page < used → not (is_page used page) ≡ false)
 no_page used page = (λ h. grind (arith, nat_tests), λ h. grind (arith, nat_tests), λ g h. grind (arith, nat_tests))
+
+-- slices have as many places as they say
+pub joined-length : (ss : List SourceSlice) → length (joined_places ss) ≡ sum_by (λ s. s.size) ss
+unfolding joined_places
+joined-length ss = length-flat_map slice_places ss ∙ same ss
+  where
+    same : (ss : List SourceSlice) → sum_by (λ s. length (slice_places s)) ss ≡ sum_by (λ s. s.size) ss
+    same [] = refl
+    same (s ∷ ss) = sum_by-cons (λ s. length (slice_places s)) s ss ∙ ap (λ n. n + sum_by (λ s. length (slice_places s)) ss) (length-range_with_len s.offset s.size) ∙ ap (λ n. s.size + n) (same ss) ∙ sym (sum_by-cons (λ s. s.size) s ss)
 
 pub joined-none : (ss : List SourceSlice) (s : SourceSlice) → s.size ≤ 0 → joined_places ss ≡ joined_places ss ++ slice_places s
 joined-none ss s le = let z : s.size ≡ 0 = omega arith in let f : slice_places s ≡ [] = ap (range_with_len s.offset) z in rw f (sym (append-nil (joined_places ss)))

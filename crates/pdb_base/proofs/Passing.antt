@@ -22,13 +22,15 @@ fails_bind io io' OutOfMemory read next f h = tt
 fails_bind io io' e read next f h = rw h refl
 
 pub continues_refl : (a : State) → Continues a a
-continues_refl a = record { file = refl; rises = omega arith; steady = λ h. (h, refl) }
+continues_refl a = record { file = refl; rises = omega arith; steady = λ h. (h, refl); told = λ h. h; known = λ h. h }
 
 pub continues_then : (a b c : State) → Continues a b → Continues b c → Continues a c
 continues_then a b c p q = record {
   file = q.file ∙ p.file;
   rises = omega arith;
   steady = λ h. let s = p.steady h in let t = q.steady s.0 in (t.0, t.1 ∙ s.1);
+  told = λ h. p.told (q.told h);
+  known = λ h. q.known (p.known h);
 }
 
 pub unsteady_before : (a b : State) → Continues a b → b.steady ≡ false → a.steady ≡ false

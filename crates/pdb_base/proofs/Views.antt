@@ -1,11 +1,12 @@
 -- What a view of slices gives.
 use Rattle.std.proofs.Common.{◌≡◌, ℕ, zero, suc, ◌+◌, ◌<◌, ◌≤◌, Bool, true, false, ◌&&◌, List, [], ◌∷◌, ◌++◌, length, get_or, map, take, drop, All, Ok, refl, sym, ap, ◌∙◌, arith}
 use Rattle.std.specs.Prelude.{nat_lt, nat_le, slice_index}
-use Rattle.std.specs.List.{list_all, flat_map, range_with_len, AllByRecursion}
-use Rattle.std.proofs.lemmas.List.{append-nil, ext_get_or, length-take, length-drop, get_or-take, get_or-drop, map-append}
+use Rattle.std.specs.List.{list_all, flat_map, sum_by, range_with_len, AllByRecursion}
+use Rattle.std.proofs.lemmas.List.{append-nil, ext_get_or, length-take, length-drop, length-append, get_or-take, get_or-drop, map-append}
 use Rattle.std.proofs.lemmas.List.Folds.{list_all_at, list_all-append}
 use Rattle.std.proofs.lemmas.List.Elements.{All-push, recursion_from_All}
 use Rattle.std.proofs.lemmas.List.FromFn.{length-map-range_with_len, get_or-map-range_with_len}
+use Rattle.std.proofs.lemmas.List.Sums.{sum_by-cons}
 use Rattle.std.proofs.lemmas.Bool.Decides.{nat_tests}
 use Rattle.pdb_base.specs.declared.source.SourceSlice.{SourceSlice}
 use Rattle.pdb_base.specs.Source.{is_inside, slice_bytes, viewed}
@@ -25,6 +26,20 @@ unfolding viewed
 one_slice file [] d n all = absurd cc
 one_slice file (s ∷ []) d n all = rw all (ap Ok (append-nil (slice_bytes file s)))
 one_slice file (s ∷ t ∷ ss) d n all = absurd (omega arith)
+
+and_both : (a b : Bool) → (a && b) ≡ true → (a ≡ true) × (b ≡ true)
+and_both true b e = (refl, e)
+and_both false b e = absurd cc
+
+-- slices inside the file have as many bytes as they say
+pub flat_length : (file : List ℕ) (ss : List SourceSlice) → list_all (is_inside file) ss ≡ true → length (flat_map (slice_bytes file) ss) ≡ sum_by (λ s. s.size) ss
+flat_length file [] all = refl
+flat_length file (s ∷ ss) all =
+    let b = and_both (is_inside file s) (list_all (is_inside file) ss) all in
+    let le : s.offset + s.size ≤ length file = grind (arith, nat_tests) in
+    let one : length (slice_bytes file s) ≡ s.size = simp (length-take, length-drop) (omega arith) in
+    length-append (slice_bytes file s) (flat_map (slice_bytes file) ss) ∙ ap (λ n. n + length (flat_map (slice_bytes file) ss)) one
+    ∙ ap (λ n. s.size + n) (flat_length file ss b.1) ∙ sym (sum_by-cons (λ s. s.size) s ss)
 
 -- every place of a slice with a byte is in the file exactly where its end is
 all_below : (o n len : ℕ) → 0 < n → list_all (λ p. nat_lt p len) (range_with_len o n) ≡ nat_le (o + n) len
@@ -51,10 +66,6 @@ part_places file o n le =
     (λ i h.
     let lt : i < n = omega arith in
     get_or-take n (drop o file) i 0 lt ∙ get_or-drop o file i 0 ∙ sym (get_or-map-range_with_len (slice_index file) o n i (o + i) 0 lt refl))
-
-and_both : (a b : Bool) → (a && b) ≡ true → (a ≡ true) × (b ≡ true)
-and_both true b e = (refl, e)
-and_both false b e = absurd cc
 
 bytes_places : (file : List ℕ) (ss : List SourceSlice) → list_all (is_inside file) ss ≡ true → flat_map (slice_bytes file) ss ≡ map (slice_index file) (flat_map slice_places ss)
 bytes_places file [] all = refl

@@ -1,6 +1,6 @@
 //! The container's front and its directory: where the pages of a stream are listed.
 
-ghost use Rattle.std.specs.Prelude.{◌≡◌, ℕ, ◌+◌, ◌*◌, ◌<◌, ◌≤◌, ◌^◌, List, length, false, IfOk, IfErr, ◌≢◌};
+ghost use Rattle.std.specs.Prelude.{◌≡◌, ℕ, ◌+◌, ◌*◌, ◌<◌, ◌≤◌, ◌^◌, List, length, false, true, IfOk, IfErr, ◌≢◌, IsErrOf};
 ghost use Rattle.std.specs.Int.{div_ceil};
 ghost use Rattle.pdb_base.specs.Refusal.{Gives};
 ghost use Rattle.pdb_base.specs.Source.{State, Continues, MayFail, view_bytes};
@@ -210,7 +210,8 @@ fn format_error(e: Error) -> Error
 /// The numbers at the front of the file.
 pub(crate) fn read_head<'s, S: Source<'s>>(alloc: Global, source: &mut S) -> Result<FileHead>
     ensures continues { Continues (S.state source.old) (S.state source.new) }
-    ensures head { Gives head (MayFail (S.state source.old) (S.state source.new)) result (head_of (S.state source.old).file) }
+    ensures failed { IsErrOf result Error.IoError → MayFail (S.state source.old) (S.state source.new) }
+    ensures head { (S.state source.new).told ≡ true → Gives head (MayFail (S.state source.old) (S.state source.new)) result (head_of (S.state source.old).file) }
     ensures size { IfOk result (λ h. (256 ≤ h.page_size) × (h.page_size < 2 ^ 24)) }
 {
     let slices = [SourceSlice {
@@ -232,7 +233,9 @@ pub(crate) fn read_list<'s, S: Source<'s>>(
 ) -> Result<View<'s>>
     requires size { (256 ≤ h.page_size) × (h.page_size < 2 ^ 24) }
     ensures continues { Continues (S.state source.old) (S.state source.new) }
-    ensures list { Gives view_bytes (MayFail (S.state source.old) (S.state source.new)) result (list_of (S.state source.old).file (head h)) }
+    ensures failed { IsErrOf result Error.IoError → MayFail (S.state source.old) (S.state source.new) }
+    ensures sized { IfOk result (λ v. length (view_bytes v) ≡ 4 * div_ceil h.directory_size h.page_size) }
+    ensures list { (S.state source.new).told ≡ true → Gives view_bytes (MayFail (S.state source.old) (S.state source.new)) result (list_of (S.state source.old).file (head h)) }
 {
     let wanted = 4 * h.directory_size.div_ceil(h.page_size) as usize;
     let count = wanted.div_ceil(h.page_size as usize);

@@ -2,7 +2,7 @@
 
 ghost use Rattle.std.specs.Prelude.{◌≡◌, ℕ, ◌+◌, ◌*◌, ◌<◌, ◌≤◌, ◌^◌, List, length, true, false, Ok, IfOk, IfErr, IsOk, IsErrOf, ◌≢◌};
 ghost use Rattle.pdb_base.specs.Refusal.{Gives};
-ghost use Rattle.pdb_base.specs.Source.{State, Continues, MayFail, view_bytes};
+ghost use Rattle.pdb_base.specs.Source.{State, Continues, MayFail, IsKnown, view_bytes};
 ghost use Rattle.pdb_base.specs.Container.{opens, stream_of, pages_needed, stream_count as count_in, stream_size as size_in, limited as limited_size};
 
 use crate::directory::{count_of, pages_at, pages_before, read_head, read_list, size_of};
@@ -26,13 +26,15 @@ pub struct Msf<'s, S: Meaning> {
 
 impl<'s, S: Meaning> Model for Msf<'s, S> {
     ghost use Rattle.pdb_base.specs.Source.{State, view_bytes};
-    ghost use Rattle.pdb_base.specs.Container.{IsOpened};
+    ghost use Rattle.std.specs.Prelude.{◌≡◌, ◌≤◌, true};
+    ghost use Rattle.pdb_base.specs.Container.{IsOpened, ArePagesBefore};
 
     ghost Value = { State };
 
     ghost view = { λ m. S.state m.source };
 
-    ghost invariant = { λ m. IsOpened (S.state m.source).file m.page_size m.pages_used (view_bytes m.directory) m.before.items };
+    ghost invariant = { λ m. ((S.state m.source).told ≡ true → IsOpened (S.state m.source).file m.page_size m.pages_used (view_bytes m.directory) m.before.items)
+        × (256 ≤ m.page_size) × ArePagesBefore (view_bytes m.directory) m.page_size m.before.items };
 }
 
 fn limited(limit: Option<u32>, size: u32) -> u32
@@ -48,7 +50,9 @@ impl<'s, S: Source<'s>> Msf<'s, S> {
     /// Opens a file.
     pub fn open(alloc: Global, mut source: S) -> Result<Self>
         ensures continues { IfOk result (λ m. Continues (S.state source) m) }
-        ensures opened { Gives (λ _. tt) ((S.state source).steady ≡ false) result (opens (S.state source).file) }
+        ensures failed { IsErrOf result Error.IoError → (S.state source).steady ≡ false }
+        ensures opened { IfOk result (λ m. m.told ≡ true → opens (S.state source).file ≡ Ok tt) }
+        ensures answer { IsKnown (S.state source) → Gives (λ _. tt) ((S.state source).steady ≡ false) result (opens (S.state source).file) }
     {
         let head = read_head(alloc, &mut source)?;
         let list = read_list(alloc, &mut source, head)?;
@@ -75,10 +79,11 @@ impl<'s, S: Source<'s>> Msf<'s, S> {
     #[tactic(auto, using(crate::proofs::OpenLemmas::opened_opens))]
     pub fn get(&mut self, number: u32, limit: Option<u32>) -> Result<Stream<'s>>
         ensures continues { Continues self.old self.new }
-        ensures bytes { Gives (λ s. s) (MayFail self.old self.new) result (stream_of self.old.file number limit) }
-        ensures memory { IsErrOf result Error.OutOfMemory → IsOk (pages_needed self.old.file number limit) }
+        ensures failed { IsErrOf result Error.IoError → MayFail self.old self.new }
+        ensures bytes { self.new.told ≡ true → Gives (λ s. s) (MayFail self.old self.new) result (stream_of self.old.file number limit) }
+        ensures memory { self.new.told ≡ true → IsErrOf result Error.OutOfMemory → IsOk (pages_needed self.old.file number limit) }
         // Its front isn't what refuses it.
-        ensures opened { opens self.old.file ≡ Ok tt }
+        ensures opened { self.new.told ≡ true → opens self.old.file ≡ Ok tt }
     {
         let directory = self.directory.as_slice();
         let size = size_of(directory, number)?;
@@ -99,9 +104,10 @@ impl<'s, S: Source<'s>> Msf<'s, S> {
     /// sizes do.
     #[tactic(auto, unfolding(crate::specs::Container::stream_count), using(crate::proofs::OpenLemmas::opened_opens))]
     pub fn stream_count(&self) -> Result<u32>
-        ensures count { Gives (λ n. n) ⊥ result (count_in self.now.file) }
+        ensures count { self.now.told ≡ true → Gives (λ n. n) ⊥ result (count_in self.now.file) }
         ensures memory { IfErr result (λ e. e ≢ Error.OutOfMemory) }
-        ensures opened { opens self.now.file ≡ Ok tt }
+        ensures read { IfErr result (λ e. e ≢ Error.IoError) }
+        ensures opened { self.now.told ≡ true → opens self.now.file ≡ Ok tt }
     {
         count_of(self.directory.as_slice())
     }
@@ -110,9 +116,10 @@ impl<'s, S: Source<'s>> Msf<'s, S> {
     /// and `UnexpectedEof` where the directory ends before the sizes do.
     #[tactic(auto, unfolding(crate::specs::Container::stream_size), using(crate::proofs::OpenLemmas::opened_opens))]
     pub fn stream_size(&self, number: u32) -> Result<u32>
-        ensures size { Gives (λ n. n) ⊥ result (size_in self.now.file number) }
+        ensures size { self.now.told ≡ true → Gives (λ n. n) ⊥ result (size_in self.now.file number) }
         ensures memory { IfErr result (λ e. e ≢ Error.OutOfMemory) }
-        ensures opened { opens self.now.file ≡ Ok tt }
+        ensures read { IfErr result (λ e. e ≢ Error.IoError) }
+        ensures opened { self.now.told ≡ true → opens self.now.file ≡ Ok tt }
     {
         size_of(self.directory.as_slice(), number)
     }
@@ -121,7 +128,7 @@ impl<'s, S: Source<'s>> Msf<'s, S> {
     #[tactic(auto, using(crate::proofs::OpenLemmas::opened_opens))]
     pub fn failures(&self) -> u64
         ensures failures { result ≡ self.now.failures }
-        ensures opened { opens self.now.file ≡ Ok tt }
+        ensures opened { self.now.told ≡ true → opens self.now.file ≡ Ok tt }
     {
         self.source.failures()
     }
@@ -130,7 +137,7 @@ impl<'s, S: Source<'s>> Msf<'s, S> {
     #[tactic(auto, using(crate::proofs::OpenLemmas::opened_opens))]
     pub fn steady(&self) -> bool
         ensures steady { result ≡ self.now.steady }
-        ensures opened { opens self.now.file ≡ Ok tt }
+        ensures opened { self.now.told ≡ true → opens self.now.file ≡ Ok tt }
     {
         self.source.steady()
     }

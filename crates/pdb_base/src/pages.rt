@@ -1,6 +1,6 @@
 //! Pages of the file, and the slices that they make.
 
-ghost use Rattle.std.specs.Prelude.{◌≡◌, ◌+◌, ◌*◌, ◌^◌, ◌<◌, ◌≤◌, length, All, IfOk, OnOk, ◌++◌, max};
+ghost use Rattle.std.specs.Prelude.{◌≡◌, ◌+◌, ◌*◌, ◌^◌, ◌<◌, ◌≤◌, length, true, All, IfOk, OnOk, ◌++◌, max, IsErrOf};
 ghost use Rattle.std.specs.List.{range_with_len};
 ghost use Rattle.std.specs.Int.{div_ceil};
 ghost use Rattle.pdb_base.specs.Refusal.{Gives};
@@ -84,7 +84,9 @@ pub(crate) fn page_runs(
 /// The bytes of one run; there is nothing to view of one without a byte.
 fn view_run<'s, S: Source<'s>>(alloc: Global, source: &mut S, run: SourceSlice) -> Result<View<'s>>
     ensures continues { Continues (S.state source.old) (S.state source.new) }
-    ensures bytes { Gives view_bytes (MayFail (S.state source.old) (S.state source.new)) result
+    ensures failed { IsErrOf result Error.IoError → MayFail (S.state source.old) (S.state source.new) }
+    ensures sized { IfOk result (λ v. length (view_bytes v) ≡ run.size) }
+    ensures bytes { (S.state source.new).told ≡ true → Gives view_bytes (MayFail (S.state source.old) (S.state source.new)) result
         (bytes_of_places (S.state source.old).file (slice_places run)) }
 {
     if run.size == 0 {
@@ -97,7 +99,9 @@ fn view_run<'s, S: Source<'s>>(alloc: Global, source: &mut S, run: SourceSlice) 
 fn view_runs<'s, S: Source<'s>>(alloc: Global, source: &mut S, runs: Runs) -> Result<View<'s>>
     requires full { All IsFull runs.before.items }
     ensures continues { Continues (S.state source.old) (S.state source.new) }
-    ensures bytes { Gives view_bytes (MayFail (S.state source.old) (S.state source.new)) result
+    ensures failed { IsErrOf result Error.IoError → MayFail (S.state source.old) (S.state source.new) }
+    ensures sized { IfOk result (λ v. length (view_bytes v) ≡ length (joined_places runs.before.items ++ slice_places runs.last)) }
+    ensures bytes { (S.state source.new).told ≡ true → Gives view_bytes (MayFail (S.state source.old) (S.state source.new)) result
         (bytes_of_places (S.state source.old).file (joined_places runs.before.items ++ slice_places runs.last)) }
 {
     let Runs { mut before, last } = runs;
@@ -124,7 +128,9 @@ pub(crate) fn view_pages<'s, S: Source<'s>>(
     requires small { size < 2 ^ 32 }
     requires there { 4 * div_ceil size page_size ≤ length list.now }
     ensures continues { Continues (S.state source.old) (S.state source.new) }
-    ensures bytes { Gives view_bytes (MayFail (S.state source.old) (S.state source.new)) result
+    ensures failed { IsErrOf result Error.IoError → MayFail (S.state source.old) (S.state source.new) }
+    ensures sized { IfOk result (λ v. length (view_bytes v) ≡ size) }
+    ensures bytes { (S.state source.new).told ≡ true → Gives view_bytes (MayFail (S.state source.old) (S.state source.new)) result
         (paged (S.state source.old).file page_size used (numbers list.now 0 (div_ceil size page_size)) size) }
 {
     let runs = page_runs(alloc, list, page_size, used, size)?;

@@ -1,7 +1,7 @@
 //! Where a file's bytes come from.
 
 ghost use Rattle.std.specs.Prelude.{◌≡◌, ℕ, ◌+◌, ◌^◌, ◌<◌, ◌≤◌, ◌↔◌, IsErrOf, List, length, true, false, IfOk, IsOk, OnOk, ◌++◌};
-ghost use Rattle.std.specs.List.{list_all, flat_map};
+ghost use Rattle.std.specs.List.{list_all, flat_map, sum_by};
 ghost use Rattle.pdb_base.specs.Refusal.{Gives};
 ghost use Rattle.pdb_base.specs.Source.{State, Continues, MayFail, view_bytes, viewed, is_inside, slice_bytes, IsLent, in_memory};
 
@@ -54,9 +54,11 @@ pub trait Source<'s>: Meaning {
     fn view(&mut self, alloc: Global, slices: &[SourceSlice]) -> Result<View<'s>>
         ensures continues { Continues (Self.state self.old) (Self.state self.new) }
         ensures most { (Self.state self.new).failures < 2 ^ 64 }
-        ensures bytes { Gives view_bytes (MayFail (Self.state self.old) (Self.state self.new)) result (viewed (Self.state self.old).file slices.now) }
-        ensures past { IsErrOf result Error.UnexpectedEof ↔ (list_all (is_inside (Self.state self.old).file) slices.now ≡ false) }
-        ensures spent { (Self.state self.old).failures + 1 ≡ 2 ^ 64 → list_all (is_inside (Self.state self.old).file) slices.now ≡ true → IsErrOf result Error.IoError };
+        ensures failed { IsErrOf result Error.IoError → MayFail (Self.state self.old) (Self.state self.new) }
+        ensures sized { IfOk result (λ v. length (view_bytes v) ≡ sum_by (λ s. s.size) slices.now) }
+        ensures bytes { (Self.state self.new).told ≡ true → Gives view_bytes (MayFail (Self.state self.old) (Self.state self.new)) result (viewed (Self.state self.old).file slices.now) }
+        ensures past { (Self.state self.new).told ≡ true → (IsErrOf result Error.UnexpectedEof ↔ (list_all (is_inside (Self.state self.old).file) slices.now ≡ false)) }
+        ensures spent { (Self.state self.new).told ≡ true → (Self.state self.old).failures + 1 ≡ 2 ^ 64 → list_all (is_inside (Self.state self.old).file) slices.now ≡ true → IsErrOf result Error.IoError };
 
     /// How many views failed so far; it never falls, and stays at `u64::MAX`.
     fn failures(&self) -> u64
@@ -149,9 +151,11 @@ impl<'s> Source<'s> for MemorySource<'s> {
     fn view(&mut self, alloc: Global, slices: &[SourceSlice]) -> Result<View<'s>>
         ensures continues { Continues (in_memory self.old) (in_memory self.new) }
         ensures most { (in_memory self.new).failures < 2 ^ 64 }
-        ensures bytes { Gives view_bytes (MayFail (in_memory self.old) (in_memory self.new)) result (viewed self.old slices.now) }
-        ensures past { IsErrOf result Error.UnexpectedEof ↔ (list_all (is_inside self.old) slices.now ≡ false) }
-        ensures spent { (in_memory self.old).failures + 1 ≡ 2 ^ 64 → list_all (is_inside self.old) slices.now ≡ true → IsErrOf result Error.IoError }
+        ensures failed { IsErrOf result Error.IoError → MayFail (in_memory self.old) (in_memory self.new) }
+        ensures sized { IfOk result (λ v. length (view_bytes v) ≡ sum_by (λ s. s.size) slices.now) }
+        ensures bytes { (in_memory self.new).told ≡ true → Gives view_bytes (MayFail (in_memory self.old) (in_memory self.new)) result (viewed self.old slices.now) }
+        ensures past { (in_memory self.new).told ≡ true → (IsErrOf result Error.UnexpectedEof ↔ (list_all (is_inside self.old) slices.now ≡ false)) }
+        ensures spent { (in_memory self.new).told ≡ true → (in_memory self.old).failures + 1 ≡ 2 ^ 64 → list_all (is_inside self.old) slices.now ≡ true → IsErrOf result Error.IoError }
         ensures lent { length slices.now ≡ 1 → list_all (is_inside self.old) slices.now ≡ true → IsOk result × IfOk result IsLent }
     {
         if !all_inside(self.bytes, slices) {

@@ -3,7 +3,7 @@
 ghost use Rattle.std.specs.Prelude.{◌≡◌, ◌+◌, [], ◌∷◌, ◌⊎◌, length, true, map, option_copied, Ok, Err, OnOk, IfErr};
 ghost use Rattle.std.specs.Option.{option_map};
 ghost use Rattle.pdb.specs.Error.{Error};
-ghost use Rattle.pdb.specs.Source.{Continues};
+ghost use Rattle.pdb.specs.Source.{Continues, IsKnown};
 ghost use Rattle.pdb.specs.Container.{opens};
 ghost use Rattle.pdb.specs.Text.{name_bytes};
 ghost use Rattle.pdb_resolve.specs.Frames.{scope_text};
@@ -181,6 +181,7 @@ pub fn place_asked<'s>(
     resolver: &Resolver<'_, 's, MemorySource<'s>>,
     asked: &PdbAddress,
 ) -> Option<PdbInternalSectionOffset>
+    requires { IsKnown resolver.now }
     ensures { result ≡ place_asked resolver.now.file asked.now }
 {
     match asked.kind {
@@ -200,6 +201,7 @@ fn put_asked<'s>(
     names: &mut [u8],
     size: &mut usize,
 ) -> Result<()>
+    requires { IsKnown resolver.old }
     ensures continues { Continues resolver.old resolver.new }
     ensures rows { OnOk result (rows.new ≡ put count.old (frame_rows address size.old (frames_asked resolver.old.file asked.now)) rows.old) }
     ensures count { OnOk result (count.new ≡ count.old + length (frames_asked resolver.old.file asked.now)) }
@@ -220,6 +222,7 @@ fn put_all<'s>(
     names: &mut [u8],
     size: &mut usize,
 ) -> Result<()>
+    requires { IsKnown resolver.old }
     ensures rows { OnOk result (rows.new ≡ put count.old (all_rows resolver.old.file 0 size.old asked.now) rows.old) }
     ensures count { OnOk result (count.new ≡ count.old + length (all_rows resolver.old.file 0 size.old asked.now)) }
     ensures names { OnOk result (names.new ≡ put size.old (all_names resolver.old.file asked.now) names.old) }
@@ -242,6 +245,7 @@ fn put_opened<'s>(
     size: &mut usize,
 ) -> Result<()>
     requires steady { pdb.steady ≡ true }
+    requires known { IsKnown pdb }
     ensures rows { OnOk result (rows.new ≡ put count.old (all_rows pdb.entry.file 0 size.old asked.now) rows.old) }
     ensures count { OnOk result (count.new ≡ count.old + length (all_rows pdb.entry.file 0 size.old asked.now)) }
     ensures names { OnOk result (names.new ≡ put size.old (all_names pdb.entry.file asked.now) names.old) }

@@ -2,7 +2,7 @@
 
 ghost use Rattle.std.specs.Prelude.{◌≡◌, ◌+◌, [], ◌∷◌, ◌⊎◌, ℕ, length, true, map, Ok, Err, OnOk, IfErr};
 ghost use Rattle.pdb.specs.Error.{Error};
-ghost use Rattle.pdb.specs.Source.{Continues};
+ghost use Rattle.pdb.specs.Source.{Continues, IsKnown};
 ghost use Rattle.pdb.specs.Container.{opens};
 ghost use Rattle.pdb.specs.Refusal.{Gives};
 ghost use Rattle.pdb_c.specs.Rooms.{put};
@@ -68,7 +68,8 @@ fn put_stream<'s>(
     room: &mut [u8],
     size: &mut usize,
 ) -> Result<()>
-    requires { pdb.old.steady ≡ true }
+    requires steady { pdb.old.steady ≡ true }
+    requires known { IsKnown pdb.old }
     ensures continues { Continues pdb.old pdb.new }
     ensures rows { OnOk result (rows.new ≡ put place (stream_row size.old number (stream_read pdb.old.file number) ∷ []) rows.old) }
     ensures room { OnOk result (room.new ≡ put size.old (bytes_of_stream pdb.old.file number) room.old) }
@@ -91,7 +92,8 @@ fn put_streams<'s>(
     room: &mut [u8],
     size: &mut usize,
 ) -> Result<()>
-    requires { pdb.old.steady ≡ true }
+    requires steady { pdb.old.steady ≡ true }
+    requires known { IsKnown pdb.old }
     ensures rows { OnOk result (rows.new ≡ put 0 (stream_rows pdb.old.file size.old numbers.now) rows.old) }
     ensures room { OnOk result (room.new ≡ put size.old (all_bytes pdb.old.file numbers.now) room.old) }
     ensures size { OnOk result (size.new ≡ size.old + length (all_bytes pdb.old.file numbers.now)) }

@@ -3,7 +3,7 @@
 ghost use Rattle.std.specs.Prelude.{◌≡◌, ◌+◌, [], ◌∷◌, ◌⊎◌, length, true, map, Ok, Err, OnOk, IfErr};
 ghost use Rattle.std.specs.Option.{is_some, unwrap_or};
 ghost use Rattle.pdb.specs.Error.{Error};
-ghost use Rattle.pdb.specs.Source.{Continues};
+ghost use Rattle.pdb.specs.Source.{Continues, IsKnown};
 ghost use Rattle.pdb.specs.Container.{opens};
 ghost use Rattle.pdb_resolve.specs.VariableViews.{shown_location, shown_variable};
 ghost use Rattle.pdb_c.specs.Rooms.{put};
@@ -200,6 +200,7 @@ fn put_asked<'s>(
     names: &mut [u8],
     size: &mut usize,
 ) -> Result<()>
+    requires { IsKnown resolver.old }
     ensures continues { Continues resolver.old resolver.new }
     ensures rows { OnOk result (rows.new ≡ put count.old (variable_rows address size.old (variables_asked resolver.old.file asked.now)) rows.old) }
     ensures count { OnOk result (count.new ≡ count.old + length (variable_rows address size.old (variables_asked resolver.old.file asked.now))) }
@@ -220,6 +221,7 @@ fn put_all<'s>(
     names: &mut [u8],
     size: &mut usize,
 ) -> Result<()>
+    requires { IsKnown resolver.old }
     ensures rows { OnOk result (rows.new ≡ put count.old (all_variable_rows resolver.old.file 0 size.old asked.now) rows.old) }
     ensures count { OnOk result (count.new ≡ count.old + length (all_variable_rows resolver.old.file 0 size.old asked.now)) }
     ensures names { OnOk result (names.new ≡ put size.old (all_variable_names resolver.old.file asked.now) names.old) }
@@ -242,6 +244,7 @@ fn put_opened<'s>(
     size: &mut usize,
 ) -> Result<()>
     requires steady { pdb.steady ≡ true }
+    requires known { IsKnown pdb }
     ensures rows { OnOk result (rows.new ≡ put count.old (all_variable_rows pdb.entry.file 0 size.old asked.now) rows.old) }
     ensures count { OnOk result (count.new ≡ count.old + length (all_variable_rows pdb.entry.file 0 size.old asked.now)) }
     ensures names { OnOk result (names.new ≡ put size.old (all_variable_names pdb.entry.file asked.now) names.old) }

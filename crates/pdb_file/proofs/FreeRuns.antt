@@ -24,7 +24,7 @@ past_end k at kept le held =
 pub reaches_next : (k : Kept) (i : ℕ) (d r : Run) → IsKept k → i < length k.runs → r.at < (get_or k.runs i d).at → (IsBefore r (get_or k.runs i d) → ⊥) → IsFree k r → ⊥
 reaches_next k i d r kept lt begins reaches free =
     let next = get_or k.runs i d in
-    let filled : 0 < length next.bytes.items = kept.filled i d lt in
+    let filled : 0 < length next.bytes.now = kept.filled i d lt in
     ⊎_elim
     (λ less. free.apart next.at (omega (arith, begins), less) (held_in k i next.at d lt (omega arith, omega (arith, filled))))
     (λ more. reaches more)
@@ -45,7 +45,7 @@ behind xs i j d r le lt order start =
     rw same at (behind_next xs i (j - i) d r (omega (arith, le, lt)) order start)
 
 -- what stands between two neighbours can
-pub free_between : (k : Kept) (i : ℕ) (r : Run) → IsKept k → 0 < length r.bytes.items → end_of r ≤ k.size → i ≤ length k.runs
+pub free_between : (k : Kept) (i : ℕ) (r : Run) → IsKept k → 0 < length r.bytes.now → end_of r ≤ k.size → i ≤ length k.runs
     → ((d : Run) → 0 < i → i ≤ length k.runs → IsBefore (get_or k.runs (i - 1) d) r) → ((d : Run) → i < length k.runs → IsBefore r (get_or k.runs i d))
     → IsFree k r
 free_between k i r kept filled inside le last next = record {

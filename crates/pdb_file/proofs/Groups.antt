@@ -1,15 +1,12 @@
 -- Slices that are read together.
-use Rattle.std.proofs.Common.{◌≡◌, ℕ, ◌+◌, ◌<◌, ◌≤◌, ◌⊎◌, inl, inr, ⊎_elim, List, [], ◌∷◌, length, min, get_or, take, arith}
-use Rattle.std.specs.List.{All, AllPairs, insert, sum_by}
+use Rattle.std.proofs.Common.{◌≡◌, ℕ, ◌+◌, ◌<◌, ◌≤◌, ◌⊎◌, inl, inr, ⊎_elim, List, length, min, get_or, take, arith}
+use Rattle.std.specs.List.{All}
 use Rattle.std.specs.List.Sorted.{IsNonDecreasingBy, IsPermutation}
-use Rattle.std.proofs.lemmas.List.Elements.{All-head, All-more, All-tail}
-use Rattle.std.proofs.lemmas.List.Sums.{sum_by-cons}
-use Rattle.std.proofs.lemmas.List.Sorted.{All-permutation, IsPermutation-insert, IsPermutation-sym, sum_by-IsPermutation}
+use Rattle.std.proofs.lemmas.List.Elements.{All-more}
+use Rattle.std.proofs.lemmas.List.Sorted.{All-permutation, IsPermutation-sym}
 use Rattle.std.proofs.lemmas.List.{get_or_default, take_all}
 use Rattle.pdb_base.specs.declared.source.SourceSlice.{SourceSlice}
-use Rattle.pdb_file.specs.declared.run.Run.{Run}
-use Rattle.pdb_file.specs.HeldBytes.{Kept, AreHeld, end_of, held_bytes, IsAllHeld, IsBefore, IsHeldAt, IsKept, IsSameOrMore, IsWith}
-use Rattle.pdb_file.proofs.Files.{later, rest}
+use Rattle.pdb_file.specs.HeldBytes.{Kept, AreHeld, IsAllHeld, IsHeldAt}
 
 -- all of a slice is held, or stands between two offsets
 abbrev pub IsHeldOrIn : Kept → ℕ → ℕ → SourceSlice → Type 0
@@ -37,38 +34,8 @@ all_held k n from end xs size grows more all = λ i d lt. ⊎_elim
 pub held_or_in : (k : Kept) (from end : ℕ) (xs : List SourceSlice) → All (IsAllHeld k) xs → All (IsHeldOrIn k from end) xs
 held_or_in k from end xs all = λ i d lt. inl (all i d lt)
 
--- no more bytes are held than the file has
-bytes_from : (lo size : ℕ) (rs : List Run) → lo ≤ size → All (λ r. lo ≤ r.at) rs → All (λ r. end_of r ≤ size) rs → AllPairs IsBefore rs → lo + sum_by (λ r. length r.bytes.items) rs ≤ size
-bytes_from lo size [] le low fits order = omega (arith, le)
-bytes_from lo size (r ∷ rs) le low fits order =
-    let begins = All-head (λ r. lo ≤ r.at) r rs low in
-    let ends = All-head (λ r. end_of r ≤ size) r rs fits in
-    let more = bytes_from (end_of r) size rs ends (later r rs order) (All-tail (λ r. end_of r ≤ size) r rs fits) (rest r rs order) in
-    rw (sum_by-cons (λ r. length r.bytes.items) r rs) (omega (arith, begins, more))
-
-pub bytes_within : (k : Kept) → IsKept k → held_bytes k ≤ k.size
-bytes_within k h = let all = bytes_from 0 k.size k.runs (omega arith) (λ i d lt. omega arith) h.fits h.order in omega (arith, all)
-
-pub as_missed : (k : Kept) (old sorted : List SourceSlice) → IsPermutation old sorted → All (IsAllHeld k) sorted → All (IsAllHeld k) old
-as_missed k old sorted same all = All-permutation (IsAllHeld k) sorted old (IsPermutation-sym old sorted same) all
-
--- ---- more bytes
-
-pub more_with : (k n : Kept) (r : Run) → IsWith k r n → 0 < length r.bytes.items → held_bytes k < held_bytes n
-more_with k n r w filled =
-    let f : Run → ℕ = λ r. length r.bytes.items in
-    let all = sum_by-IsPermutation f (r ∷ k.runs) (insert k.runs w.0 r) (IsPermutation-insert k.runs w.0 r) in
-    rw w.2 (omega (arith, all, sum_by-cons f r k.runs, filled))
-
-pub more_then : (a b c : Kept) → IsSameOrMore a b → IsSameOrMore b c → IsSameOrMore a c
-more_then a b c (inl same) h = rw (← same) h
-more_then a b c (inr more) (inl same) = inr (rw same more)
-more_then a b c (inr more) (inr most) = inr (omega (arith, more, most))
-
--- where no more bytes are held, all that is held was
-pub held_before : (k n : Kept) (xs : List SourceSlice) → IsSameOrMore k n → held_bytes n ≤ held_bytes k → All (IsAllHeld n) xs → All (IsAllHeld k) xs
-held_before k n xs (inl same) le all = rw same at all
-held_before k n xs (inr more) le all = absurd (omega (arith, more, le))
+pub as_listed : (k : Kept) (old sorted : List SourceSlice) → IsPermutation old sorted → All (IsAllHeld k) sorted → All (IsAllHeld k) old
+as_listed k old sorted same all = All-permutation (IsAllHeld k) sorted old (IsPermutation-sym old sorted same) all
 
 -- ---- slices one after another
 

@@ -4,3 +4,5 @@ pub mod GivenBytes
 pub mod NoneHeld
 mod FreeRuns
 mod Groups
+mod Viewing
+pub mod Known

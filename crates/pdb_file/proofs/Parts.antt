@@ -22,8 +22,8 @@ part_of file at skip bytes p le =
       same = ap (take m) (drop_drop at skip file) ∙ sym (drop-take skip m (drop at file)) ∙ all;
     }
 
-pub part_behind : (file : List ℕ) (r : Run) (at skip : ℕ) → IsRunOf file r → at ≡ r.at + skip → skip ≤ length r.bytes.items → IsPart file at (drop skip r.bytes.items)
-part_behind file r at skip p e le = rw e (part_of file r.at skip r.bytes.items p le)
+pub part_behind : (file : List ℕ) (r : Run) (at skip : ℕ) → IsRunOf file r → at ≡ r.at + skip → skip ≤ length r.bytes.now → IsPart file at (drop skip r.bytes.now)
+part_behind file r at skip p e le = rw e (part_of file r.at skip r.bytes.now p le)
 
 -- what stands at a place, cut
 pub next_of : (file : List ℕ) (at most : ℕ) (bytes : List ℕ) → IsPart file at bytes → take most bytes ≡ take (length (take most bytes)) (drop at file)

@@ -2,7 +2,7 @@
 
 ghost use Rattle.std.specs.Prelude.{◌≡◌, ◌↔◌, ℕ, ◌+◌, ◌-◌, ◌<◌, ◌≤◌, ◌⊎◌, List, [], length, min, true, false, get_or, Bool, IfOk, IfErr, IfSome, IsSomeAnd, IsNone};
 ghost use Rattle.std.specs.List.{All, AllWithin, Any};
-ghost use Rattle.pdb_file.specs.HeldBytes.{Agrees, IsPart, IsRunOf, IsBefore, IsFree, IsKept, IsWith, HasByte, end_of, held_bytes};
+ghost use Rattle.pdb_file.specs.HeldBytes.{Agrees, IsPart, IsRunOf, IsBefore, IsFree, IsKept, IsWith, HasByte, end_of};
 ghost use Rattle.pdb_file.specs.declared.run.Run.{Run};
 
 use crate::run::Run;
@@ -11,12 +11,12 @@ use std::marker::Model;
 
 /// A file's size, and the runs of its bytes that are held. No byte is held twice.
 #[derive(Drop)]
-pub struct Held {
+pub struct Held<'s> {
     size: u64,
-    runs: Vec<Run>,
+    runs: Vec<Run<'s>>,
 }
 
-impl Model for Held {
+impl<'s> Model for Held<'s> {
     ghost use Rattle.pdb_file.specs.HeldBytes.{Kept, IsKept};
 
     ghost Value = { Kept };
@@ -27,21 +27,21 @@ impl Model for Held {
 }
 
 /// Whether a run lies in a file of this size.
-fn fits(size: u64, run: &Run) -> bool
+fn fits(size: u64, run: &Run<'_>) -> bool
     ensures { (result ≡ true) ↔ (end_of run.now ≤ size) }
 {
     run.at <= size && run.bytes.len() as u64 <= size - run.at
 }
 
 /// Whether the one run ends before the other begins.
-fn is_before(run: &Run, other: &Run) -> bool
+fn is_before(run: &Run<'_>, other: &Run<'_>) -> bool
     ensures { (result ≡ true) ↔ IsBefore run.now other.now }
 {
     run.at <= other.at && run.bytes.len() as u64 <= other.at - run.at
 }
 
 /// Whether a run ends before the one with this index in the list begins, where there is one.
-fn is_before_next(runs: &[Run], index: usize, run: &Run) -> bool
+fn is_before_next(runs: &[Run<'_>], index: usize, run: &Run<'_>) -> bool
     ensures before { result ≡ true → (d : Run) → index < length runs.now → IsBefore run.now (get_or runs.now index d) }
     ensures reaches { result ≡ false → (index < length runs.now) × ((d : Run) → IsBefore run.now (get_or runs.now index d) → ⊥) }
 {
@@ -52,7 +52,7 @@ fn is_before_next(runs: &[Run], index: usize, run: &Run) -> bool
 }
 
 /// Whether a run begins behind the end of the one before this index in the list, where there is one.
-fn is_behind_last(runs: &[Run], index: usize, run: &Run) -> bool
+fn is_behind_last(runs: &[Run<'_>], index: usize, run: &Run<'_>) -> bool
     ensures behind { result ≡ true → (d : Run) → 0 < index → index ≤ length runs.now → IsBefore (get_or runs.now (index - 1) d) run.now }
     ensures reached { result ≡ false → (0 < index) × (index ≤ length runs.now) × ((d : Run) → IsBefore (get_or runs.now (index - 1) d) run.now → ⊥) }
 {
@@ -67,7 +67,7 @@ fn is_behind_last(runs: &[Run], index: usize, run: &Run) -> bool
 
 /// The bytes of a run from an offset of the file on; none where there is none.
 #[tactic(auto, using(crate::proofs::Parts::part_behind))]
-fn behind(run: &Run, at: u64) -> Option<&[u8]>
+fn behind<'s>(run: &Run<'s>, at: u64) -> Option<&'s [u8]>
     ensures part { (F : List ℕ) → IsRunOf F run.now → IfSome result (λ p. IsPart F at p.now) }
     ensures some { IfSome result (λ p. 0 < length p.now) }
     ensures found { HasByte at run.now → IsSomeAnd result (λ p. at + length p.now ≡ end_of run.now) }
@@ -77,12 +77,12 @@ fn behind(run: &Run, at: u64) -> Option<&[u8]>
     if skip >= run.bytes.len() as u64 {
         return None;
     }
-    Some(run.bytes.as_slice().split_at(skip as usize).1)
+    Some(run.bytes.split_at(skip as usize).1)
 }
 
-impl Held {
+impl<'s> Held<'s> {
     /// A file of this size, of which nothing is held.
-    pub fn new(alloc: Global, size: u64) -> Held
+    pub fn new(alloc: Global, size: u64) -> Held<'s>
         ensures { result ≡ record { size = size; runs = [] } }
     {
         Held {
@@ -106,18 +106,6 @@ impl Held {
         self.runs.len()
     }
 
-    /// How many bytes are held: at most as many as the file has.
-    pub fn bytes(&self) -> u64
-        ensures bytes { result ≡ min (held_bytes self.now) 18446744073709551615 }
-        ensures within { held_bytes self.now ≤ self.now.size }
-    {
-        let mut bytes = 0u64;
-        for run in &self.runs {
-            bytes = bytes.saturating_add(run.bytes.len() as u64);
-        }
-        bytes
-    }
-
     /// How many runs begin at or before an offset.
     fn before(&self, at: u64) -> usize
         ensures bound { result ≤ length self.now.runs }
@@ -128,7 +116,7 @@ impl Held {
     }
 
     /// The bytes that are held from an offset on, up to the end of their run; none where the byte there isn't held.
-    pub fn from_place(&self, at: u64) -> Option<&[u8]>
+    pub fn from_place(&self, at: u64) -> Option<&'s [u8]>
         ensures part { (F : List ℕ) → Agrees F self.now → IfSome result (λ p. IsPart F at p.now) }
         ensures some { IfSome result (λ p. 0 < length p.now) }
         ensures found { (i : ℕ) → (d : Run) → i < length self.now.runs → HasByte at (get_or self.now.runs i d) → IsSomeAnd result (λ p. at + length p.now ≡ end_of (get_or self.now.runs i d)) }
@@ -151,9 +139,9 @@ impl Held {
     }
 
     /// Holds a run, unless it has no byte, lies outside of the file, or a byte of it is held; returns whether it does.
-    pub fn insert(&mut self, run: Run) -> Result<bool, AllocError>
-        ensures exact { IfOk result (λ b. (b ≡ true) ↔ IsFree self.old run) }
-        ensures held { IfOk result (λ b. b ≡ true → IsWith self.old run self.new) }
+    pub fn insert(&mut self, run: Run<'s>) -> Result<bool, AllocError>
+        ensures exact { IfOk result (λ b. (b ≡ true) ↔ IsFree self.old run.entry) }
+        ensures held { IfOk result (λ b. b ≡ true → IsWith self.old run.entry self.new) }
         ensures same { IfOk result (λ b. b ≡ false → self.new ≡ self.old) }
         ensures refused { IfErr result (λ _. self.new ≡ self.old) }
     {

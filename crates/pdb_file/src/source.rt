@@ -1,15 +1,16 @@
-//! A source over what is held of a file.
+//! A source that reads.
 
 ghost use Rattle.std.specs.Prelude.{◌≡◌, ◌≢◌, ℕ, ◌+◌, ◌<◌, ◌≤◌, ◌^◌, ◌++◌, ◌∷◌, [], ◌↔◌, List, length, take, drop, get_or, min, max, None, true, false, IsErrOf, IfOk, IfErr, IfSome, IsOk, IsSome, OnOk};
-ghost use Rattle.std.specs.List.{All, list_all, flat_map};
+ghost use Rattle.std.specs.List.{All, list_all, flat_map, sum_by};
+ghost use Rattle.std.specs.Option.{ForSome};
 ghost use Rattle.pdb_base.specs.Refusal.{Gives};
-ghost use Rattle.pdb_base.specs.Source.{State, Continues, MayFail, IsLent, in_memory, is_inside, slice_bytes, view_bytes, viewed};
-ghost use Rattle.pdb_file.specs.HeldBytes.{Agrees, AreHeld, IsAllHeld, IsHeldAt, IsOf, Seen, StandsIn, is_inside_of, known_or_empty, supposed};
+ghost use Rattle.pdb_base.specs.Source.{State, Continues, MayFail, IsLent, is_inside, slice_bytes, view_bytes, viewed};
+ghost use Rattle.pdb_file.specs.HeldBytes.{Agrees, AreHeld, IsAllHeld, IsHeldAt, IsOf, IsWholeHeld, StandsIn, is_inside_of, is_steady_of, known_or_empty, knows, reading, size_where_steady};
 ghost use Rattle.pdb_file.specs.declared.run.Run.{Run};
 
 use crate::held::Held;
-use crate::missed::Missed;
-use crate::reading::ReadAt;
+use crate::reading::{FetchError, ReadAt, fetch};
+use bumpalo::Bump;
 use pdb_base::{Error, Meaning, Result, Source, SourceSlice, View};
 use std::alloc::{AllocError, Global};
 use std::marker::Model;
@@ -57,32 +58,56 @@ impl<'r, R: ReadAt> Meant for KnownFile<'r, R> {
     ghost file = { λ k. k };
 }
 
-/// A steady source of a file of which some runs of bytes are held. It borrows a slice that stands in one run, and
-/// copies else. A view of what isn't held fails as one for which there is no memory, and is noted. The file that it
-/// means is `F`'s, where that has what is held: so each promise on a source's file is one on every file that has it.
+/// A source over a file that is read where it is needed. What was read is kept in the arena. A view of one slice in one
+/// run borrows it; other views are copies. A view where a read fails is `IoError`, and counted. The file that it
+/// means is `F`'s: what contracts say of it holds where `F` has all that was read.
 #[derive(Drop)]
-pub struct HeldSource<'s, 'm, 'f, F: Meant> {
-    held: &'s Held,
-    missed: &'m mut Missed,
-    file: &'f F,
+pub struct ReadingSource<'s, R: ReadAt, F: Meant> {
+    arena: &'s Bump,
+    input: &'s R,
+    file: &'s F,
+    held: Held<'s>,
+    steady: bool,
+    failures: u64,
 }
 
-impl<'s, 'm, 'f, F: Meant> Model for HeldSource<'s, 'm, 'f, F> {
-    ghost use Rattle.pdb_file.specs.HeldBytes.{Seen, supposed};
+impl<'s, R: ReadAt, F: Meant> Model for ReadingSource<'s, R, F> {
+    ghost use Rattle.std.specs.Prelude.{◌≡◌, length, true, Some};
+    ghost use Rattle.std.specs.Option.{ForSome};
+    ghost use Rattle.pdb_file.specs.HeldBytes.{IsOf, Seen, knows, size_where_steady};
 
     ghost Value = { Seen };
 
-    ghost view = { λ s. record { file = supposed (F.file s.file.now) s.held.now; kept = s.held.now } };
+    ghost view = { λ s. record { file = F.file s.file.now; kept = s.held; failures = s.failures; steady = s.steady; known = knows (R.known s.input.now) (F.file s.file.now) } };
+
+    ghost invariant = { λ s. ForSome (R.known s.input.now) (λ G. length G ≡ s.held.size → IsOf G s.held)
+        × (s.steady ≡ true → (size_where_steady (R.is_steady s.input.now) (R.known s.input.now) ≡ Some s.held.size) × (s.failures ≡ 0)) };
 }
 
-impl<'s, 'm, 'f, F: Meant> HeldSource<'s, 'm, 'f, F> {
-    /// The source of a file that has, where bytes are held, these bytes.
-    #[tactic(auto, using(crate::proofs::Files::supposed_is))]
-    pub fn new(held: &'s Held, missed: &'m mut Missed, file: &'f F) -> Self
-        ensures file { IsOf (F.file file.now) held.now → result.file ≡ F.file file.now }
-        ensures kept { result.kept ≡ held.now }
+/// Whether this is the size of a steady reader.
+fn is_steady_of(steady_size: Option<u64>, size: u64) -> bool
+    ensures { result ≡ is_steady_of size steady_size }
+{
+    match steady_size {
+        Some(n) => n == size,
+        None => false,
+    }
+}
+
+impl<'s, R: ReadAt, F: Meant> ReadingSource<'s, R, F> {
+    /// The source of a reader's file, which has this size, and of which nothing was read.
+    #[tactic(auto, using(crate::proofs::NoneHeld::none_held))]
+    pub fn new(alloc: Global, arena: &'s Bump, input: &'s R, file: &'s F, size: u64) -> Self
+        ensures { result ≡ record { file = F.file file.now; kept = record { size = size; runs = [] }; failures = 0; steady = is_steady_of size (size_where_steady (R.is_steady input.now) (R.known input.now)); known = knows (R.known input.now) (F.file file.now) } }
     {
-        HeldSource { held, missed, file }
+        ReadingSource {
+            arena,
+            input,
+            file,
+            held: Held::new(alloc, size),
+            steady: is_steady_of(input.steady_size(), size),
+            failures: 0,
+        }
     }
 }
 
@@ -95,7 +120,7 @@ fn all_inside(size: u64, slices: &[SourceSlice]) -> bool
 }
 
 /// At most so many first bytes.
-fn front(bytes: &[u8], most: usize) -> &[u8]
+fn front<'b>(bytes: &'b [u8], most: usize) -> &'b [u8]
     ensures len { length result.now ≡ min most (length bytes.now) }
     ensures bytes { result.now ≡ take most bytes.now }
 {
@@ -124,8 +149,9 @@ fn append(all: &mut Vec<u8>, bytes: &[u8]) -> std::result::Result<(), AllocError
 
 /// A slice where it stands in one run.
 #[tactic(auto, using(crate::proofs::Parts::slice_of))]
-fn lent<'s>(held: &'s Held, slice: SourceSlice) -> Option<&'s [u8]>
+fn lent<'s>(held: &Held<'s>, slice: SourceSlice) -> Option<&'s [u8]>
     ensures bytes { (F : List ℕ) → Agrees F held.now → IfSome result (λ p. p.now ≡ slice_bytes F slice) }
+    ensures sized { IfSome result (λ p. length p.now ≡ slice.size) }
     ensures found { (i : ℕ) → (d : Run) → i < length held.now.runs → 0 < slice.size → StandsIn slice (get_or held.now.runs i d) → IsSome result }
 {
     let bytes = held.from_place(slice.offset)?;
@@ -137,7 +163,7 @@ fn lent<'s>(held: &'s Held, slice: SourceSlice) -> Option<&'s [u8]>
 
 /// What is held of a slice behind its first bytes, up to the end of a run; none where nothing is.
 #[tactic(auto, using(crate::proofs::Parts::next_of, crate::proofs::FreeRuns::past_end))]
-fn next_part(held: &Held, slice: SourceSlice, done: usize) -> Option<&[u8]>
+fn next_part<'s>(held: &Held<'s>, slice: SourceSlice, done: usize) -> Option<&'s [u8]>
     requires { done < slice.size }
     ensures same { (F : List ℕ) → Agrees F held.now → IfSome result (λ p. p.now ≡ take (length p.now) (drop (slice.offset + done) F)) }
     ensures some { IfSome result (λ p. 0 < length p.now) }
@@ -155,10 +181,12 @@ fn next_part(held: &Held, slice: SourceSlice, done: usize) -> Option<&[u8]>
 /// Puts the bytes of a slice behind those that are there, and returns whether all of it is held.
 fn copy_slice(
     all: &mut Vec<u8>,
-    held: &Held,
+    held: &Held<'_>,
     slice: SourceSlice,
 ) -> std::result::Result<bool, AllocError>
-    ensures { (F : List ℕ) → Agrees F held.now → IfOk result (λ whole. whole ≡ true → all.new.items ≡ all.old.items ++ slice_bytes F slice) }
+    ensures bytes { (F : List ℕ) → Agrees F held.now → IfOk result (λ whole. whole ≡ true → all.new.items ≡ all.old.items ++ slice_bytes F slice) }
+    ensures sized { IfOk result (λ whole. whole ≡ true → length all.new.items ≡ length all.old.items + slice.size) }
+    ensures whole { AreHeld held.now slice.offset (slice.offset + slice.size) → IfOk result (λ whole. whole ≡ true) }
 {
     let mut done = 0usize;
     while done < slice.size {
@@ -174,10 +202,12 @@ fn copy_slice(
 /// The bytes of slices, one after the other; none where a byte isn't held.
 fn copied(
     alloc: Global,
-    held: &Held,
+    held: &Held<'_>,
     slices: &[SourceSlice],
 ) -> std::result::Result<Option<Vec<u8>>, AllocError>
-    ensures { (F : List ℕ) → Agrees F held.now → IfOk result (λ all. IfSome all (λ v. v.items ≡ flat_map (slice_bytes F) slices.now)) }
+    ensures bytes { (F : List ℕ) → Agrees F held.now → IfOk result (λ all. IfSome all (λ v. v.items ≡ flat_map (slice_bytes F) slices.now)) }
+    ensures sized { IfOk result (λ all. IfSome all (λ v. length v.items ≡ sum_by (λ s. s.size) slices.now)) }
+    ensures whole { All (IsWholeHeld held.now) slices.now → IfOk result (λ all. IsSome all) }
 {
     let mut all = Vec::new(alloc);
     for slice in slices {
@@ -189,7 +219,7 @@ fn copied(
 }
 
 /// Whether all bytes of a slice are held.
-fn is_held(held: &Held, slice: SourceSlice) -> bool
+fn is_held(held: &Held<'_>, slice: SourceSlice) -> bool
     ensures { (result ≡ true) ↔ AreHeld held.now slice.offset (slice.offset + slice.size) }
 {
     let mut seen = 0usize;
@@ -214,14 +244,14 @@ fn inside(size: u64, slice: SourceSlice) -> SourceSlice
 }
 
 /// Whether all of a slice is held, as far as the file has it.
-fn is_all_held(held: &Held, slice: SourceSlice) -> bool
+pub(crate) fn is_all_held(held: &Held<'_>, slice: SourceSlice) -> bool
     ensures { (result ≡ true) ↔ IsAllHeld held.now slice }
 {
     is_held(held, inside(held.size(), slice))
 }
 
 /// Whether all of the slices are held, as far as the file has them.
-pub fn are_held(held: &Held, slices: &[SourceSlice]) -> bool
+fn are_held(held: &Held<'_>, slices: &[SourceSlice]) -> bool
     ensures { (result ≡ true) ↔ All (IsAllHeld held.now) slices.now }
 {
     for slice in slices {
@@ -232,32 +262,16 @@ pub fn are_held(held: &Held, slices: &[SourceSlice]) -> bool
     true
 }
 
-/// Notes the slices that aren't held, and returns whether there are any.
-fn note_missed(
-    missed: &mut Missed,
-    held: &Held,
-    slices: &[SourceSlice],
-) -> std::result::Result<bool, AllocError> {
-    let mut any = false;
-    for slice in slices {
-        if !is_held(held, *slice) {
-            missed.note(*slice)?;
-            any = true;
-        }
-    }
-    Ok(any)
-}
-
-/// The bytes of slices that lie in the file, where they are held.
+/// The bytes of slices that are held; `FetchError::Read` where a byte isn't.
 #[tactic(auto, using(pdb_base::proofs::Views::one_slice))]
-fn view_inside<'s>(
+fn view_held<'s>(
     alloc: Global,
-    held: &'s Held,
-    missed: &mut Missed,
+    held: &Held<'s>,
     slices: &[SourceSlice],
-) -> Result<View<'s>>
+) -> std::result::Result<View<'s>, FetchError>
     ensures bytes { (F : List ℕ) → Agrees F held.now → IfOk result (λ v. view_bytes v ≡ flat_map (slice_bytes F) slices.now) }
-    ensures refused { IfErr result (λ e. e ≡ Error.OutOfMemory) }
+    ensures sized { IfOk result (λ v. length (view_bytes v) ≡ sum_by (λ s. s.size) slices.now) }
+    ensures whole { All (IsWholeHeld held.now) slices.now → IfErr result (λ e. e ≡ FetchError.Memory) }
     ensures lent { (s : SourceSlice) → (i : ℕ) → (d : Run) → slices.now ≡ s ∷ [] → i < length held.now.runs → 0 < s.size → StandsIn s (get_or held.now.runs i d) → IsOk result × IfOk result IsLent }
 {
     if slices.len() == 1 {
@@ -265,42 +279,82 @@ fn view_inside<'s>(
             return Ok(View::Borrowed(bytes));
         }
     }
-    if note_missed(missed, held, slices)? {
-        return Err(Error::OutOfMemory);
-    }
     match copied(alloc, held, slices)? {
         Some(all) => Ok(View::Owned(all)),
-        None => Err(Error::OutOfMemory),
+        None => Err(FetchError::Read),
     }
 }
 
-impl<'s, 'm, 'f, F: Meant> Meaning for HeldSource<'s, 'm, 'f, F> {
-    ghost use Rattle.pdb_base.specs.Source.{in_memory};
-
-    ghost state = { λ s. in_memory s.file };
-}
-
-impl<'s, 'm, 'f, F: Meant> Source<'s> for HeldSource<'s, 'm, 'f, F> {
-    #[tactic(auto, using(crate::proofs::Files::inside_same), unfolding(pdb_base::specs::Source::viewed))]
-    fn view(&mut self, alloc: Global, slices: &[SourceSlice]) -> Result<View<'s>>
-        ensures continues { Continues (in_memory self.old.file) (in_memory self.new.file) }
-        ensures most { (in_memory self.new.file).failures < 2 ^ 64 }
-        ensures bytes { Gives view_bytes (MayFail (in_memory self.old.file) (in_memory self.new.file)) result (viewed self.old.file slices.now) }
-        ensures past { IsErrOf result Error.UnexpectedEof ↔ (list_all (is_inside self.old.file) slices.now ≡ false) }
-        ensures spent { (in_memory self.old.file).failures + 1 ≡ 2 ^ 64 → list_all (is_inside self.old.file) slices.now ≡ true → IsErrOf result Error.IoError }
+impl<'s, R: ReadAt, F: Meant> ReadingSource<'s, R, F> {
+    /// The bytes of slices that lie in the file; what isn't held of them is read.
+    fn read_slices(
+        &mut self,
+        alloc: Global,
+        slices: &[SourceSlice],
+    ) -> std::result::Result<View<'s>, FetchError>
+        requires inside { list_all (is_inside_of self.old.kept.size) slices.now ≡ true }
+        ensures others { self.new ≡ record { file = self.old.file; kept = self.new.kept; failures = self.old.failures; steady = self.old.steady; known = self.old.known } }
+        ensures size { self.new.kept.size ≡ self.old.kept.size }
+        ensures kept { (G : List ℕ) → IsOf G self.new.kept → IsOf G self.old.kept }
+        ensures known { self.old.known ≡ true → IsOf self.old.file self.old.kept → IsOf self.old.file self.new.kept }
+        ensures bytes { (G : List ℕ) → IsOf G self.new.kept → IfOk result (λ v. view_bytes v ≡ flat_map (slice_bytes G) slices.now) }
+        ensures sized { IfOk result (λ v. length (view_bytes v) ≡ sum_by (λ s. s.size) slices.now) }
+        ensures held { OnOk result (All (IsAllHeld self.new.kept) slices.now) }
+        ensures once { All (IsAllHeld self.old.kept) slices.now → (self.new.kept ≡ self.old.kept) × IfErr result (λ e. e ≡ FetchError.Memory) }
+        ensures steady { self.old.steady ≡ true → IfErr result (λ e. e ≡ FetchError.Memory) }
         ensures lent { (s : SourceSlice) → (i : ℕ) → (d : Run) → slices.now ≡ s ∷ [] → i < length self.old.kept.runs → 0 < s.size → StandsIn s (get_or self.old.kept.runs i d) → IsOk result × IfOk result IsLent }
     {
+        if !are_held(&self.held, slices) {
+            fetch(alloc, self.arena, &mut self.held, slices, self.input)?;
+        }
+        view_held(alloc, &self.held, slices)
+    }
+}
+
+impl<'s, R: ReadAt, F: Meant> Meaning for ReadingSource<'s, R, F> {
+    ghost use Rattle.pdb_file.specs.HeldBytes.{reading};
+
+    ghost state = { reading };
+}
+
+impl<'s, R: ReadAt, F: Meant> Source<'s> for ReadingSource<'s, R, F> {
+    fn view(&mut self, alloc: Global, slices: &[SourceSlice]) -> Result<View<'s>>
+        ensures continues { Continues (reading self.old) (reading self.new) }
+        ensures most { (reading self.new).failures < 2 ^ 64 }
+        ensures failed { IsErrOf result Error.IoError → MayFail (reading self.old) (reading self.new) }
+        ensures sized { IfOk result (λ v. length (view_bytes v) ≡ sum_by (λ s. s.size) slices.now) }
+        ensures bytes { (reading self.new).told ≡ true → Gives view_bytes (MayFail (reading self.old) (reading self.new)) result (viewed self.old.file slices.now) }
+        ensures past { (reading self.new).told ≡ true → (IsErrOf result Error.UnexpectedEof ↔ (list_all (is_inside self.old.file) slices.now ≡ false)) }
+        ensures spent { (reading self.new).told ≡ true → self.old.failures + 1 ≡ 2 ^ 64 → list_all (is_inside self.old.file) slices.now ≡ true → IsErrOf result Error.IoError }
+        // A failed read is never reported as out of memory.
+        ensures counted { self.old.failures < self.new.failures → IsErrOf result Error.IoError }
+        ensures held { OnOk result (All (IsAllHeld self.new.kept) slices.now) }
+        ensures once { All (IsAllHeld self.old.kept) slices.now → self.new.kept ≡ self.old.kept }
+        // A slice that stands in one run is borrowed, and no memory is taken.
+        ensures lent { (s : SourceSlice) → (i : ℕ) → (d : Run) → slices.now ≡ s ∷ [] → i < length self.old.kept.runs → 0 < s.size → StandsIn s (get_or self.old.kept.runs i d) → list_all (is_inside_of self.old.kept.size) slices.now ≡ true → self.old.failures + 1 < 2 ^ 64 → IsOk result × IfOk result IsLent }
+    {
+        let spent = self.failures == u64::MAX;
         if !all_inside(self.held.size(), slices) {
             return Err(Error::UnexpectedEof);
         }
-        view_inside(alloc, self.held, self.missed, slices)
+        if spent {
+            return Err(Error::IoError);
+        }
+        match self.read_slices(alloc, slices) {
+            Ok(view) => Ok(view),
+            Err(FetchError::Memory) => Err(Error::OutOfMemory),
+            Err(FetchError::Read) => {
+                self.failures += 1;
+                Err(Error::IoError)
+            }
+        }
     }
 
     fn failures(&self) -> u64 {
-        0
+        self.failures
     }
 
     fn steady(&self) -> bool {
-        true
+        self.steady
     }
 }

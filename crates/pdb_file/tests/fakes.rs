@@ -107,6 +107,7 @@ impl Read for ThreeBytes {
 pub struct Counted<'b> {
     bytes: &'b [u8],
     reads: Cell<u32>,
+    given: Cell<u64>,
     fails: Option<u32>,
 }
 
@@ -116,6 +117,7 @@ impl<'b> Counted<'b> {
         Counted {
             bytes,
             reads: Cell::new(0),
+            given: Cell::new(0),
             fails: None,
         }
     }
@@ -125,6 +127,7 @@ impl<'b> Counted<'b> {
         Counted {
             bytes,
             reads: Cell::new(0),
+            given: Cell::new(0),
             fails: Some(read),
         }
     }
@@ -133,12 +136,19 @@ impl<'b> Counted<'b> {
     pub fn reads(&self) -> u32 {
         self.reads.get()
     }
+
+    /// How many bytes they gave.
+    pub fn given(&self) -> u64 {
+        self.given.get()
+    }
 }
 
 impl<'b> ReadAt for Counted<'b> {
-    ghost use Rattle.std.specs.Prelude.{None};
+    ghost use Rattle.std.specs.Prelude.{None, false};
 
     ghost known = { λ _. None };
+
+    ghost is_steady = { λ _. false };
 
     fn read_bytes_at(&self, buf: &mut [u8], at: u64) -> io::Result<usize> {
         let read = self.reads.get();
@@ -152,6 +162,12 @@ impl<'b> ReadAt for Counted<'b> {
         let rest = self.bytes.split_at(at as usize).1;
         let count = rest.len().min(buf.len());
         buf[..count].copy_from_slice(&rest[..count]);
+        self.given
+            .set(self.given.get().saturating_add(count as u64));
         Ok(count)
+    }
+
+    fn steady_size(&self) -> Option<u64> {
+        None
     }
 }

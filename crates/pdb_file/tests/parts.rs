@@ -1,12 +1,11 @@
-//! Tests of what is read of a file in parts: far gaps, many runs, long views, empty and short slices, and readers that
-//! fail or end early.
+//! Tests of a source that reads: far gaps, many runs, long views, empty and short slices, and readers that fail or end
+//! early.
 
 use crate::tests::fakes::{Counted, is};
 use crate::tests::slice;
-use crate::{
-    AnyFile, Asks, FetchError, Fetched, Held, HeldSource, LastRound, Missed, fetch, fetch_asked,
-};
-use pdb_base::{Error, Result, Source, SourceSlice, View};
+use crate::{AnyFile, ReadAt, ReadingSource};
+use bumpalo::Bump;
+use pdb_base::{Error, Source, SourceSlice, View};
 use std::alloc::{AllocError, Global};
 use std::process::Abort;
 use std::test::Fail;
@@ -15,7 +14,7 @@ use std::test::Fail;
 const FAR: u64 = 200_000;
 
 /// A file in which the byte at an offset is the remainder of the offset by 251.
-fn file(alloc: Global, size: usize) -> std::result::Result<Vec<u8>, AllocError> {
+fn file(alloc: Global, size: usize) -> Result<Vec<u8>, AllocError> {
     let mut bytes = Vec::new(alloc);
     bytes.resize(size, 0)?;
     for (at, byte) in bytes.iter_mut().enumerate() {
@@ -25,22 +24,12 @@ fn file(alloc: Global, size: usize) -> std::result::Result<Vec<u8>, AllocError> 
 }
 
 /// So many slices of three bytes, each far from the next, the last ones first.
-fn far_slices(alloc: Global, count: u64) -> std::result::Result<Vec<SourceSlice>, AllocError> {
+fn far_slices(alloc: Global, count: u64) -> Result<Vec<SourceSlice>, AllocError> {
     let mut slices = Vec::new(alloc);
     for k in 0..count {
         slices.push(slice(FAR * (count - 1 - k), 3))?;
     }
     Ok(slices)
-}
-
-/// What a view of these slices gives of what is held; what isn't is noted.
-fn seen<'h>(
-    alloc: Global,
-    held: &'h Held,
-    missed: &mut Missed,
-    slices: &[SourceSlice],
-) -> Result<View<'h>> {
-    HeldSource::new(held, missed, &AnyFile).view(alloc, slices)
 }
 
 /// A view has the bytes of these slices.
@@ -55,215 +44,210 @@ fn has_bytes(rt: &impl Abort, label: &str, view: &View<'_>, slices: &[SourceSlic
     is(rt, label, &bytes.next().copied(), &None);
 }
 
-/// These slices are held of the file of which they were missed, and a view of them all has their bytes.
-fn are_held(rt: &impl Abort, alloc: Global, held: &Held, slices: &[SourceSlice]) {
-    let mut missed = Missed::new(alloc);
-    match seen(alloc, held, &mut missed, slices) {
-        Ok(view) => has_bytes(rt, "held", &view, slices),
-        Err(e) => is(rt, "held", &Some(e), &None),
+/// A view of these slices has their bytes.
+fn gives<'s, R: ReadAt>(
+    rt: &impl Abort,
+    label: &str,
+    alloc: Global,
+    source: &mut ReadingSource<'s, R, AnyFile>,
+    slices: &[SourceSlice],
+) {
+    match source.view(alloc, slices) {
+        Ok(view) => has_bytes(rt, label, &view, slices),
+        Err(e) => is(rt, label, &Some(e), &None),
     }
-    is(rt, "missed", &missed.slices().len(), &0);
+}
+
+/// A view of these slices has this error.
+fn fails<'s, R: ReadAt>(
+    rt: &impl Abort,
+    label: &str,
+    alloc: Global,
+    source: &mut ReadingSource<'s, R, AnyFile>,
+    slices: &[SourceSlice],
+    error: Error,
+) {
+    is(rt, label, &source.view(alloc, slices).err(), &Some(error));
 }
 
 #[test]
-fn many_far_runs_are_read(rt: HostRuntime) -> std::result::Result<(), Fail> {
+fn many_far_runs_are_read_once(rt: HostRuntime) -> Result<(), Fail> {
     let alloc = rt.alloc();
     let bytes = file(alloc, 5_000_000)?;
     let input = Counted::of(&bytes);
+    let arena = Bump::new(alloc);
+    let mut source = ReadingSource::new(alloc, &arena, &input, &AnyFile, 5_000_000);
     let slices = far_slices(alloc, 25)?;
-    let mut held = Held::new(alloc, 5_000_000);
-    let mut missed = Missed::new(alloc);
-    let view = seen(alloc, &held, &mut missed, &slices).err();
-    is(&rt, "before", &view, &Some(Error::OutOfMemory));
-    is(&rt, "missed", &missed.slices().len(), &25);
-    let mut fetched = Fetched::default();
-    let done = fetch(alloc, &mut held, &mut missed, &input, &mut fetched);
-    is(&rt, "fetch", &done, &Ok(()));
+    gives(&rt, "far", alloc, &mut source, &slices);
     // A run of 65,536 bytes for each slice, by one read.
-    is(&rt, "runs", &held.count(), &25);
-    is(&rt, "bytes", &held.bytes(), &(25 * 65_536));
     is(&rt, "reads", &input.reads(), &25);
-    is(&rt, "counted reads", &fetched.reads, &25);
-    is(&rt, "counted bytes", &fetched.bytes, &(25 * 65_536));
-    are_held(&rt, alloc, &held, &slices);
+    is(&rt, "bytes", &input.given(), &(25 * 65_536));
+    // What is held isn't read again.
+    gives(&rt, "again", alloc, &mut source, &slices);
+    gives(
+        &rt,
+        "beside",
+        alloc,
+        &mut source,
+        &[slice(FAR + 60_000, 5_000)],
+    );
+    is(&rt, "reads again", &input.reads(), &25);
+    is(&rt, "failures", &source.failures(), &0);
     Ok(())
 }
 
 #[test]
-fn a_view_of_101_slices_is_joined(rt: HostRuntime) -> std::result::Result<(), Fail> {
+fn a_slice_in_one_run_is_lent(rt: HostRuntime) -> Result<(), Fail> {
+    let alloc = rt.alloc();
+    let bytes = file(alloc, 300_000)?;
+    let input = Counted::of(&bytes);
+    let arena = Bump::new(alloc);
+    let mut source = ReadingSource::new(alloc, &arena, &input, &AnyFile, 300_000);
+    let lent = source.view(alloc, &[slice(100, 4)]);
+    assert!(rt; matches!(lent, Ok(View::Borrowed(b"defg"))));
+    // A slice of two runs is joined, and so are two slices.
+    gives(&rt, "two runs", alloc, &mut source, &[slice(65_000, 3_000)]);
+    let joined = source.view(alloc, &[slice(100, 2), slice(1, 1)]);
+    assert!(rt; matches!(joined, Ok(View::Owned(_))));
+    gives(
+        &rt,
+        "joined",
+        alloc,
+        &mut source,
+        &[slice(100, 2), slice(1, 1)],
+    );
+    is(&rt, "reads", &input.reads(), &2);
+    // The bytes stay while others are read.
+    gives(&rt, "others", alloc, &mut source, &[slice(250_000, 9)]);
+    assert!(rt; matches!(lent, Ok(View::Borrowed(b"defg"))));
+    Ok(())
+}
+
+#[test]
+fn a_view_of_101_slices_is_joined(rt: HostRuntime) -> Result<(), Fail> {
     let alloc = rt.alloc();
     let bytes = file(alloc, 300_000)?;
     let mut slices = Vec::new(alloc);
     for k in 0..101u64 {
         slices.push(slice(1000 * k, 2))?;
     }
-    let mut held = Held::new(alloc, 300_000);
-    let mut missed = Missed::new(alloc);
-    assert!(rt; seen(alloc, &held, &mut missed, &slices).is_err());
-    is(&rt, "missed", &missed.slices().len(), &101);
     let input = Counted::of(&bytes);
-    let mut fetched = Fetched::default();
-    let done = fetch(alloc, &mut held, &mut missed, &input, &mut fetched);
-    is(&rt, "fetch", &done, &Ok(()));
-    // From 0 to the end of the last one, in two pieces.
-    is(&rt, "runs", &held.count(), &1);
-    is(&rt, "bytes", &held.bytes(), &100_002);
-    is(&rt, "reads", &input.reads(), &2);
-    are_held(&rt, alloc, &held, &slices);
+    let arena = Bump::new(alloc);
+    let mut source = ReadingSource::new(alloc, &arena, &input, &AnyFile, 300_000);
+    gives(&rt, "joined", alloc, &mut source, &slices);
+    // From 0 to the end of the last one.
+    is(&rt, "reads", &input.reads(), &1);
+    is(&rt, "bytes", &input.given(), &100_002);
     Ok(())
 }
 
 #[test]
-fn an_empty_slice_is_always_held(rt: HostRuntime) -> std::result::Result<(), Fail> {
+fn an_empty_slice_is_not_read(rt: HostRuntime) -> Result<(), Fail> {
     let alloc = rt.alloc();
-    let held = Held::new(alloc, 100);
+    let bytes = file(alloc, 100)?;
+    let input = Counted::of(&bytes);
+    let arena = Bump::new(alloc);
+    let mut source = ReadingSource::new(alloc, &arena, &input, &AnyFile, 100);
     for offset in [0, 50, 100] {
-        are_held(&rt, alloc, &held, &[slice(offset, 0)]);
-        are_held(&rt, alloc, &held, &[slice(offset, 0), slice(100, 0)]);
+        gives(&rt, "one", alloc, &mut source, &[slice(offset, 0)]);
+        gives(
+            &rt,
+            "two",
+            alloc,
+            &mut source,
+            &[slice(offset, 0), slice(100, 0)],
+        );
     }
-    let mut missed = Missed::new(alloc);
-    let past = seen(alloc, &held, &mut missed, &[slice(101, 0)]).err();
-    is(&rt, "past the end", &past, &Some(Error::UnexpectedEof));
-    // Beside a byte that isn't held, only that one is missed.
-    let mixed = [slice(100, 0), slice(7, 1)];
-    let error = seen(alloc, &held, &mut missed, &mixed).err();
-    is(&rt, "mixed", &error, &Some(Error::OutOfMemory));
-    is(&rt, "missed", &missed.slices().len(), &1);
-    is(&rt, "which", &missed.slices()[0].offset, &7);
+    is(&rt, "reads", &input.reads(), &0);
+    fails(
+        &rt,
+        "past the end",
+        alloc,
+        &mut source,
+        &[slice(101, 0)],
+        Error::UnexpectedEof,
+    );
+    let past = [slice(0, 1), slice(99, 2)];
+    fails(
+        &rt,
+        "one past the end",
+        alloc,
+        &mut source,
+        &past,
+        Error::UnexpectedEof,
+    );
+    is(&rt, "no reads", &input.reads(), &0);
+    gives(
+        &rt,
+        "mixed",
+        alloc,
+        &mut source,
+        &[slice(100, 0), slice(7, 1)],
+    );
+    is(&rt, "one read", &input.reads(), &1);
     Ok(())
 }
 
 #[test]
-fn a_short_slice_does_not_cut_a_longer_one(rt: HostRuntime) -> std::result::Result<(), Fail> {
+fn a_short_slice_does_not_cut_a_longer_one(rt: HostRuntime) -> Result<(), Fail> {
     let alloc = rt.alloc();
     let bytes = file(alloc, 400_000)?;
     let slices = [slice(100, 150_000), slice(200, 4), slice(100, 1)];
-    let mut held = Held::new(alloc, 400_000);
-    let mut missed = Missed::new(alloc);
-    assert!(rt; seen(alloc, &held, &mut missed, &slices).is_err());
     let input = Counted::of(&bytes);
-    let mut fetched = Fetched::default();
-    let done = fetch(alloc, &mut held, &mut missed, &input, &mut fetched);
-    is(&rt, "fetch", &done, &Ok(()));
-    is(&rt, "bytes", &held.bytes(), &150_100);
-    are_held(&rt, alloc, &held, &slices);
+    let arena = Bump::new(alloc);
+    let mut source = ReadingSource::new(alloc, &arena, &input, &AnyFile, 400_000);
+    gives(&rt, "all", alloc, &mut source, &slices);
+    is(&rt, "bytes", &input.given(), &150_100);
     Ok(())
 }
 
 #[test]
-fn a_read_that_fails_is_an_error(rt: HostRuntime) -> std::result::Result<(), Fail> {
+fn a_read_that_fails_is_an_error(rt: HostRuntime) -> Result<(), Fail> {
     let alloc = rt.alloc();
     let bytes = file(alloc, 1_000_000)?;
     let slices = far_slices(alloc, 5)?;
     for read in 0..5u32 {
-        let mut held = Held::new(alloc, 1_000_000);
-        let mut missed = Missed::new(alloc);
-        assert!(rt; seen(alloc, &held, &mut missed, &slices).is_err());
         let input = Counted::failing(&bytes, read);
-        let mut fetched = Fetched::default();
-        let done = fetch(alloc, &mut held, &mut missed, &input, &mut fetched);
-        is(&rt, "failed", &done, &Err(FetchError::Read));
+        let arena = Bump::new(alloc);
+        let mut source = ReadingSource::new(alloc, &arena, &input, &AnyFile, 1_000_000);
+        assert!(rt; !source.steady());
+        fails(&rt, "failed", alloc, &mut source, &slices, Error::IoError);
+        is(&rt, "failures", &source.failures(), &1);
         is(&rt, "reads", &input.reads(), &(read + 1));
-        is(&rt, "runs so far", &held.count(), &(read as usize));
-        // What was read before is held, and a later round reads the rest.
-        missed.clear();
-        assert!(rt; seen(alloc, &held, &mut missed, &slices).is_err());
-        let done = fetch(alloc, &mut held, &mut missed, &input, &mut fetched);
-        is(&rt, "again", &done, &Ok(()));
+        // What was read before is held, and the same call reads the rest.
+        gives(&rt, "again", alloc, &mut source, &slices);
+        is(&rt, "failures again", &source.failures(), &1);
         is(&rt, "reads again", &input.reads(), &6);
-        are_held(&rt, alloc, &held, &slices);
     }
     Ok(())
 }
 
 #[test]
-fn a_file_that_ends_early_is_an_error(rt: HostRuntime) -> std::result::Result<(), Fail> {
+fn a_file_that_ends_early_is_an_error(rt: HostRuntime) -> Result<(), Fail> {
     let alloc = rt.alloc();
     let bytes = file(alloc, 500_000)?;
     let slices = far_slices(alloc, 4)?;
-    let mut held = Held::new(alloc, 1_000_000);
-    let mut missed = Missed::new(alloc);
-    assert!(rt; seen(alloc, &held, &mut missed, &slices).is_err());
     let input = Counted::of(&bytes);
-    let mut fetched = Fetched::default();
-    let done = fetch(alloc, &mut held, &mut missed, &input, &mut fetched);
-    is(&rt, "cut", &done, &Err(FetchError::Read));
-    is(&rt, "runs", &held.count(), &3);
-    are_held(&rt, alloc, &held, &slices[1..]);
-    // Nothing is missed: no byte more is held.
-    let input = Counted::of(&bytes);
-    missed.clear();
-    let done = fetch(alloc, &mut held, &mut missed, &input, &mut fetched);
-    is(&rt, "nothing missed", &done, &Err(FetchError::Read));
-    is(&rt, "no read", &input.reads(), &0);
+    let arena = Bump::new(alloc);
+    let mut source = ReadingSource::new(alloc, &arena, &input, &AnyFile, 1_000_000);
+    for call in 1..4u64 {
+        fails(&rt, "cut", alloc, &mut source, &slices, Error::IoError);
+        is(&rt, "failures", &source.failures(), &call);
+    }
+    gives(&rt, "the others", alloc, &mut source, &slices[1..]);
     Ok(())
 }
 
-/// Asks for a byte, and behind it for another far one, so many times.
-#[derive(Drop)]
-struct Chain {
-    next: u64,
-    count: u64,
-    last: LastRound,
-}
-
-impl Chain {
-    /// So many bytes are asked for, and none was so far.
-    fn of(count: u64) -> Chain {
-        Chain {
-            next: 0,
-            count,
-            last: LastRound::before_any(),
-        }
-    }
-
-    /// Asks for the bytes up to the first that isn't held, and returns whether that is none.
-    fn ask_from(&mut self, alloc: Global, held: &Held, missed: &mut Missed) -> bool {
-        let mut source = HeldSource::new(held, missed, &AnyFile);
-        while self.next < self.count {
-            let at = FAR.saturating_mul(self.next);
-            if source.view(alloc, &[slice(at, 1)]).is_err() {
-                return false;
-            }
-            self.next += 1;
-        }
-        true
-    }
-}
-
-impl Asks for Chain {
-    ghost last_missed = { λ chain. chain.last.missed };
-
-    fn ask(&mut self, alloc: Global, held: &Held, missed: &mut Missed) -> bool {
-        let is_last = self.ask_from(alloc, held, missed);
-        self.last.note(missed);
-        is_last
-    }
-}
-
 #[test]
-fn what_is_asked_for_is_read(rt: HostRuntime) -> std::result::Result<(), Fail> {
+fn bytes_in_memory_never_fail(rt: HostRuntime) -> Result<(), Fail> {
     let alloc = rt.alloc();
-    let bytes = file(alloc, 5_000_000)?;
-    for count in [0, 1, 24] {
-        let mut held = Held::new(alloc, 5_000_000);
-        let mut fetched = Fetched::default();
-        let input = Counted::of(&bytes);
-        let mut chain = Chain::of(count);
-        let done = fetch_asked(alloc, &mut held, &input, &mut chain, &mut fetched);
-        is(&rt, "asked", &done, &Ok(()));
-        is(&rt, "rounds", &fetched.rounds, &count);
-        is(&rt, "reads", &u64::from(input.reads()), &count);
-        is(&rt, "next", &chain.next, &count);
-        are_held(&rt, alloc, &held, &far_slices(alloc, count)?);
-    }
-    // A failed read ends the rounds.
-    let mut held = Held::new(alloc, 5_000_000);
-    let mut fetched = Fetched::default();
-    let input = Counted::failing(&bytes, 3);
-    let mut chain = Chain::of(24);
-    let done = fetch_asked(alloc, &mut held, &input, &mut chain, &mut fetched);
-    is(&rt, "failed", &done, &Err(FetchError::Read));
-    is(&rt, "reads", &input.reads(), &4);
+    let bytes = file(alloc, 1_000)?;
+    let arena = Bump::new(alloc);
+    let mut source = ReadingSource::new(alloc, &arena, &bytes, &AnyFile, 1_000);
+    assert!(rt; source.steady());
+    gives(&rt, "all", alloc, &mut source, &[slice(0, 1_000)]);
+    // Of another size, they may.
+    let source = ReadingSource::new(alloc, &arena, &bytes, &AnyFile, 1_001);
+    assert!(rt; !source.steady());
     Ok(())
 }

@@ -1,17 +1,21 @@
--- What a call that reads no source was refused for.
+-- What a call was refused for.
 use Rattle.std.proofs.Common.{◌≡◌, ◌≢◌, true, Result, Err, refl}
-use Rattle.pdb.specs.Source.{State, MayFail}
+use Rattle.pdb.specs.Source.{State}
 use Rattle.pdb.specs.Error.{Error}
 use Rattle.pdb.specs.Error.TheVariants.{IoError, OutOfMemory}
 use Rattle.pdb.specs.Refusal.{Fails}
+use Rattle.pdb_list.specs.Unfailed.{Unfailed}
 
+-- one where no view failed
+pub refused_for : {Y : Type 0} (io : Type 0) (e : Error) (read : Result Y Error) → (io → ⊥) → Fails io e read → e ≢ OutOfMemory → read ≡ Err e
+refused_for io IoError read u f n = absurd (u f)
+refused_for io OutOfMemory read u f n = absurd (n refl)
+refused_for io e read u f n = f
+
+-- one that reads no source
 pub refused_is : {Y : Type 0} (e : Error) (read : Result Y Error) → Fails ⊥ e read → e ≢ OutOfMemory → read ≡ Err e
-refused_is IoError read f n = absurd f
-refused_is OutOfMemory read f n = absurd (n refl)
-refused_is e read f n = f
+refused_is e read f n = refused_for ⊥ e read (λ h. h) f n
 
--- What a call over a steady source was refused for.
-pub refused_steadily : {Y : Type 0} (old new : State) (e : Error) (read : Result Y Error) → old.steady ≡ true → Fails (MayFail old new) e read → e ≢ OutOfMemory → read ≡ Err e
-refused_steadily old new IoError read s f n = let u = f.unsteady in absurd cc
-refused_steadily old new OutOfMemory read s f n = absurd (n refl)
-refused_steadily old new e read s f n = f
+-- no view of a steady source fails
+pub unfailed_steadily : (old new : State) → old.steady ≡ true → Unfailed old new
+unfailed_steadily old new s m = let u = m.unsteady in absurd cc

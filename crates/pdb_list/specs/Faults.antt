@@ -15,6 +15,7 @@ use Rattle.pdb.specs.Refusal.{number_of}
 abbrev pub fault_of_run : RunError → Fault
 fault_of_run run.OutOfMemory = Memory
 fault_of_run (run.Open e) = Open (number_of e)
+fault_of_run run.Read = Read
 fault_of_run run.Write = Write
 
 -- what a read that failed is to the program

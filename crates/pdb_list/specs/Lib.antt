@@ -1,4 +1,5 @@
 pub mod Wrote
+pub mod Unfailed
 pub mod Faults
 pub mod Words
 pub mod Texts

@@ -1,6 +1,6 @@
 //! The modules that commands name by their indices in the list of modules.
 
-ghost use Rattle.std.specs.Prelude.{◌≡◌, ◌≢◌, IfOk, IfErr};
+ghost use Rattle.std.specs.Prelude.{◌≡◌, ◌≢◌, true, IfOk, IfErr};
 ghost use Rattle.pdb.specs.Error.TheVariants.{OutOfMemory};
 ghost use Rattle.pdb.specs.Refusal.{Gives};
 ghost use Rattle.pdb.specs.Source.{Continues, MayFail};
@@ -19,7 +19,7 @@ pub fn module_info_in<'s, S: Source<'s>>(
     ensures continues { Continues pdb.old pdb.new }
     ensures kept { IfOk result (λ _. listed modules.new ≡ listed modules.old) }
     ensures kept_refused { IfErr result (λ e. e ≢ OutOfMemory → listed modules.new ≡ listed modules.old) }
-    ensures answer { Gives (λ m. m) (MayFail pdb.old pdb.new) result (info_at pdb.old.file k (listed modules.old)) }
+    ensures answer { pdb.new.told ≡ true → Gives (λ m. m) (MayFail pdb.old pdb.new) result (info_at pdb.old.file k (listed modules.old)) }
 {
     modules.read_to(k)?;
     match modules.get(k)? {

@@ -7,7 +7,7 @@ ghost use Rattle.pdb_text.specs.Arguments.{Tells};
 ghost use Rattle.pdb_list.specs.Words.{plain_command, takes_module, module_command, number_at, longer_at, command_at, spelled, asks_for_sample};
 
 use pdb_text::{WordsError, number_in};
-use std::alloc::Global;
+use std::alloc::{Allocator, Global};
 
 /// A part of a file to be listed.
 #[derive(Clone, Copy, Debug, PartialEq, Eq)]
@@ -111,7 +111,7 @@ fn module_command(word: &str, k: u32) -> Command
 }
 
 /// The number that the argument of an index is.
-fn number_at(words: &[String], at: usize) -> Result<u32, WordsError>
+fn number_at<A: Allocator>(words: &[String<A>], at: usize) -> Result<u32, WordsError>
     ensures number { Tells (λ n. n) result (number_at (map string_bytes words.now) at) }
     ensures there { IfOk result (λ _. at < length words.now) }
 {
@@ -122,7 +122,11 @@ fn number_at(words: &[String], at: usize) -> Result<u32, WordsError>
 }
 
 /// The command that begins with this word at an index and has numbers behind it, and how many words spell it.
-fn longer_from(words: &[String], at: usize, word: &str) -> Result<(Command, usize), WordsError>
+fn longer_from<A: Allocator>(
+    words: &[String<A>],
+    at: usize,
+    word: &str,
+) -> Result<(Command, usize), WordsError>
     requires { at < length words.now }
     ensures command { Tells (λ c. c) result (longer_at (map string_bytes words.now) at word.now) }
     ensures count { IfOk result (λ c. (0 < c.1) × (at + c.1 ≤ length words.now)) }
@@ -141,7 +145,10 @@ fn longer_from(words: &[String], at: usize, word: &str) -> Result<(Command, usiz
 
 /// The command that begins at an index, and how many words spell it.
 #[tactic(auto, unfolding(crate::specs::Words::command_at))]
-fn command_from(words: &[String], at: usize) -> Result<(Command, usize), WordsError>
+fn command_from<A: Allocator>(
+    words: &[String<A>],
+    at: usize,
+) -> Result<(Command, usize), WordsError>
     ensures command { Tells (λ c. c) result (command_at (map string_bytes words.now) at) }
     ensures count { IfOk result (λ c. (0 < c.1) × (at + c.1 ≤ length words.now)) }
 {
@@ -155,7 +162,10 @@ fn command_from(words: &[String], at: usize) -> Result<(Command, usize), WordsEr
 }
 
 /// The commands that the words spell, in their order, or the index of the first word that spells none.
-pub fn parse_commands(alloc: Global, words: &[String]) -> Result<Vec<Command>, WordsError>
+pub fn parse_commands<A: Allocator>(
+    alloc: Global,
+    words: &[String<A>],
+) -> Result<Vec<Command>, WordsError>
     ensures { Tells (λ v. v.items) result (spelled (map string_bytes words.now)) }
 {
     let mut commands = Vec::new(alloc);
@@ -169,7 +179,7 @@ pub fn parse_commands(alloc: Global, words: &[String]) -> Result<Vec<Command>, W
 }
 
 /// Whether the program's words, without its own name, ask for the sample: there are none, or the one word `sample`.
-pub fn asks_for_sample(words: &[String]) -> bool
+pub fn asks_for_sample<A: Allocator>(words: &[String<A>]) -> bool
     ensures { result ≡ asks_for_sample (map string_bytes words.now) }
 {
     match words {

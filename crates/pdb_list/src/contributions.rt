@@ -4,6 +4,7 @@ ghost use Rattle.std.specs.Prelude.{◌≡◌, ◌++◌, true, OnOk, codes};
 ghost use Rattle.pdb.specs.Source.{Continues};
 ghost use Rattle.pdb.specs.DbiViews.{contributions_left};
 ghost use Rattle.pdb_text.specs.Digits.{hex};
+ghost use Rattle.pdb_list.specs.Unfailed.{Unfailed};
 ghost use Rattle.pdb_list.specs.Texts.{contribution_list_text, contributed_text, contribution_text, contributions_text, offset_text};
 
 use crate::text::{put_error, put_refusal};
@@ -103,7 +104,7 @@ pub fn put_contributions<'s, S: Source<'s>>(
     pdb: &mut PDB<'s, S>,
 ) -> Result<(), AllocError>
     ensures continues { Continues pdb.old pdb.new }
-    ensures text { pdb.old.steady ≡ true → OnOk result (out.new.items ≡ out.old.items ++ contributions_text pdb.old.file) }
+    ensures text { pdb.new.told ≡ true → Unfailed pdb.old pdb.new → OnOk result (out.new.items ≡ out.old.items ++ contributions_text pdb.old.file) }
 {
     let stream = match pdb.debug_information() {
         Ok(stream) => stream,

@@ -1,14 +1,15 @@
 //! Texts written to a writer.
 
-ghost use Rattle.std.specs.Prelude.{◌≡◌, ◌≢◌, ◌+◌, ◌^◌, ◌<◌, ◌≤◌, ◌++◌, ◌∷◌, true, length, take, OnOk, OnErr, IfOk, IfErr, IsErrOf, Ok, Err};
+ghost use Rattle.std.specs.Prelude.{◌≡◌, ◌≢◌, ◌+◌, ◌^◌, ◌<◌, ◌≤◌, ◌⊎◌, ◌++◌, ◌∷◌, false, true, length, OnOk, IfOk, IfErr, IsErrOf, Ok, Err};
 ghost use Rattle.std.specs.Io.KnownBytes.{Appends, Keeps};
 ghost use Rattle.pdb.specs.Error.{Error};
 ghost use Rattle.pdb.specs.Error.TheVariants.{OutOfMemory};
-ghost use Rattle.pdb.specs.Source.{State, Continues};
+ghost use Rattle.pdb.specs.Source.{State, Continues, IsKnown};
 ghost use Rattle.pdb.specs.Container.{opens};
 ghost use Rattle.pdb_list.specs.Chosen.{IsListOf, KeptOf};
 ghost use Rattle.pdb.specs.Listed.{listed};
 ghost use Rattle.pdb_text.specs.Written.{WroteFirst, WroteFront};
+ghost use Rattle.pdb_list.specs.Unfailed.{Unfailed};
 ghost use Rattle.pdb_list.specs.Wrote.{Wrote};
 ghost use Rattle.pdb_list.specs.CommandTexts.{command_text, of_module_text, run_error_of, texts};
 ghost use Rattle.pdb_list.specs.ModuleTexts.{module_text, text_of_module};
@@ -39,6 +40,8 @@ pub enum RunError {
     OutOfMemory,
     /// The file is no container that can be opened.
     Open(Error),
+    /// A read of the file failed.
+    Read,
     /// The writer failed, or took nothing.
     Write,
 }
@@ -119,7 +122,7 @@ fn put_of_chosen<'s, S: Source<'s>>(
     command: Command,
 ) -> Result<(), AllocError>
     ensures continues { Continues pdb.old pdb.new }
-    ensures text { pdb.old.steady ≡ true → OnOk result (out.new.items ≡ out.old.items ++ module_text pdb.old.file k (of_module_text command)) }
+    ensures text { pdb.new.told ≡ true → Unfailed pdb.old pdb.new → OnOk result (out.new.items ≡ out.old.items ++ module_text pdb.old.file k (of_module_text command)) }
 {
     let found = pdb.module_at(k as usize);
     put_found(alloc, out, found, command)
@@ -137,7 +140,7 @@ fn put_of_kept<'s, S: Source<'s>>(
 ) -> Result<(), AllocError>
     ensures continues { Continues pdb.old pdb.new }
     ensures kept { OnOk result (listed modules.new ≡ listed modules.old) }
-    ensures text { pdb.old.steady ≡ true → IsListOf pdb.old.file modules.old → OnOk result (out.new.items ≡ out.old.items ++ module_text pdb.old.file k (of_module_text command)) }
+    ensures text { pdb.new.told ≡ true → Unfailed pdb.old pdb.new → IsListOf pdb.old.file modules.old → OnOk result (out.new.items ≡ out.old.items ++ module_text pdb.old.file k (of_module_text command)) }
 {
     let found = module_info_in(modules, pdb, k);
     put_found(alloc, out, found, command)
@@ -151,7 +154,7 @@ fn put_text<'s, S: Source<'s>>(
     command: Command,
 ) -> Result<(), AllocError>
     ensures continues { Continues pdb.old pdb.new }
-    ensures text { pdb.old.steady ≡ true → OnOk result (out.new.items ≡ out.old.items ++ command_text pdb.old.file command) }
+    ensures text { pdb.new.told ≡ true → Unfailed pdb.old pdb.new → OnOk result (out.new.items ≡ out.old.items ++ command_text pdb.old.file command) }
 {
     match command {
         Command::Info => put_info(alloc, out, pdb),
@@ -179,7 +182,7 @@ fn put_next<'s, S: Source<'s>>(
 ) -> Result<(), AllocError>
     ensures continues { Continues pdb.old pdb.new }
     ensures kept { KeptOf pdb.old.file kept.old → OnOk result (KeptOf pdb.old.file kept.new) }
-    ensures text { pdb.old.steady ≡ true → KeptOf pdb.old.file kept.old → OnOk result (out.new.items ≡ out.old.items ++ command_text pdb.old.file command) }
+    ensures text { pdb.new.told ≡ true → Unfailed pdb.old pdb.new → KeptOf pdb.old.file kept.old → OnOk result (out.new.items ≡ out.old.items ++ command_text pdb.old.file command) }
 {
     match (kept, command.module_index()) {
         (Some(modules), Some(k)) => put_of_kept(alloc, out, pdb, modules, k, command),
@@ -187,28 +190,39 @@ fn put_next<'s, S: Source<'s>>(
     }
 }
 
-/// Writes the commands' texts, one after the other, and counts them. Each text is composed and then written.
+/// Whether a view failed since so many had, or it can't be told.
+fn has_failed<'s, S: Source<'s>>(pdb: &PDB<'s, S>, before: u64) -> bool
+    ensures failed { result ≡ true → (before < pdb.now.failures) ⊎ (2 ^ 64 ≤ pdb.now.failures + 1) }
+    ensures unfailed { result ≡ false → (old : State) → old.failures ≡ before → Unfailed old pdb.now }
+{
+    let failures = pdb.failures();
+    failures > before || failures == u64::MAX
+}
+
+/// Writes the commands' texts, one after the other. Each text is composed and then written. Where `stops_unread`, a
+/// view that fails ends the run, and nothing of that text is written.
 fn write_texts<'s, S: Source<'s>, W: Write>(
     alloc: Global,
     pdb: &mut PDB<'s, S>,
     kept: &mut Option<ModuleList<'_>>,
     commands: &[Command],
+    stops_unread: bool,
     out: &mut W,
-    written: &mut usize,
 ) -> Result<(), RunError>
-    requires room { written.old + length commands.now < 2 ^ 64 }
     ensures continues { Continues pdb.old pdb.new }
     ensures opened { (e : Error) → IsErrOf result (RunError.Open e) → ⊥ }
-    ensures all { OnOk result (written.new ≡ written.old + length commands.now) }
-    ensures most { written.new ≤ written.old + length commands.now }
-    ensures wrote { pdb.old.steady ≡ true → KeptOf pdb.old.file kept.old → Wrote (command_text pdb.old.file) (W.contents out.old) (W.contents out.new) commands.now written.old written.new result }
+    ensures read { IsErrOf result RunError.Read → stops_unread ≡ true }
+    ensures wrote { IsKnown pdb.old → (stops_unread ≡ false → pdb.old.steady ≡ true) → KeptOf pdb.old.file kept.old → Wrote (command_text pdb.old.file) (W.contents out.old) (W.contents out.new) commands.now result }
 {
     let mut text = Vec::new(alloc);
     for command in commands {
+        let failures = pdb.failures();
         text.clear();
         put_next(alloc, &mut text, pdb, kept, *command)?;
+        if stops_unread && has_failed(pdb, failures) {
+            return Err(RunError::Read);
+        }
         write_out(out, &text)?;
-        *written += 1;
     }
     Ok(())
 }
@@ -219,19 +233,17 @@ fn write_refused<'s, S: Source<'s>, W: Write>(
     pdb: &mut PDB<'s, S>,
     refusal: Error,
     commands: &[Command],
+    stops_unread: bool,
     out: &mut W,
-    written: &mut usize,
 ) -> Result<(), RunError>
-    requires room { written.old + 1 + length commands.now < 2 ^ 64 }
     ensures opened { (e : Error) → IsErrOf result (RunError.Open e) → ⊥ }
-    ensures most { written.new ≤ written.old + 1 + length commands.now }
-    ensures wrote { pdb.old.steady ≡ true → (first : Command) → (refusal ≢ OutOfMemory → command_text pdb.old.file first ≡ error_text refusal) → Wrote (command_text pdb.old.file) (W.contents out.old) (W.contents out.new) (first ∷ commands.now) written.old written.new result }
+    ensures read { IsErrOf result RunError.Read → stops_unread ≡ true }
+    ensures wrote { IsKnown pdb.old → (stops_unread ≡ false → pdb.old.steady ≡ true) → (first : Command) → (refusal ≢ OutOfMemory → command_text pdb.old.file first ≡ error_text refusal) → Wrote (command_text pdb.old.file) (W.contents out.old) (W.contents out.new) (first ∷ commands.now) result }
 {
     let mut line = Vec::new(alloc);
     put_refusal(&mut line, refusal)?;
     write_out(out, &line)?;
-    *written += 1;
-    write_texts(alloc, pdb, &mut None, commands, out, written)
+    write_texts(alloc, pdb, &mut None, commands, stops_unread, out)
 }
 
 /// Writes the commands' texts. Where the first names a module, the list of modules is kept for all of them.
@@ -239,30 +251,34 @@ fn write_rest<'s, S: Source<'s>, W: Write>(
     alloc: Global,
     pdb: &mut PDB<'s, S>,
     commands: &[Command],
+    stops_unread: bool,
     out: &mut W,
-    written: &mut usize,
 ) -> Result<(), RunError>
-    requires room { written.old + length commands.now < 2 ^ 64 }
     ensures opened { (e : Error) → IsErrOf result (RunError.Open e) → ⊥ }
-    ensures most { written.new ≤ written.old + length commands.now }
-    ensures wrote { pdb.old.steady ≡ true → Wrote (command_text pdb.old.file) (W.contents out.old) (W.contents out.new) commands.now written.old written.new result }
+    ensures read { IsErrOf result RunError.Read → stops_unread ≡ true }
+    ensures wrote { IsKnown pdb.old → (stops_unread ≡ false → pdb.old.steady ≡ true) → Wrote (command_text pdb.old.file) (W.contents out.old) (W.contents out.new) commands.now result }
 {
     let Some((first, others)) = commands.split_first() else {
         return Ok(());
     };
     let Some(_) = first.module_index() else {
-        return write_texts(alloc, pdb, &mut None, commands, out, written);
+        return write_texts(alloc, pdb, &mut None, commands, stops_unread, out);
     };
-    let information = match pdb.debug_information() {
+    let failures = pdb.failures();
+    let found = pdb.debug_information();
+    if stops_unread && has_failed(pdb, failures) {
+        return Err(RunError::Read);
+    }
+    let information = match found {
         Ok(information) => information,
-        Err(e) => return write_refused(alloc, pdb, e, others, out, written),
+        Err(e) => return write_refused(alloc, pdb, e, others, stops_unread, out),
     };
     match information.modules() {
         Ok(modules) => {
             let mut kept = Some(ModuleList::new(alloc, modules));
-            write_texts(alloc, pdb, &mut kept, commands, out, written)
+            write_texts(alloc, pdb, &mut kept, commands, stops_unread, out)
         }
-        Err(e) => write_refused(alloc, pdb, e, others, out, written),
+        Err(e) => write_refused(alloc, pdb, e, others, stops_unread, out),
     }
 }
 
@@ -276,42 +292,26 @@ fn plain_count(commands: &[Command]) -> usize
         .unwrap_or(commands.len())
 }
 
-/// Opens the file of a source, and writes the commands' texts over it, one after the other. Each text is composed and
-/// then written. A command that fails has its items before the fault and then the line `error N`, and the next
-/// command follows. It counts the texts that were written, whole. The promises on the texts are made for a source that
-/// is steady.
-pub fn run_counted<'s, S: Source<'s>, W: Write>(
+/// Writes the commands' texts over an opened file.
+fn write_all<'s, S: Source<'s>, W: Write>(
     alloc: Global,
-    source: S,
+    pdb: &mut PDB<'s, S>,
     commands: &[Command],
+    stops_unread: bool,
     out: &mut W,
-    written: &mut usize,
 ) -> Result<(), RunError>
-    // All texts were written.
-    ensures ok { (S.state source).steady ≡ true → OnOk result ((opens (S.state source).file ≡ Ok tt)
-        × Appends (W.contents out.old) (W.contents out.new) (texts (S.state source).file commands.now)) }
-    // The texts of so many first commands were written, whole.
-    ensures memory { (S.state source).steady ≡ true → IsErrOf result RunError.OutOfMemory
-        → Appends (W.contents out.old) (W.contents out.new) (texts (S.state source).file (take written.new commands.now)) }
-    ensures most { written.new ≤ length commands.now }
-    // The file can't be opened, and nothing was written.
-    ensures open { (e : Error) → IsErrOf result (RunError.Open e) → (e ≢ OutOfMemory) × Keeps (W.contents out.old) (W.contents out.new) }
-    ensures refused { (S.state source).steady ≡ true → (e : Error) → IsErrOf result (RunError.Open e) → opens (S.state source).file ≡ Err e }
-    // A beginning of the texts was written.
-    ensures write { (S.state source).steady ≡ true → IsErrOf result RunError.Write
-        → WroteFront (W.contents out.old) (W.contents out.new) (texts (S.state source).file commands.now) }
+    ensures opened { (e : Error) → IsErrOf result (RunError.Open e) → ⊥ }
+    ensures read { IsErrOf result RunError.Read → stops_unread ≡ true }
+    ensures wrote { IsKnown pdb.old → (stops_unread ≡ false → pdb.old.steady ≡ true) → Wrote (command_text pdb.old.file) (W.contents out.old) (W.contents out.new) commands.now result }
 {
-    *written = 0;
-    let mut pdb = match PDB::open(alloc, source) {
-        Ok(pdb) => pdb,
-        Err(e) => return Err(open_error(e)),
-    };
     let (plain, rest) = commands.split_at(plain_count(commands));
-    write_texts(alloc, &mut pdb, &mut None, plain, out, written)?;
-    write_rest(alloc, &mut pdb, rest, out, written)
+    write_texts(alloc, pdb, &mut None, plain, stops_unread, out)?;
+    write_rest(alloc, pdb, rest, stops_unread, out)
 }
 
-/// The same, and nothing is counted.
+/// Opens the file of a source, and writes the commands' texts over it, one after the other. Each text is composed and
+/// then written. A command that fails has its items before the fault and then the line `error N`, and the next
+/// command follows. The promises on the texts are made for a source whose bytes are known and that is steady.
 pub fn run<'s, S: Source<'s>, W: Write>(
     alloc: Global,
     source: S,
@@ -319,18 +319,56 @@ pub fn run<'s, S: Source<'s>, W: Write>(
     out: &mut W,
 ) -> Result<(), RunError>
     // All texts were written.
-    ensures ok { (S.state source).steady ≡ true → OnOk result ((opens (S.state source).file ≡ Ok tt)
+    ensures ok { IsKnown (S.state source) → (S.state source).steady ≡ true → OnOk result ((opens (S.state source).file ≡ Ok tt)
         × Appends (W.contents out.old) (W.contents out.new) (texts (S.state source).file commands.now)) }
     // The texts of some first commands were written, whole.
-    ensures memory { (S.state source).steady ≡ true → IsErrOf result RunError.OutOfMemory
+    ensures memory { IsKnown (S.state source) → (S.state source).steady ≡ true → IsErrOf result RunError.OutOfMemory
         → WroteFirst (command_text (S.state source).file) (W.contents out.old) (W.contents out.new) commands.now }
     // The file can't be opened, and nothing was written.
     ensures open { (e : Error) → IsErrOf result (RunError.Open e) → (e ≢ OutOfMemory) × Keeps (W.contents out.old) (W.contents out.new) }
-    ensures refused { (S.state source).steady ≡ true → (e : Error) → IsErrOf result (RunError.Open e) → opens (S.state source).file ≡ Err e }
+    ensures refused { IsKnown (S.state source) → (S.state source).steady ≡ true → (e : Error) → IsErrOf result (RunError.Open e) → opens (S.state source).file ≡ Err e }
     // A beginning of the texts was written.
-    ensures write { (S.state source).steady ≡ true → IsErrOf result RunError.Write
+    ensures write { IsKnown (S.state source) → (S.state source).steady ≡ true → IsErrOf result RunError.Write
         → WroteFront (W.contents out.old) (W.contents out.new) (texts (S.state source).file commands.now) }
+    // A view that fails is an error like others.
+    ensures read { IsErrOf result RunError.Read → ⊥ }
 {
-    let mut written = 0;
-    run_counted(alloc, source, commands, out, &mut written)
+    let mut pdb = match PDB::open(alloc, source) {
+        Ok(pdb) => pdb,
+        Err(e) => return Err(open_error(e)),
+    };
+    write_all(alloc, &mut pdb, commands, false, out)
+}
+
+/// The same, but a view that fails ends the run behind the whole texts of the commands before.
+pub fn run_reading<'s, S: Source<'s>, W: Write>(
+    alloc: Global,
+    source: S,
+    commands: &[Command],
+    out: &mut W,
+) -> Result<(), RunError>
+    // All texts were written.
+    ensures ok { IsKnown (S.state source) → OnOk result ((opens (S.state source).file ≡ Ok tt)
+        × Appends (W.contents out.old) (W.contents out.new) (texts (S.state source).file commands.now)) }
+    // The texts of some first commands were written, whole.
+    ensures memory { IsKnown (S.state source) → IsErrOf result RunError.OutOfMemory
+        → WroteFirst (command_text (S.state source).file) (W.contents out.old) (W.contents out.new) commands.now }
+    ensures read { IsKnown (S.state source) → IsErrOf result RunError.Read
+        → WroteFirst (command_text (S.state source).file) (W.contents out.old) (W.contents out.new) commands.now }
+    // The file can't be opened, and nothing was written.
+    ensures open { (e : Error) → IsErrOf result (RunError.Open e) → (e ≢ OutOfMemory) × Keeps (W.contents out.old) (W.contents out.new) }
+    ensures refused { IsKnown (S.state source) → (e : Error) → IsErrOf result (RunError.Open e) → opens (S.state source).file ≡ Err e }
+    // A beginning of the texts was written.
+    ensures write { IsKnown (S.state source) → IsErrOf result RunError.Write
+        → WroteFront (W.contents out.old) (W.contents out.new) (texts (S.state source).file commands.now) }
+    ensures steady { (S.state source).steady ≡ true → IsErrOf result RunError.Read → ⊥ }
+{
+    let mut pdb = match PDB::open(alloc, source) {
+        Ok(pdb) => pdb,
+        Err(Error::IoError) => return Err(RunError::Read),
+        Err(e) => return Err(open_error(e)),
+    };
+    // A steady source can't fail.
+    let stops_unread = !pdb.steady();
+    write_all(alloc, &mut pdb, commands, stops_unread, out)
 }

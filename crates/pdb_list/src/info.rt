@@ -3,6 +3,7 @@
 ghost use Rattle.std.specs.Prelude.{◌≡◌, ◌++◌, true, OnOk, codes};
 ghost use Rattle.pdb.specs.Source.{Continues};
 ghost use Rattle.pdb.specs.DbiViews.{information};
+ghost use Rattle.pdb_list.specs.Unfailed.{Unfailed};
 ghost use Rattle.pdb_list.specs.Texts.{debug_information_text, header_text, info_text, information_text, version_text};
 
 use crate::text::{put_optional, put_refusal};
@@ -66,7 +67,7 @@ pub fn put_info<'s, S: Source<'s>>(
     pdb: &mut PDB<'s, S>,
 ) -> Result<(), AllocError>
     ensures continues { Continues pdb.old pdb.new }
-    ensures text { pdb.old.steady ≡ true → OnOk result (out.new.items ≡ out.old.items ++ info_text pdb.old.file) }
+    ensures text { pdb.new.told ≡ true → Unfailed pdb.old pdb.new → OnOk result (out.new.items ≡ out.old.items ++ info_text pdb.old.file) }
 {
     match pdb.pdb_information() {
         Ok(stream) => put_information(out, &stream)?,

@@ -8,7 +8,7 @@ mod contributions;
 mod cross_module;
 mod engine;
 mod files;
-mod in_parts;
+mod from_reader;
 mod info;
 mod inlinees;
 mod lines;
@@ -16,15 +16,15 @@ mod modules;
 mod names;
 mod report;
 mod sections;
-mod streams_asked;
 mod symbols;
 mod text;
 
+use bumpalo::Bump;
 use command::{Command, asks_for_sample, parse_commands};
 use engine::run;
-use in_parts::list_in_parts;
+use from_reader::list_from;
 use pdb::MemorySource;
-use pdb_file::{Fetched, read_all, size_of};
+use pdb_file::{read_all, size_of};
 use pdb_text::words_of;
 use report::{Fault, report};
 use std::alloc::Global;
@@ -67,7 +67,8 @@ fn list_sample<W: io::Write>(alloc: Global, out: &mut W) -> Result<(), Fault> {
 /// Lists what the words ask for: their commands are taken first, then the file is read, as far as they ask for it where
 /// it can be read at an offset, and else whole.
 fn list(rt: &(impl Env + Files<File = File> + Print + AllocGlobal)) -> Result<(), Fault> {
-    let words = words_of(rt).map_err(|e| words_fault(&e))?;
+    let arena = Bump::new(rt.alloc());
+    let words = words_of(&(rt, &arena)).map_err(|e| words_fault(&e))?;
     let mut out = io::writer(rt);
     if asks_for_sample(&words) {
         return list_sample(rt.alloc(), &mut out);
@@ -81,8 +82,7 @@ fn list(rt: &(impl Env + Files<File = File> + Print + AllocGlobal)) -> Result<()
     let commands = parse_commands(rt.alloc(), spelled)?;
     let mut file = fs::open(rt, name.as_str()).map_err(|_| Fault::Read)?;
     if let Some(size) = size_of(&file) {
-        let mut fetched = Fetched::default();
-        return list_in_parts(rt.alloc(), &file, size, &commands, &mut out, &mut fetched);
+        return list_from(rt.alloc(), &file, size, &commands, &mut out);
     }
     let bytes = read_all(rt.alloc(), &mut file)?;
     run(rt.alloc(), MemorySource::new(&bytes), &commands, &mut out)?;

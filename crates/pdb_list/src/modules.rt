@@ -3,6 +3,7 @@
 ghost use Rattle.std.specs.Prelude.{◌≡◌, ◌++◌, true, OnOk, codes};
 ghost use Rattle.pdb.specs.Source.{Continues};
 ghost use Rattle.pdb.specs.DbiViews.{modules_left, modules_steps};
+ghost use Rattle.pdb_list.specs.Unfailed.{Unfailed};
 ghost use Rattle.pdb_list.specs.Texts.{module_line, module_list_text, modules_text, object_line, parts_text};
 
 use crate::text::{put_error, put_refusal, put_stream};
@@ -72,7 +73,7 @@ pub fn put_modules<'s, S: Source<'s>>(
     pdb: &mut PDB<'s, S>,
 ) -> Result<(), AllocError>
     ensures continues { Continues pdb.old pdb.new }
-    ensures text { pdb.old.steady ≡ true → OnOk result (out.new.items ≡ out.old.items ++ modules_text pdb.old.file) }
+    ensures text { pdb.new.told ≡ true → Unfailed pdb.old pdb.new → OnOk result (out.new.items ≡ out.old.items ++ modules_text pdb.old.file) }
 {
     let stream = match pdb.debug_information() {
         Ok(stream) => stream,

@@ -3,6 +3,7 @@
 ghost use Rattle.std.specs.Prelude.{◌≡◌, ◌++◌, true, OnOk, codes, flat_map};
 ghost use Rattle.pdb.specs.Source.{Continues};
 ghost use Rattle.pdb.specs.DbiViews.{stream_name};
+ghost use Rattle.pdb_list.specs.Unfailed.{Unfailed};
 ghost use Rattle.pdb_list.specs.Texts.{names_text, stream_name_text};
 
 use crate::text::{put_refusal, put_stream};
@@ -40,7 +41,7 @@ pub fn put_names<'s, S: Source<'s>>(
     pdb: &mut PDB<'s, S>,
 ) -> Result<(), AllocError>
     ensures continues { Continues pdb.old pdb.new }
-    ensures text { pdb.old.steady ≡ true → OnOk result (out.new.items ≡ out.old.items ++ names_text pdb.old.file) }
+    ensures text { pdb.new.told ≡ true → Unfailed pdb.old pdb.new → OnOk result (out.new.items ≡ out.old.items ++ names_text pdb.old.file) }
 {
     let stream = match pdb.pdb_information() {
         Ok(stream) => stream,

@@ -46,6 +46,7 @@ impl From<RunError> for Fault {
         match e {
             RunError::OutOfMemory => Fault::Memory,
             RunError::Open(refusal) => Fault::Open(refusal.number()),
+            RunError::Read => Fault::Read,
             RunError::Write => Fault::Write,
         }
     }

@@ -2,6 +2,7 @@
 
 ghost use Rattle.std.specs.Prelude.{◌≡◌, ◌++◌, true, OnOk, codes, flat_map};
 ghost use Rattle.pdb.specs.Source.{Continues};
+ghost use Rattle.pdb_list.specs.Unfailed.{Unfailed};
 ghost use Rattle.pdb_list.specs.Texts.{section_text, sections_text};
 
 use crate::text::{put_none, put_refusal};
@@ -43,7 +44,7 @@ pub fn put_sections<'s, S: Source<'s>>(
     pdb: &mut PDB<'s, S>,
 ) -> Result<(), AllocError>
     ensures continues { Continues pdb.old pdb.new }
-    ensures text { pdb.old.steady ≡ true → OnOk result (out.new.items ≡ out.old.items ++ sections_text pdb.old.file) }
+    ensures text { pdb.new.told ≡ true → Unfailed pdb.old pdb.new → OnOk result (out.new.items ≡ out.old.items ++ sections_text pdb.old.file) }
 {
     match pdb.sections() {
         Ok(Some(headers)) => put_list(out, &headers),

@@ -9,6 +9,7 @@ ghost use Rattle.pdb.specs.Headings.{shown_heading};
 ghost use Rattle.pdb.specs.Views.{symbol_of, symbols_left};
 ghost use Rattle.pdb.specs.Text.{name_bytes};
 ghost use Rattle.pdb_text.specs.Digits.{hex};
+ghost use Rattle.pdb_list.specs.Unfailed.{Unfailed};
 ghost use Rattle.pdb_list.specs.Texts.{globals_text, form_text, space_text, bytes_of, refused_text, record_text, symbol_text, symbols_text, title_text};
 ghost use Rattle.pdb_list.specs.ModuleTexts.{symbols_of_text};
 
@@ -141,7 +142,7 @@ pub fn put_globals<'s, S: Source<'s>>(
     pdb: &mut PDB<'s, S>,
 ) -> Result<(), AllocError>
     ensures continues { Continues pdb.old pdb.new }
-    ensures text { pdb.old.steady ≡ true → OnOk result (out.new.items ≡ out.old.items ++ globals_text pdb.old.file) }
+    ensures text { pdb.new.told ≡ true → Unfailed pdb.old pdb.new → OnOk result (out.new.items ≡ out.old.items ++ globals_text pdb.old.file) }
 {
     match pdb.global_symbols() {
         Ok(table) => put_symbols(alloc, out, table.iter()),

@@ -75,9 +75,11 @@ impl<'b> Places<'b> {
 }
 
 impl<'b> ReadAt for Places<'b> {
-    ghost use Rattle.std.specs.Prelude.{None};
+    ghost use Rattle.std.specs.Prelude.{None, false};
 
     ghost known = { λ _. None };
+
+    ghost is_steady = { λ _. false };
 
     fn read_bytes_at(&self, buf: &mut [u8], at: u64) -> io::Result<usize> {
         let left = self.left.get();
@@ -92,5 +94,9 @@ impl<'b> ReadAt for Places<'b> {
         let count = rest.len().min(buf.len()).min(self.step);
         buf[..count].copy_from_slice(&rest[..count]);
         Ok(count)
+    }
+
+    fn steady_size(&self) -> Option<u64> {
+        None
     }
 }

@@ -16,9 +16,9 @@ struct Wanting<'s> {
 }
 
 impl<'s> Meaning for Wanting<'s> {
-    ghost use Rattle.std.specs.Prelude.{true};
+    ghost use Rattle.pdb.specs.Source.{in_memory};
 
-    ghost state = { λ s. record { file = s.source; failures = 0; steady = true } };
+    ghost state = { λ s. in_memory s.source };
 }
 
 impl<'s> Source<'s> for Wanting<'s> {

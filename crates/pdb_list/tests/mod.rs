@@ -6,7 +6,7 @@ mod container;
 mod cuts;
 mod ends;
 mod fakes;
-mod in_parts;
+mod from_reader;
 mod memory;
 mod module_texts;
 mod report;

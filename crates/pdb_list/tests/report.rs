@@ -65,6 +65,12 @@ fn faults_of_errors(rt: HostRuntime) {
     );
     is(
         &rt,
+        "Fault::from(RunError::Read)",
+        &Fault::from(RunError::Read),
+        &Fault::Read,
+    );
+    is(
+        &rt,
         "Fault::from(RunError::Write)",
         &Fault::from(RunError::Write),
         &Fault::Write,

@@ -3,7 +3,7 @@
 use super::texts::{INFORMATION, TEXTS, joined};
 use crate::SAMPLE_COMMANDS;
 use crate::command::Command;
-use crate::engine::{RunError, run};
+use crate::engine::{RunError, run, run_reading};
 use crate::tests::fakes::{Slow, is};
 use pdb::{Error, Meaning, MemorySource, Source, SourceSlice, View};
 use pdb_sample::FailingSource;
@@ -57,9 +57,9 @@ struct Counting<'s, 'c> {
 }
 
 impl<'s, 'c> Meaning for Counting<'s, 'c> {
-    ghost use Rattle.std.specs.Prelude.{true};
+    ghost use Rattle.pdb.specs.Source.{in_memory};
 
-    ghost state = { λ s. record { file = s.source; failures = 0; steady = true } };
+    ghost state = { λ s. in_memory s.source };
 }
 
 impl<'s, 'c> Source<'s> for Counting<'s, 'c> {
@@ -184,4 +184,42 @@ fn a_refused_command_answers_when_it_is_asked_again(rt: HostRuntime) -> Result<(
     let info = Command::Info;
     let texts = [INFORMATION, REFUSED, TEXTS[0]];
     twice(&rt, rt.alloc(), 5, info, &texts)
+}
+
+/// How many of these texts were written, whole, where nothing else was.
+pub fn whole_texts(alloc: Global, texts: &[&[u8]], written: &[u8]) -> Result<Option<usize>, Fail> {
+    for count in 0..=texts.len() {
+        if joined(alloc, texts.get(..count).unwrap_or(texts))?.as_slice() == written {
+            return Ok(Some(count));
+        }
+    }
+    Ok(None)
+}
+
+#[test]
+fn a_failing_view_ends_a_run_that_reads_behind_whole_texts(rt: HostRuntime) -> Result<(), Fail> {
+    let file = pdb_sample::file(rt.alloc())?;
+    let views = views_of(&rt, rt.alloc(), &SAMPLE_COMMANDS)?;
+    let mut last = 0;
+    for k in 0..views {
+        let mut out = Slow::new(rt.alloc(), 4096, 4096);
+        let source = FailingSource::new(MemorySource::new(&file), k);
+        let ended = run_reading(rt.alloc(), source, &SAMPLE_COMMANDS, &mut out);
+        is(&rt, "ended", &ended, &Err(RunError::Read));
+        let written = whole_texts(rt.alloc(), &TEXTS, out.taken())?;
+        is(&rt, "whole texts, in turn", &(written >= Some(last)), &true);
+        last = written.unwrap_or(12);
+    }
+    is(&rt, "the last view is the last text's", &last, &11);
+    let mut out = Slow::new(rt.alloc(), 4096, 4096);
+    let source = FailingSource::new(MemorySource::new(&file), views);
+    let ended = run_reading(rt.alloc(), source, &SAMPLE_COMMANDS, &mut out);
+    is(&rt, "ended", &ended, &Ok(()));
+    is(
+        &rt,
+        "all texts",
+        &whole_texts(rt.alloc(), &TEXTS, out.taken())?,
+        &Some(12),
+    );
+    Ok(())
 }

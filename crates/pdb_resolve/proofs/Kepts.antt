@@ -1,5 +1,5 @@
 -- What is kept of a file.
-use Rattle.std.proofs.Common.{◌≡◌, ℕ, zero, suc, [], ◌∷◌, inl, inr, subst, ◌<◌, ◌≤◌, ◌+◌, List, Option, Some, None, Box, Bor, false, ap, sym, ◌∙◌, refl, map, length, replicate, slice_set, slice_index_or, arith}
+use Rattle.std.proofs.Common.{◌≡◌, ℕ, zero, suc, [], ◌∷◌, inl, inr, subst, ◌<◌, ◌≤◌, ◌+◌, List, Option, Some, None, Box, Bor, false, true, ap, sym, ◌∙◌, refl, map, length, replicate, slice_set, slice_index_or, arith}
 use Rattle.std.specs.Prelude.{slice_get, option_copied, Result, Ok, Err, OnOk, OnErr, IfOk, IfErr}
 use Rattle.pdb.specs.Error.{Error}
 use Rattle.pdb.specs.Error.TheVariants.{OutOfMemory}
@@ -7,6 +7,7 @@ use Rattle.std.specs.Option.{is_some}
 use Rattle.std.specs.declared.alloc.Global.{Global}
 use Rattle.std.proofs.lemmas.List.{map-set, get_or-map, get_or_past, get_or-set_same, get_or-set_other, get_or-replicate, length-map, length-replicate, length-set}
 use Rattle.std.proofs.lemmas.Bool.{cases_eq, cases_lt}
+use Rattle.pdb.specs.Source.{State}
 use Rattle.pdb.specs.Modules.{ModuleEntry}
 use Rattle.pdb.specs.ModuleStream.{ModuleBytes}
 use Rattle.pdb.specs.Answers.{module_info_in}
@@ -30,17 +31,17 @@ code_stays [] k b c d e f = refl
 code_stays (x ∷ xs) zero b c d e f = ap (λ (o : Option ModuleBytes). o ∷ map boxed xs) (ap Some f ∙ sym (ap boxed e))
 code_stays (x ∷ xs) (suc k) b c d e f = ap (λ (l : List (Option ModuleBytes)). boxed x ∷ l) (code_stays xs k b c d e f)
 
-module _ (file : List ℕ) (ms : Modules) (are : AreModulesOf file ms) (k : ℕ) where
-  by_list : slice_get (modules_listed file) k ≡ slice_get ms.listed.items k
-  by_list = ap (λ (l : List ModuleEntry). slice_get l k) (sym are.listed)
+module _ (s : State) (ms : Modules) (are : AreModulesOf s ms) (told : s.told ≡ true) (k : ℕ) where
+  by_list : slice_get (modules_listed s.file) k ≡ slice_get ms.listed.items k
+  by_list = ap (λ (l : List ModuleEntry). slice_get l k) (sym (are.listed told))
 
-  pub none_numbered : slice_get ms.listed.items k ≡ None → module_numbered file k ≡ None
+  pub none_numbered : slice_get ms.listed.items k ≡ None → module_numbered s.file k ≡ None
   unfolding module_numbered
-  none_numbered h = ap (module_read file) (by_list ∙ h)
+  none_numbered h = ap (module_read s.file) (by_list ∙ h)
 
-  pub one_numbered : (m : ModuleEntry) → slice_get ms.listed.items k ≡ Some m → module_numbered file k ≡ if_found (module_info_in file m)
+  pub one_numbered : (m : ModuleEntry) → slice_get ms.listed.items k ≡ Some m → module_numbered s.file k ≡ if_found (module_info_in s.file m)
   unfolding module_numbered
-  one_numbered m h = ap (module_read file) (by_list ∙ h)
+  one_numbered m h = ap (module_read s.file) (by_list ∙ h)
 
 -- ---- one more module
 
@@ -70,14 +71,15 @@ stays_then xs ys k m (Ok u) kept refused none j n h = elim (cases_eq j k) [
 stays_then xs ys k m (Err e) kept refused none j n h = ap (λ (l : List (Option ModuleBytes)). slice_index_or l j None) refused.1 ∙ h
 
 -- what is kept once one more was kept, or memory ended
-record StillRead (file : List ℕ) (xs ys : List (Option ModuleBytes)) : Type 0 where
-  pub read : AreRead file ys
-  pub size : length ys ≡ length xs
-
 still_read : {U : Type 0} (file : List ℕ) (xs ys : List (Option ModuleBytes)) (k : ℕ) (m : ModuleBytes) (r : Result U Error)
-    → OnOk r ((k < length xs) × (ys ≡ slice_set xs k (Some m))) → IfErr r (λ e. (e ≡ OutOfMemory) × (ys ≡ xs)) → module_numbered file k ≡ Some m → AreRead file xs → StillRead file xs ys
-still_read file xs ys k m (Ok u) kept refused is are = record { read = read_set file xs ys k m kept.0 kept.1 is are; size = ap length kept.1 ∙ length-set xs k (Some m) }
-still_read file xs ys k m (Err e) kept refused is are = record { read = subst (AreRead file) (sym refused.1) are; size = ap length refused.1 }
+    → OnOk r ((k < length xs) × (ys ≡ slice_set xs k (Some m))) → IfErr r (λ e. (e ≡ OutOfMemory) × (ys ≡ xs)) → module_numbered file k ≡ Some m → AreRead file xs → AreRead file ys
+still_read file xs ys k m (Ok u) kept refused is are = read_set file xs ys k m kept.0 kept.1 is are
+still_read file xs ys k m (Err e) kept refused is are = subst (AreRead file) (sym refused.1) are
+
+still_many : {U : Type 0} (xs ys : List (Option ModuleBytes)) (k : ℕ) (m : ModuleBytes) (r : Result U Error)
+    → OnOk r ((k < length xs) × (ys ≡ slice_set xs k (Some m))) → IfErr r (λ e. (e ≡ OutOfMemory) × (ys ≡ xs)) → length ys ≡ length xs
+still_many xs ys k m (Ok u) kept refused = ap length kept.1 ∙ length-set xs k (Some m)
+still_many xs ys k m (Err e) kept refused = ap length refused.1
 
 -- one stream more, and one room fewer
 unkept_set : (xs : List (Option ModuleBytes)) (k : ℕ) (m : ModuleBytes) → k < length xs → slice_index_or xs k None ≡ None → unkept xs ≡ unkept (slice_set xs k (Some m)) + 1
@@ -106,32 +108,30 @@ none_unkept cs n e = ap unkept e ∙ all_unkept n
     all_unkept zero = refl
     all_unkept (suc n) = let all = all_unkept n in omega (arith, all)
 
-module _ (file : List ℕ) (ms : Modules) (are : AreModulesOf file ms) (k : ℕ) (new : Modules) (info : ModuleBytes) (same : new.listed ≡ ms.listed) where
+module _ (s : State) (ms : Modules) (are : AreModulesOf s ms) (k : ℕ) (new : Modules) (info : ModuleBytes) (same : new.listed ≡ ms.listed) where
   pub put_then : {U : Type 0} (r : Result U Error) → codes_of new ≡ codes_of ms
       → OnOk r (rooms_left ms ≡ rooms_left new + 1) → OnErr r (rooms_left new ≡ rooms_left ms) → slice_index_or (streams_of ms) k None ≡ None
       → OnOk r ((k < length (streams_of ms)) × (streams_of new ≡ slice_set (streams_of ms) k (Some info))) → IfErr r (λ e. (e ≡ OutOfMemory) × (streams_of new ≡ streams_of ms))
-      → module_numbered file k ≡ Some info → AreModulesOf file new
+      → (s.told ≡ true → module_numbered s.file k ≡ Some info) → AreModulesOf s new
   put_then r codes taken untaken none kept refused is =
-      let still = still_read file (streams_of ms) (streams_of new) k info r kept refused is are.streams in
       record {
-        listed = ap (λ l. l.items) same ∙ are.listed;
-        codes = subst (AreRead file) (sym codes) are.codes;
-        streams = still.read;
+        listed = λ told. ap (λ l. l.items) same ∙ are.listed told;
+        codes = λ told. subst (AreRead s.file) (sym codes) (are.codes told);
+        streams = λ told. still_read s.file (streams_of ms) (streams_of new) k info r kept refused (is told) (are.streams told);
         as_many = ap length codes ∙ (are.as_many ∙ ap (λ l. length l.items) (sym same));
-        as_many_streams = still.size ∙ (are.as_many_streams ∙ ap (λ l. length l.items) (sym same));
+        as_many_streams = still_many (streams_of ms) (streams_of new) k info r kept refused ∙ (are.as_many_streams ∙ ap (λ l. length l.items) (sym same));
         rooms = rooms_then (streams_of ms) (streams_of new) (rooms_left ms) (rooms_left new) k info r kept refused taken untaken none are.rooms;
       }
 
   pub kept_then : {U : Type 0} (r : Result U Error) → streams_of new ≡ streams_of ms → rooms_left new ≡ rooms_left ms
       → OnOk r ((k < length (codes_of ms)) × (codes_of new ≡ slice_set (codes_of ms) k (Some info))) → IfErr r (λ e. (e ≡ OutOfMemory) × (codes_of new ≡ codes_of ms))
-      → module_numbered file k ≡ Some info → AreModulesOf file new
+      → (s.told ≡ true → module_numbered s.file k ≡ Some info) → AreModulesOf s new
   kept_then r streams rooms kept refused is =
-      let still = still_read file (codes_of ms) (codes_of new) k info r kept refused is are.codes in
       record {
-        listed = ap (λ l. l.items) same ∙ are.listed;
-        codes = still.read;
-        streams = subst (AreRead file) (sym streams) are.streams;
-        as_many = still.size ∙ (are.as_many ∙ ap (λ l. length l.items) (sym same));
+        listed = λ told. ap (λ l. l.items) same ∙ are.listed told;
+        codes = λ told. still_read s.file (codes_of ms) (codes_of new) k info r kept refused (is told) (are.codes told);
+        streams = λ told. subst (AreRead s.file) (sym streams) (are.streams told);
+        as_many = still_many (codes_of ms) (codes_of new) k info r kept refused ∙ (are.as_many ∙ ap (λ l. length l.items) (sym same));
         as_many_streams = ap length streams ∙ (are.as_many_streams ∙ ap (λ l. length l.items) (sym same));
         rooms = let less = ap unkept streams in let room = are.rooms in omega (arith, less, rooms, room);
       }

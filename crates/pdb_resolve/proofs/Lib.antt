@@ -40,3 +40,4 @@ pub mod VariablesFound
 pub mod CallNumbers
 mod WholeParts
 pub mod ProcedureRecords
+mod Continuing

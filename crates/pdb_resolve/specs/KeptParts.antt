@@ -1,6 +1,7 @@
--- What is kept of a file by a resolver.
-use Rattle.std.specs.Prelude.{◌≡◌, ℕ, ◌+◌, ◌<◌, ◌≤◌, length, true, false, Box, List, [], ◌∷◌, Option, Some, None, option_copied, slice_index_or, map}
+-- What is kept of a file by a resolver: what the file says, where all that was read is the file's.
+use Rattle.std.specs.Prelude.{◌≡◌, ℕ, ◌+◌, ◌<◌, ◌≤◌, length, Bool, true, false, Box, List, [], ◌∷◌, Option, Some, None, option_copied, slice_index_or, map}
 use Rattle.std.specs.declared.alloc.Global.{Global}
+use Rattle.pdb.specs.Source.{State}
 use Rattle.pdb.specs.Container.{stream_of}
 use Rattle.pdb.specs.ModuleStream.{ModuleBytes}
 use Rattle.pdb_resolve.specs.declared.frames.FunctionNames.{FunctionNames}
@@ -14,20 +15,20 @@ use Rattle.pdb_resolve.specs.AsIfEmpty.{if_read}
 use Rattle.pdb_resolve.specs.FileParts.{items_listed, modules_listed, module_numbered}
 
 -- what is kept of a part that was asked for is what was read; there is room for one that wasn't
-pub record IsAskedOf {A : Type 0} (reading : Option A) (p : Part A) : Type 0 where
-  pub read : p.asked ≡ true → option_copied p.there ≡ reading
+pub record IsAskedOf {A : Type 0} (told : Bool) (reading : Option A) (p : Part A) : Type 0 where
+  pub read : told ≡ true → p.asked ≡ true → option_copied p.there ≡ reading
   pub room : p.asked ≡ false → 0 < length p.rooms.now
 
 -- the names that were made are those of the file
-abbrev pub IsMadeOf : List ℕ → Option FunctionNames → Type 0
-IsMadeOf file None = Unit {0}
-IsMadeOf file (Some n) = (n.ids ≡ items_listed file 4) × (n.types ≡ items_listed file 2) × (option_copied n.information ≡ if_read (debug_information_in file))
+abbrev pub IsMadeOf : State → Option FunctionNames → Type 0
+IsMadeOf s None = Unit {0}
+IsMadeOf s (Some n) = s.told ≡ true → (n.ids ≡ items_listed s.file 4) × (n.types ≡ items_listed s.file 2) × (option_copied n.information ≡ if_read (debug_information_in s.file))
 
-pub record AreTablesOf (file : List ℕ) (t : NameTables) : Type 0 where
-  pub ids : IsAskedOf (if_read (stream_of file 4 None)) t.ids
-  pub types : IsAskedOf (if_read (stream_of file 2 None)) t.types
-  pub made : IsMadeOf file t.made
-  pub information : option_copied t.information ≡ if_read (debug_information_in file)
+pub record AreTablesOf (s : State) (t : NameTables) : Type 0 where
+  pub ids : IsAskedOf s.told (if_read (stream_of s.file 4 None)) t.ids
+  pub types : IsAskedOf s.told (if_read (stream_of s.file 2 None)) t.types
+  pub made : IsMadeOf s t.made
+  pub information : s.told ≡ true → option_copied t.information ≡ if_read (debug_information_in s.file)
 
 -- the modules whose code is kept, by their numbers
 abbrev pub boxed : Option (Box ModuleBytes Global) → Option ModuleBytes
@@ -67,19 +68,19 @@ abbrev pub AreRead : List ℕ → List (Option ModuleBytes) → Type 0
 AreRead file kept = (k : ℕ) (m : ModuleBytes) → slice_index_or kept k None ≡ Some m → module_numbered file k ≡ Some m
 
 -- the list of modules is that of the file, and so is each module that was put down or read; there is room for as many as are listed, and for each stream that wasn't put down
-pub record AreModulesOf (file : List ℕ) (ms : Modules) : Type 0 where
-  pub listed : ms.listed.items ≡ modules_listed file
-  pub codes : AreRead file (codes_of ms)
-  pub streams : AreRead file (streams_of ms)
+pub record AreModulesOf (s : State) (ms : Modules) : Type 0 where
+  pub listed : s.told ≡ true → ms.listed.items ≡ modules_listed s.file
+  pub codes : s.told ≡ true → AreRead s.file (codes_of ms)
+  pub streams : s.told ≡ true → AreRead s.file (streams_of ms)
   pub as_many : length (codes_of ms) ≡ length ms.listed.items
   pub as_many_streams : length (streams_of ms) ≡ length ms.listed.items
   pub rooms : unkept (streams_of ms) ≤ rooms_left ms
 
 -- the publics that are kept are those of the file
-abbrev pub IsPublicsOf : List ℕ → Option PublicNames → Type 0
-IsPublicsOf file None = Unit {0}
-IsPublicsOf file (Some p) = p.stream ≡ if_read (global_symbols_in file)
+abbrev pub IsPublicsOf : State → Option PublicNames → Type 0
+IsPublicsOf s None = Unit {0}
+IsPublicsOf s (Some p) = s.told ≡ true → p.stream ≡ if_read (global_symbols_in s.file)
 
-pub record AreGlobalsOf (file : List ℕ) (g : GlobalNames) : Type 0 where
-  pub globals : IsAskedOf (if_read (global_symbols_in file)) g.globals
-  pub publics : IsPublicsOf file g.publics
+pub record AreGlobalsOf (s : State) (g : GlobalNames) : Type 0 where
+  pub globals : IsAskedOf s.told (if_read (global_symbols_in s.file)) g.globals
+  pub publics : IsPublicsOf s g.publics

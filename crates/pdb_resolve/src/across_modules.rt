@@ -1,6 +1,6 @@
 //! The id that the whole file knows, by an id in a module.
 
-ghost use Rattle.std.specs.Prelude.{◌≡◌, ℕ, List, Result, IfOk, IfErr, option_copied};
+ghost use Rattle.std.specs.Prelude.{◌≡◌, ℕ, List, Result, IfOk, IfErr, option_copied, true};
 ghost use Rattle.std.specs.Option.{option_map};
 ghost use Rattle.pdb.specs.Error.{Error};
 ghost use Rattle.pdb.specs.DbiViews.{modules_left};
@@ -78,14 +78,14 @@ fn module_named<'a>(
 }
 
 /// The exports of a listed module; none where its stream isn't there.
-#[tactic(auto, using(crate::proofs::Asking::passed, crate::proofs::Asking::told))]
+#[tactic(auto, using(crate::proofs::Asking::passed, crate::proofs::Asking::failed_on, crate::proofs::Asking::told))]
 fn exports_of<'s, S: Source<'s>>(
     alloc: Global,
     pdb: &mut PDB<'s, S>,
     module: Option<Module<'_>>,
 ) -> Result<CrossModuleExports>
     ensures continues { Continues pdb.old pdb.new }
-    ensures exports { IfOk result (λ x. x ≡ exports_where (module_read pdb.old.file «module».entry)) }
+    ensures exports { pdb.new.told ≡ true → IfOk result (λ x. x ≡ exports_where (module_read pdb.old.file «module».entry)) }
     ensures refused { IfErr result (λ e. OnlyFails (MayFail pdb.old pdb.new) e) }
 {
     let Some(module) = module else {
@@ -106,7 +106,7 @@ pub(crate) fn exports_named<'s, S: Source<'s>>(
     name: Option<RawString<'_>>,
 ) -> Result<CrossModuleExports>
     ensures continues { Continues pdb.old pdb.new }
-    ensures exports { IfOk result (λ x. x ≡ exports_named pdb.old.file (modules_where (option_copied information.entry)) (option_map name_bytes name.entry)) }
+    ensures exports { pdb.new.told ≡ true → IfOk result (λ x. x ≡ exports_named pdb.old.file (modules_where (option_copied information.entry)) (option_map name_bytes name.entry)) }
     ensures refused { IfErr result (λ e. OnlyFails (MayFail pdb.old pdb.new) e) }
 {
     match name {
@@ -137,7 +137,7 @@ pub fn imported_id<'s, S: Source<'s>>(
     id: IdIndex,
 ) -> Result<Option<IdIndex>>
     ensures continues { Continues pdb.old pdb.new }
-    ensures id { IfOk result (λ i. option_map (λ i. i.0) i ≡ exported_id pdb.old.file (option_copied strings.entry) (modules_where (option_copied information.entry)) (reference_in info.now id.0)) }
+    ensures id { pdb.new.told ≡ true → IfOk result (λ i. option_map (λ i. i.0) i ≡ exported_id pdb.old.file (option_copied strings.entry) (modules_where (option_copied information.entry)) (reference_in info.now id.0)) }
     ensures refused { IfErr result (λ e. OnlyFails (MayFail pdb.old pdb.new) e) }
 {
     let Some(reference) = reference_in(alloc, info, id)? else {

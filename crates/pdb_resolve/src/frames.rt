@@ -1,6 +1,6 @@
 //! The frames of a place.
 
-ghost use Rattle.std.specs.Prelude.{◌≡◌, ◌-◌, ◌++◌, [], ◌∷◌, map, reverse, Some, None, option_copied, IfOk, IfErr, OnOk};
+ghost use Rattle.std.specs.Prelude.{◌≡◌, ◌-◌, ◌++◌, [], ◌∷◌, map, reverse, Some, None, option_copied, IfOk, IfErr, OnOk, true};
 ghost use Rattle.std.specs.Option.{option_map};
 ghost use Rattle.pdb.specs.FileViews.{shown_file};
 ghost use Rattle.pdb.specs.Qualified.{shown_qualified};
@@ -172,7 +172,7 @@ fn name_of_call<'a, 's, S: Source<'s>>(
     id: IdIndex,
 ) -> Result<Option<QualifiedName<'a>>>
     ensures continues { Continues pdb.old pdb.new }
-    ensures name { IfOk result (λ n. option_map shown_qualified n ≡ named_id names.now.ids names.now.types (global_of_call pdb.old.file (option_copied strings.entry) names.now code.now id.0)) }
+    ensures name { pdb.new.told ≡ true → IfOk result (λ n. option_map shown_qualified n ≡ named_id names.now.ids names.now.types (global_of_call pdb.old.file (option_copied strings.entry) names.now code.now id.0)) }
     ensures refused { IfErr result (λ e. OnlyFails (MayFail pdb.old pdb.new) e) }
 {
     if id.0 < 0x8000_0000 {
@@ -195,7 +195,7 @@ pub(crate) fn push_inlined<'a, 's, S: Source<'s>>(
     calls: &[InlinedCall],
 ) -> Result<()>
     ensures continues { Continues pdb.old pdb.new }
-    ensures pushed { OnOk result (map shown_frame frames.new.items ≡ map shown_frame frames.old.items ++ map (inlined_frame (names_of names.now (option_copied strings.entry)) (global_of_call pdb.old.file (option_copied strings.entry) names.now code.now) (program_in code.now)) (reverse (map shown_call calls.now))) }
+    ensures pushed { pdb.new.told ≡ true → OnOk result (map shown_frame frames.new.items ≡ map shown_frame frames.old.items ++ map (inlined_frame (names_of names.now (option_copied strings.entry)) (global_of_call pdb.old.file (option_copied strings.entry) names.now code.now) (program_in code.now)) (reverse (map shown_call calls.now))) }
     ensures refused { IfErr result (λ e. OnlyFails (MayFail pdb.old pdb.new) e) }
 {
     let mut left = calls;

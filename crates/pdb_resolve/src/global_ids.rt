@@ -45,20 +45,20 @@ impl<'a> Model for GlobalIds<'a> {
 }
 
 /// The string table; none where it has an error.
-#[tactic(auto, using(crate::proofs::Asking::passed, crate::proofs::Asking::told))]
+#[tactic(auto, using(crate::proofs::Asking::failed_on, crate::proofs::Asking::told))]
 fn strings_of<'s, S: Source<'s>>(pdb: &mut PDB<'s, S>) -> Result<Option<StringTable<'s>>>
     ensures continues { Continues pdb.old pdb.new }
-    ensures is { IfOk result (λ o. o ≡ if_read (string_table_in pdb.old.file)) }
+    ensures is { pdb.new.told ≡ true → IfOk result (λ o. o ≡ if_read (string_table_in pdb.old.file)) }
     ensures refused { IfErr result (λ e. OnlyFails (MayFail pdb.old pdb.new) e) }
 {
     if_read(pdb.string_table())
 }
 
 /// The DBI stream; none where it has an error.
-#[tactic(auto, using(crate::proofs::Asking::passed, crate::proofs::Asking::told))]
+#[tactic(auto, using(crate::proofs::Asking::failed_on, crate::proofs::Asking::told))]
 fn information_of<'s, S: Source<'s>>(pdb: &mut PDB<'s, S>) -> Result<Option<DebugInformation<'s>>>
     ensures continues { Continues pdb.old pdb.new }
-    ensures is { IfOk result (λ o. o ≡ if_read (debug_information_in pdb.old.file)) }
+    ensures is { pdb.new.told ≡ true → IfOk result (λ o. o ≡ if_read (debug_information_in pdb.old.file)) }
     ensures refused { IfErr result (λ e. OnlyFails (MayFail pdb.old pdb.new) e) }
 {
     if_read(pdb.debug_information())
@@ -73,7 +73,7 @@ fn exports_of<'s, S: Source<'s>>(
     modules: &[Imported<'_>],
 ) -> Result<Vec<CrossModuleExports>>
     ensures continues { Continues pdb.old pdb.new }
-    ensures exports { IfOk result (λ x. x.items ≡ map (exports_for pdb.old.file (option_copied strings.entry) (modules_where (option_copied information.entry))) (map module_of modules.now)) }
+    ensures exports { pdb.new.told ≡ true → IfOk result (λ x. x.items ≡ map (exports_for pdb.old.file (option_copied strings.entry) (modules_where (option_copied information.entry))) (map module_of modules.now)) }
     ensures refused { IfErr result (λ e. OnlyFails (MayFail pdb.old pdb.new) e) }
 {
     let mut exports = Vec::new(alloc);
@@ -103,7 +103,7 @@ fn exports_for<'s, S: Source<'s>>(
     imports: &CrossModuleImports<'_>,
 ) -> Result<Vec<CrossModuleExports>>
     ensures continues { Continues pdb.old pdb.new }
-    ensures exports { IfOk result (λ x. x.items ≡ map (exports_for pdb.old.file (if_read (string_table_in pdb.old.file)) (modules_where (if_read (debug_information_in pdb.old.file)))) (take 2048 imports.now)) }
+    ensures exports { pdb.new.told ≡ true → IfOk result (λ x. x.items ≡ map (exports_for pdb.old.file (if_read (string_table_in pdb.old.file)) (modules_where (if_read (debug_information_in pdb.old.file)))) (take 2048 imports.now)) }
     ensures refused { IfErr result (λ e. OnlyFails (MayFail pdb.old pdb.new) e) }
 {
     let modules = named_modules(imports);
@@ -125,7 +125,7 @@ impl<'a> GlobalIds<'a> {
         info: &'a ModuleInfo<'_>,
     ) -> Result<Self>
         ensures continues { Continues pdb.old pdb.new }
-        ensures ids { IfOk result (λ g. ids_by g ≡ global_id_in pdb.old.file info.entry.now) }
+        ensures ids { pdb.new.told ≡ true → IfOk result (λ g. ids_by g ≡ global_id_in pdb.old.file info.entry.now) }
         ensures refused { IfErr result (λ e. OnlyFails (MayFail pdb.old pdb.new) e) }
     {
         let imports = read_or(info.imports(alloc), CrossModuleImports::empty(alloc))?;

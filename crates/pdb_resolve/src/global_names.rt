@@ -1,6 +1,6 @@
 //! The public symbols of a file.
 
-ghost use Rattle.std.specs.Prelude.{◌≡◌, option_copied, IfOk, IfErr, IsSome, None};
+ghost use Rattle.std.specs.Prelude.{◌≡◌, option_copied, IfOk, IfErr, IsSome, None, true};
 ghost use Rattle.std.specs.Option.{option_map};
 ghost use Rattle.pdb.specs.Source.{Continues, MayFail};
 ghost use Rattle.pdb.specs.Answers.{global_symbols_in};
@@ -26,10 +26,10 @@ fn globals_asked<'a, 's, S: Source<'s>>(
     pdb: &mut PDB<'s, S>,
     part: &mut Part<'a, SymbolTable<'s>>,
 ) -> Result<Option<&'a SymbolTable<'s>>>
-    requires { IsAskedOf (if_read (global_symbols_in pdb.old.file)) part.old }
+    requires { IsAskedOf pdb.old.told (if_read (global_symbols_in pdb.old.file)) part.old }
     ensures continues { Continues pdb.old pdb.new }
-    ensures asked { IsAskedOf (if_read (global_symbols_in pdb.old.file)) part.new }
-    ensures is { IfOk result (λ o. option_copied o ≡ if_read (global_symbols_in pdb.old.file)) }
+    ensures asked { IsAskedOf pdb.new.told (if_read (global_symbols_in pdb.new.file)) part.new }
+    ensures is { pdb.new.told ≡ true → IfOk result (λ o. option_copied o ≡ if_read (global_symbols_in pdb.old.file)) }
     ensures refused { IfErr result (λ e. OnlyFails (MayFail pdb.old pdb.new) e) }
 {
     if part.asked {
@@ -41,9 +41,9 @@ fn globals_asked<'a, 's, S: Source<'s>>(
 impl<'a, 's> GlobalNames<'a, 's> {
     /// Asks for the stream, unless it was asked for.
     fn make<S: Source<'s>>(&mut self, pdb: &mut PDB<'s, S>) -> Result<()>
-        requires { AreGlobalsOf pdb.old.file self.old }
+        requires { AreGlobalsOf pdb.old self.old }
         ensures continues { Continues pdb.old pdb.new }
-        ensures kept { AreGlobalsOf pdb.old.file self.new }
+        ensures kept { AreGlobalsOf pdb.new self.new }
         ensures made { IfOk result (λ _. IsSome self.new.publics) }
         ensures refused { IfErr result (λ e. OnlyFails (MayFail pdb.old pdb.new) e) }
     {
@@ -62,10 +62,10 @@ impl<'a, 's> GlobalNames<'a, 's> {
         pdb: &mut PDB<'s, S>,
         place: PdbInternalSectionOffset,
     ) -> Result<Option<PublicName<'a>>>
-        requires { AreGlobalsOf pdb.old.file self.old }
+        requires { AreGlobalsOf pdb.old self.old }
         ensures continues { Continues pdb.old pdb.new }
-        ensures kept { AreGlobalsOf pdb.old.file self.new }
-        ensures found { IfOk result (λ n. option_map shown_found n ≡ public_before_file pdb.old.file place) }
+        ensures kept { AreGlobalsOf pdb.new self.new }
+        ensures found { pdb.new.told ≡ true → IfOk result (λ n. option_map shown_found n ≡ public_before_file pdb.old.file place) }
         ensures refused { IfErr result (λ e. OnlyFails (MayFail pdb.old pdb.new) e) }
     {
         self.make(pdb)?;

@@ -1,10 +1,10 @@
 //! What a resolver keeps of a file.
 
-ghost use Rattle.std.specs.Prelude.{◌≡◌, ℕ, List, [], ◌∷◌, is_some, map, option_copied, Some, IfSome, IfOk, IfErr};
+ghost use Rattle.std.specs.Prelude.{◌≡◌, ℕ, List, [], ◌∷◌, is_some, map, option_copied, Some, IfSome, IfOk, IfErr, true};
 ghost use Rattle.std.specs.Option.{option_map};
 ghost use Rattle.pdb.specs.Text.{name_bytes};
 ghost use Rattle.pdb.specs.ModuleStream.{ModuleBytes};
-ghost use Rattle.pdb.specs.Source.{Continues, MayFail};
+ghost use Rattle.pdb.specs.Source.{Continues, MayFail, State};
 ghost use Rattle.pdb.specs.Answers.{debug_information_in};
 ghost use Rattle.pdb_resolve.specs.AsIfEmpty.{if_read, OnlyFails};
 ghost use Rattle.pdb_resolve.specs.ModulePlaces.{module_number_at};
@@ -67,11 +67,11 @@ impl<'a, 's> KeptFile<'a, 's> {
         pdb: &mut PDB<'s, S>,
         place: PdbInternalSectionOffset,
     ) -> Result<Option<usize>>
-        requires { IsFileKept pdb.old.file self.old }
+        requires { IsFileKept pdb.old self.old }
         ensures continues { Continues pdb.old pdb.new }
-        ensures kept { IsFileKept pdb.old.file self.new }
-        ensures number { IfOk result (λ n. n ≡ module_number_at place (if_read (debug_information_in pdb.old.file))) }
-        ensures read { IfOk result (λ n. IfSome n (λ k. code_kept self.new.modules k ≡ module_numbered pdb.old.file k)) }
+        ensures kept { IsFileKept pdb.new self.new }
+        ensures number { pdb.new.told ≡ true → IfOk result (λ n. n ≡ module_number_at place (if_read (debug_information_in pdb.old.file))) }
+        ensures read { pdb.new.told ≡ true → IfOk result (λ n. IfSome n (λ k. code_kept self.new.modules k ≡ module_numbered pdb.old.file k)) }
         ensures stays { (k : ℕ) (m : ModuleBytes) → code_kept self.old.modules k ≡ Some m → code_kept self.new.modules k ≡ Some m }
         ensures refused { IfErr result (λ e. OnlyFails (MayFail pdb.old pdb.new) e) }
     {
@@ -115,7 +115,7 @@ impl<'a, 's> KeptFile<'a, 's> {
         number: Option<usize>,
         place: PdbInternalSectionOffset,
     ) -> Result<bool>
-        ensures kept { (file : List ℕ) → IsFileKept file self.old → IsFileKept file self.new }
+        ensures kept { (s : State) → IsFileKept s self.old → IsFileKept s self.new }
         ensures codes { codes_of self.new.modules ≡ codes_of self.old.modules }
         ensures begins { IfOk result (λ b. b ≡ begins place (procedures_where (code_where self.old.modules number))) }
         ensures refused { IfErr result (λ e. e ≡ Error.OutOfMemory) }
@@ -128,7 +128,7 @@ impl<'a, 's> KeptFile<'a, 's> {
 
     /// The name that a public symbol's decorated name spells.
     fn spelled(&self, alloc: Global, name: RawString<'a>) -> Result<FunctionName<'a>>
-        ensures name { (file : List ℕ) → IsFileKept file self.now → IfOk result (λ n. shown_function_name n ≡ plain (spelled_by file (name_bytes name.entry))) }
+        ensures name { (s : State) → IsFileKept s self.now → s.told ≡ true → IfOk result (λ n. shown_function_name n ≡ plain (spelled_by s.file (name_bytes name.entry))) }
         ensures refused { IfErr result (λ e. e ≡ Error.OutOfMemory) }
     {
         spelled_name(alloc, name, is_x86(self.tables.names.information))
@@ -142,11 +142,11 @@ impl<'a, 's> KeptFile<'a, 's> {
         number: Option<usize>,
         place: PdbInternalSectionOffset,
     ) -> Result<Option<PublicName<'a>>>
-        requires { IsFileKept pdb.old.file self.old }
+        requires { IsFileKept pdb.old self.old }
         ensures continues { Continues pdb.old pdb.new }
-        ensures kept { IsFileKept pdb.old.file self.new }
+        ensures kept { IsFileKept pdb.new self.new }
         ensures codes { codes_of self.new.modules ≡ codes_of self.old.modules }
-        ensures found { IfOk result (λ p. option_map shown_found p ≡ public_counted pdb.old.file (code_where self.old.modules number) place) }
+        ensures found { pdb.new.told ≡ true → IfOk result (λ p. option_map shown_found p ≡ public_counted pdb.old.file (code_where self.old.modules number) place) }
         ensures refused { IfErr result (λ e. OnlyFails (MayFail pdb.old pdb.new) e) }
     {
         let Some(public) = self.tables.globals.find(alloc, pdb, place)? else {
@@ -169,11 +169,11 @@ impl<'a, 's> KeptFile<'a, 's> {
         number: Option<usize>,
         place: PdbInternalSectionOffset,
     ) -> Result<Naming<'a>>
-        requires { IsFileKept pdb.old.file self.old }
+        requires { IsFileKept pdb.old self.old }
         ensures continues { Continues pdb.old pdb.new }
-        ensures kept { IsFileKept pdb.old.file self.new }
+        ensures kept { IsFileKept pdb.new self.new }
         ensures codes { codes_of self.new.modules ≡ codes_of self.old.modules }
-        ensures named { IfOk result (λ r. IsNamed r (named_by_public pdb.old.file (public_counted pdb.old.file (code_where self.old.modules number) place))) }
+        ensures named { pdb.new.told ≡ true → IfOk result (λ r. IsNamed r (named_by_public pdb.old.file (public_counted pdb.old.file (code_where self.old.modules number) place))) }
         ensures refused { IfErr result (λ e. OnlyFails (MayFail pdb.old pdb.new) e) }
     {
         match self.counted_public(alloc, pdb, number, place)? {
@@ -189,11 +189,11 @@ impl<'a, 's> KeptFile<'a, 's> {
         pdb: &mut PDB<'s, S>,
         place: PdbInternalSectionOffset,
     ) -> Result<Option<FunctionName<'a>>>
-        requires { IsFileKept pdb.old.file self.old }
+        requires { IsFileKept pdb.old self.old }
         ensures continues { Continues pdb.old pdb.new }
-        ensures kept { IsFileKept pdb.old.file self.new }
+        ensures kept { IsFileKept pdb.new self.new }
         ensures codes { codes_of self.new.modules ≡ codes_of self.old.modules }
-        ensures name { IfOk result (λ n. IsNameOf n (public_there pdb.old.file place)) }
+        ensures name { pdb.new.told ≡ true → IfOk result (λ n. IsNameOf n (public_there pdb.old.file place)) }
         ensures refused { IfErr result (λ e. OnlyFails (MayFail pdb.old pdb.new) e) }
     {
         let Some(public) = self.tables.globals.find(alloc, pdb, place)? else {
@@ -212,7 +212,7 @@ impl<'a, 's> KeptFile<'a, 's> {
         number: Option<usize>,
         place: PdbInternalSectionOffset,
     ) -> Result<Option<RawString<'a>>>
-        ensures kept { (file : List ℕ) → IsFileKept file self.old → IsFileKept file self.new }
+        ensures kept { (s : State) → IsFileKept s self.old → IsFileKept s self.new }
         ensures codes { codes_of self.new.modules ≡ codes_of self.old.modules }
         ensures name { IfOk result (λ n. option_map name_bytes n ≡ begun_where place (code_where self.old.modules number)) }
         ensures refused { IfErr result (λ e. e ≡ Error.OutOfMemory) }
@@ -231,11 +231,11 @@ impl<'a, 's> KeptFile<'a, 's> {
         pdb: &mut PDB<'s, S>,
         place: PdbInternalSectionOffset,
     ) -> Result<Option<FunctionName<'a>>>
-        requires { IsFileKept pdb.old.file self.old }
+        requires { IsFileKept pdb.old self.old }
         ensures continues { Continues pdb.old pdb.new }
-        ensures kept { IsFileKept pdb.old.file self.new }
+        ensures kept { IsFileKept pdb.new self.new }
         ensures stays { (k : ℕ) (m : ModuleBytes) → code_kept self.old.modules k ≡ Some m → code_kept self.new.modules k ≡ Some m }
-        ensures name { IfOk result (λ n. IsNameOf n (target_name pdb.old.file place)) }
+        ensures name { pdb.new.told ≡ true → IfOk result (λ n. IsNameOf n (target_name pdb.old.file place)) }
         ensures refused { IfErr result (λ e. OnlyFails (MayFail pdb.old pdb.new) e) }
     {
         let number = self.module_at(alloc, pdb, place)?;
@@ -268,11 +268,11 @@ impl<'a, 's> KeptFile<'a, 's> {
         pdb: &mut PDB<'s, S>,
         leading: Leading,
     ) -> Result<Naming<'a>>
-        requires { IsFileKept pdb.old.file self.old }
+        requires { IsFileKept pdb.old self.old }
         ensures continues { Continues pdb.old pdb.new }
-        ensures kept { IsFileKept pdb.old.file self.new }
+        ensures kept { IsFileKept pdb.new self.new }
         ensures stays { (k : ℕ) (m : ModuleBytes) → code_kept self.old.modules k ≡ Some m → code_kept self.new.modules k ≡ Some m }
-        ensures named { IfOk result (λ r. IsNamed r (leading_named pdb.old.file (shown_leading leading))) }
+        ensures named { pdb.new.told ≡ true → IfOk result (λ r. IsNamed r (leading_named pdb.old.file (shown_leading leading))) }
         ensures refused { IfErr result (λ e. OnlyFails (MayFail pdb.old pdb.new) e) }
     {
         let target = self.target_name(alloc, pdb, leading.target)?;
@@ -290,12 +290,12 @@ impl<'a, 's> KeptFile<'a, 's> {
         procedure: Option<ListedProcedure>,
         place: PdbInternalSectionOffset,
     ) -> Result<Naming<'a>>
-        requires kept { IsFileKept pdb.old.file self.old }
+        requires kept { IsFileKept pdb.old self.old }
         requires procedure { option_map shown_procedure procedure ≡ procedure_where place (code_where self.old.modules number) }
         ensures continues { Continues pdb.old pdb.new }
-        ensures kept { IsFileKept pdb.old.file self.new }
+        ensures kept { IsFileKept pdb.new self.new }
         ensures code { code_where self.new.modules number ≡ code_where self.old.modules number }
-        ensures named { IfOk result (λ r. IsNamed r (other_of_file pdb.old.file (code_where self.old.modules number) place)) }
+        ensures named { pdb.new.told ≡ true → IfOk result (λ r. IsNamed r (other_of_file pdb.old.file (code_where self.old.modules number) place)) }
         ensures refused { IfErr result (λ e. OnlyFails (MayFail pdb.old pdb.new) e) }
     {
         if self.has_function(number, procedure, place) {
@@ -315,7 +315,7 @@ impl<'a, 's> KeptFile<'a, 's> {
         place: PdbInternalSectionOffset,
     ) -> Option<ListedProcedure>
         ensures procedure { option_map shown_procedure result ≡ procedure_where place (code_where self.old.modules number) }
-        ensures kept { (file : List ℕ) → IsFileKept file self.old → IsFileKept file self.new }
+        ensures kept { (s : State) → IsFileKept s self.old → IsFileKept s self.new }
         ensures codes { codes_of self.new.modules ≡ codes_of self.old.modules }
     {
         match number {
@@ -332,10 +332,10 @@ impl<'a, 's> KeptFile<'a, 's> {
         pdb: &mut PDB<'s, S>,
         place: PdbInternalSectionOffset,
     ) -> Result<Vec<Frame<'a>>>
-        requires { IsFileKept pdb.old.file self.old }
+        requires { IsFileKept pdb.old self.old }
         ensures continues { Continues pdb.old pdb.new }
-        ensures kept { IsFileKept pdb.old.file self.new }
-        ensures frames { IfOk result (λ fs. map shown_frame fs.items ≡ frames_of_file pdb.old.file (Some place)) }
+        ensures kept { IsFileKept pdb.new self.new }
+        ensures frames { pdb.new.told ≡ true → IfOk result (λ fs. map shown_frame fs.items ≡ frames_of_file pdb.old.file (Some place)) }
         ensures refused { IfErr result (λ e. OnlyFails (MayFail pdb.old pdb.new) e) }
     {
         let number = self.module_at(alloc, pdb, place)?;
@@ -359,10 +359,10 @@ impl<'a, 's> KeptFile<'a, 's> {
         pdb: &mut PDB<'s, S>,
         place: PdbInternalSectionOffset,
     ) -> Result<Vec<VariableAt<'a>>>
-        requires { IsFileKept pdb.old.file self.old }
+        requires { IsFileKept pdb.old self.old }
         ensures continues { Continues pdb.old pdb.new }
-        ensures kept { IsFileKept pdb.old.file self.new }
-        ensures variables { IfOk result (λ vs. map shown_variable vs.items ≡ variables_where place (module_of_place pdb.old.file place)) }
+        ensures kept { IsFileKept pdb.new self.new }
+        ensures variables { pdb.new.told ≡ true → IfOk result (λ vs. map shown_variable vs.items ≡ variables_where place (module_of_place pdb.old.file place)) }
         ensures refused { IfErr result (λ e. OnlyFails (MayFail pdb.old pdb.new) e) }
     {
         let Some(number) = self.module_at(alloc, pdb, place)? else {
@@ -381,10 +381,10 @@ impl<'a, 's> KeptFile<'a, 's> {
         pdb: &mut PDB<'s, S>,
         place: PdbInternalSectionOffset,
     ) -> Result<bool>
-        requires { IsFileKept pdb.old.file self.old }
+        requires { IsFileKept pdb.old self.old }
         ensures continues { Continues pdb.old pdb.new }
-        ensures kept { IsFileKept pdb.old.file self.new }
-        ensures whole { IfOk result (λ b. b ≡ is_whole_at pdb.old.file place) }
+        ensures kept { IsFileKept pdb.new self.new }
+        ensures whole { pdb.new.told ≡ true → IfOk result (λ b. b ≡ is_whole_at pdb.old.file place) }
         ensures refused { IfErr result (λ e. OnlyFails (MayFail pdb.old pdb.new) e) }
     {
         match self.module_at(alloc, pdb, place)? {
@@ -400,10 +400,10 @@ impl<'a, 's> KeptFile<'a, 's> {
         pdb: &mut PDB<'s, S>,
         place: PdbInternalSectionOffset,
     ) -> Result<Option<&'a ModuleInfo<'a>>>
-        requires { IsFileKept pdb.old.file self.old }
+        requires { IsFileKept pdb.old self.old }
         ensures continues { Continues pdb.old pdb.new }
-        ensures kept { IsFileKept pdb.old.file self.new }
-        ensures found { IfOk result (λ m. option_copied m ≡ module_of_place pdb.old.file place) }
+        ensures kept { IsFileKept pdb.new self.new }
+        ensures found { pdb.new.told ≡ true → IfOk result (λ m. option_copied m ≡ module_of_place pdb.old.file place) }
         ensures refused { IfErr result (λ e. OnlyFails (MayFail pdb.old pdb.new) e) }
     {
         let Some(number) = self.module_at(alloc, pdb, place)? else {

@@ -1,10 +1,10 @@
 //! The modules of a file, each of which is read once.
 
-ghost use Rattle.std.specs.Prelude.{◌≡◌, ◌+◌, ◌==◌, ℕ, List, map, replicate, None, ◌<◌, length, option_copied, slice_get, slice_set, vec_len, Some, IfOk, IfErr, OnOk, OnErr};
+ghost use Rattle.std.specs.Prelude.{◌≡◌, ◌+◌, ◌==◌, ℕ, List, map, replicate, None, ◌<◌, length, option_copied, slice_get, slice_set, vec_len, Some, IfOk, IfErr, OnOk, OnErr, true};
 ghost use Rattle.pdb.specs.Error.TheVariants.{OutOfMemory};
 ghost use Rattle.pdb.specs.ModuleStream.{ModuleBytes};
 ghost use Rattle.pdb.specs.Answers.{module_info_in, debug_information_in};
-ghost use Rattle.pdb.specs.Source.{Continues, MayFail};
+ghost use Rattle.pdb.specs.Source.{Continues, MayFail, State};
 ghost use Rattle.pdb.specs.DbiViews.{modules_left};
 ghost use Rattle.pdb_resolve.specs.AsIfEmpty.{if_found, if_read, OnlyFails};
 ghost use Rattle.pdb_resolve.specs.FileParts.{module_numbered, modules_where};
@@ -77,13 +77,13 @@ fn modules_of<'a>(
 }
 
 /// The stream of a listed module; none where it has none, or where it has an error.
-#[tactic(auto, using(crate::proofs::Asking::passed, crate::proofs::Asking::told))]
+#[tactic(auto, using(crate::proofs::Asking::failed_on, crate::proofs::Asking::told))]
 pub(crate) fn module_info<'s, S: Source<'s>>(
     pdb: &mut PDB<'s, S>,
     module: &Module<'_>,
 ) -> Result<Option<ModuleInfo<'s>>>
     ensures continues { Continues pdb.old pdb.new }
-    ensures is { IfOk result (λ i. i ≡ if_found (module_info_in pdb.old.file «module».now)) }
+    ensures is { pdb.new.told ≡ true → IfOk result (λ i. i ≡ if_found (module_info_in pdb.old.file «module».now)) }
     ensures refused { IfErr result (λ e. OnlyFails (MayFail pdb.old pdb.new) e) }
 {
     match if_read(pdb.module_info(module))? {
@@ -145,7 +145,7 @@ pub(crate) fn modules_from<'a, 's>(
     information: Option<&'a DebugInformation<'a>>,
     rooms: &'a mut Vec<Option<Box<ModuleInfo<'s>>>>,
 ) -> Result<Modules<'a, 's>>
-    ensures modules { (file : List ℕ) → option_copied information.entry ≡ if_read (debug_information_in file) → IfOk result (λ m. AreModulesOf file m) }
+    ensures modules { (s : State) → (s.told ≡ true → option_copied information.entry ≡ if_read (debug_information_in s.file)) → IfOk result (λ m. AreModulesOf s m) }
     ensures refused { IfErr result (λ e. e ≡ Error.OutOfMemory) }
 {
     let listed = modules_of(alloc, information)?;
@@ -168,10 +168,10 @@ impl<'a, 's> Modules<'a, 's> {
         pdb: &mut PDB<'s, S>,
         number: usize,
     ) -> Result<()>
-        requires { AreModulesOf pdb.old.file self.old }
+        requires { AreModulesOf pdb.old self.old }
         ensures continues { Continues pdb.old pdb.new }
-        ensures kept { AreModulesOf pdb.old.file self.new }
-        ensures read { IfOk result (λ _. code_kept self.new number ≡ module_numbered pdb.old.file number) }
+        ensures kept { AreModulesOf pdb.new self.new }
+        ensures read { pdb.new.told ≡ true → IfOk result (λ _. code_kept self.new number ≡ module_numbered pdb.old.file number) }
         ensures stays { (k : ℕ) (m : ModuleBytes) → code_kept self.old k ≡ Some m → code_kept self.new k ≡ Some m }
         // A stream that is kept isn't read again.
         ensures once { (m : ModuleBytes) → stream_kept self.old number ≡ Some m → rooms_left self.new ≡ rooms_left self.old }
@@ -251,7 +251,7 @@ impl<'a, 's> Modules<'a, 's> {
     /// Puts the stream of the module of a number down, and keeps its code. Where memory ends behind the first, the
     /// stream stays.
     fn put_and_keep(&mut self, alloc: Global, number: usize, info: ModuleInfo<'s>) -> Result<()>
-        ensures kept { (file : List ℕ) → AreModulesOf file self.old → stream_kept self.old number ≡ None → module_numbered file number ≡ Some info.entry → AreModulesOf file self.new }
+        ensures kept { (s : State) → AreModulesOf s self.old → stream_kept self.old number ≡ None → (s.told ≡ true → module_numbered s.file number ≡ Some info.entry) → AreModulesOf s self.new }
         ensures read { IfOk result (λ _. code_kept self.new number ≡ Some info.entry) }
         ensures stays { code_kept self.old number ≡ None → (k : ℕ) (m : ModuleBytes) → code_kept self.old k ≡ Some m → code_kept self.new k ≡ Some m }
         ensures refused { IfErr result (λ e. e ≡ OutOfMemory) }
@@ -333,7 +333,7 @@ impl<'a, 's> Modules<'a, 's> {
     /// Whether what is read of the module of a number, which was asked for, has no error; so it is where no such module
     /// is listed.
     pub(crate) fn is_whole(&self, number: usize) -> bool
-        ensures { (file : List ℕ) → AreModulesOf file self.now → code_kept self.now number ≡ module_numbered file number → result ≡ is_whole_numbered file number }
+        ensures { (s : State) → AreModulesOf s self.now → s.told ≡ true → code_kept self.now number ≡ module_numbered s.file number → result ≡ is_whole_numbered s.file number }
     {
         if let Some(code) = self.code(number) {
             return code.is_whole();

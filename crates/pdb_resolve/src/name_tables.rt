@@ -1,6 +1,6 @@
 //! The tables from which inlined functions have their names.
 
-ghost use Rattle.std.specs.Prelude.{◌≡◌, List, Result, option_copied, IfOk, IfErr, IsSome, None};
+ghost use Rattle.std.specs.Prelude.{◌≡◌, List, Result, option_copied, IfOk, IfErr, IsSome, None, true};
 ghost use Rattle.pdb.specs.Error.{Error};
 ghost use Rattle.pdb.specs.Items.{ItemEntry};
 ghost use Rattle.pdb.specs.Refusal.{Gives};
@@ -57,10 +57,10 @@ fn ids_asked<'a, 's, S: Source<'s>>(
     pdb: &mut PDB<'s, S>,
     part: &mut Part<'a, IdInformation<'s>>,
 ) -> Result<Option<&'a IdInformation<'s>>>
-    requires { IsAskedOf (if_read (stream_of pdb.old.file 4 None)) part.old }
+    requires { IsAskedOf pdb.old.told (if_read (stream_of pdb.old.file 4 None)) part.old }
     ensures continues { Continues pdb.old pdb.new }
-    ensures asked { IsAskedOf (if_read (stream_of pdb.old.file 4 None)) part.new }
-    ensures is { IfOk result (λ o. option_copied o ≡ if_read (stream_of pdb.old.file 4 None)) }
+    ensures asked { IsAskedOf pdb.new.told (if_read (stream_of pdb.new.file 4 None)) part.new }
+    ensures is { pdb.new.told ≡ true → IfOk result (λ o. option_copied o ≡ if_read (stream_of pdb.old.file 4 None)) }
     ensures refused { IfErr result (λ e. OnlyFails (MayFail pdb.old pdb.new) e) }
 {
     if part.asked {
@@ -74,10 +74,10 @@ fn types_asked<'a, 's, S: Source<'s>>(
     pdb: &mut PDB<'s, S>,
     part: &mut Part<'a, TypeInformation<'s>>,
 ) -> Result<Option<&'a TypeInformation<'s>>>
-    requires { IsAskedOf (if_read (stream_of pdb.old.file 2 None)) part.old }
+    requires { IsAskedOf pdb.old.told (if_read (stream_of pdb.old.file 2 None)) part.old }
     ensures continues { Continues pdb.old pdb.new }
-    ensures asked { IsAskedOf (if_read (stream_of pdb.old.file 2 None)) part.new }
-    ensures is { IfOk result (λ o. option_copied o ≡ if_read (stream_of pdb.old.file 2 None)) }
+    ensures asked { IsAskedOf pdb.new.told (if_read (stream_of pdb.new.file 2 None)) part.new }
+    ensures is { pdb.new.told ≡ true → IfOk result (λ o. option_copied o ≡ if_read (stream_of pdb.old.file 2 None)) }
     ensures refused { IfErr result (λ e. OnlyFails (MayFail pdb.old pdb.new) e) }
 {
     if part.asked {
@@ -89,9 +89,9 @@ fn types_asked<'a, 's, S: Source<'s>>(
 impl<'a, 's> NameTables<'a, 's> {
     /// Makes the tables, unless they are made.
     pub(crate) fn make<S: Source<'s>>(&mut self, alloc: Global, pdb: &mut PDB<'s, S>) -> Result<()>
-        requires { AreTablesOf pdb.old.file self.old }
+        requires { AreTablesOf pdb.old self.old }
         ensures continues { Continues pdb.old pdb.new }
-        ensures kept { AreTablesOf pdb.old.file self.new }
+        ensures kept { AreTablesOf pdb.new self.new }
         ensures made { IfOk result (λ _. IsSome self.new.made) }
         ensures refused { IfErr result (λ e. OnlyFails (MayFail pdb.old pdb.new) e) }
     {

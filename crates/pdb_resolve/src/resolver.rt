@@ -1,6 +1,6 @@
 //! What code stands at the addresses of a file.
 
-ghost use Rattle.std.specs.Prelude.{◌≡◌, ◌++◌, false, map, option_copied, IfOk, IfErr, OnOk, OnErr};
+ghost use Rattle.std.specs.Prelude.{◌≡◌, ◌++◌, false, map, option_copied, IfOk, IfErr, OnOk, OnErr, true};
 ghost use Rattle.pdb.specs.Source.{Continues, MayFail};
 ghost use Rattle.pdb.specs.Answers.{address_map_in, debug_information_in};
 ghost use Rattle.pdb_resolve.specs.AsIfEmpty.{if_read, OnlyFails};
@@ -46,7 +46,7 @@ pub struct Resolver<'a, 's, S: Meaning> {
 }
 
 impl<'a, 's, S: Meaning> Model for Resolver<'a, 's, S> {
-    ghost use Rattle.std.specs.Prelude.{◌≡◌};
+    ghost use Rattle.std.specs.Prelude.{◌≡◌, true};
     ghost use Rattle.pdb.specs.Source.{State};
     ghost use Rattle.pdb.specs.Answers.{address_map_in};
     ghost use Rattle.pdb_resolve.specs.AsIfEmpty.{if_read};
@@ -56,7 +56,7 @@ impl<'a, 's, S: Meaning> Model for Resolver<'a, 's, S> {
 
     ghost view = { λ r. r.pdb };
 
-    ghost invariant = { λ r. (r.places ≡ if_read (address_map_in r.pdb.file)) × IsFileKept r.pdb.file r.kept.value };
+    ghost invariant = { λ r. (r.pdb.told ≡ true → r.places ≡ if_read (address_map_in r.pdb.file)) × IsFileKept r.pdb r.kept.value };
 }
 
 /// The DBI stream; none where it can't be read.
@@ -65,17 +65,17 @@ fn information_of<'a, 's, S: Source<'s>>(
     room: &'a mut Option<DebugInformation<'s>>,
 ) -> Result<Option<&'a DebugInformation<'s>>>
     ensures continues { Continues pdb.old pdb.new }
-    ensures is { IfOk result (λ o. option_copied o ≡ if_read (debug_information_in pdb.old.file)) }
+    ensures is { pdb.new.told ≡ true → IfOk result (λ o. option_copied o ≡ if_read (debug_information_in pdb.old.file)) }
     ensures refused { IfErr result (λ e. OnlyFails (MayFail pdb.old pdb.new) e) }
 {
     Part::unasked(slice::from_mut(room)).keep(pdb.debug_information())
 }
 
 /// The address map; none where it has an error.
-#[tactic(auto, using(crate::proofs::Asking::passed, crate::proofs::Asking::told))]
+#[tactic(auto, using(crate::proofs::Asking::failed_on, crate::proofs::Asking::told))]
 fn address_map_of<'s, S: Source<'s>>(pdb: &mut PDB<'s, S>) -> Result<Option<AddressMap<'s>>>
     ensures continues { Continues pdb.old pdb.new }
-    ensures is { IfOk result (λ o. o ≡ if_read (address_map_in pdb.old.file)) }
+    ensures is { pdb.new.told ≡ true → IfOk result (λ o. o ≡ if_read (address_map_in pdb.old.file)) }
     ensures refused { IfErr result (λ e. OnlyFails (MayFail pdb.old pdb.new) e) }
 {
     if_read(pdb.address_map())
@@ -123,7 +123,7 @@ impl<'a, 's, S: Source<'s>> Resolver<'a, 's, S> {
     /// The place of a relative virtual address, by the address map and the original sections; none where it has none.
     /// It takes no memory.
     pub fn place(&self, address: u32) -> Option<PdbInternalSectionOffset>
-        ensures { result ≡ place_of_file self.now.file address }
+        ensures { self.now.told ≡ true → result ≡ place_of_file self.now.file address }
     {
         self.places.place(address)
     }
@@ -135,7 +135,7 @@ impl<'a, 's, S: Source<'s>> Resolver<'a, 's, S> {
     #[tactic(auto, unfolding(crate::specs::Resolved::frames_of_file))]
     pub fn frames(&mut self, place: Option<PdbInternalSectionOffset>) -> Result<Vec<Frame<'a>>>
         ensures continues { Continues self.old self.new }
-        ensures frames { IfOk result (λ fs. map shown_frame fs.items ≡ frames_of_file self.old.file place) }
+        ensures frames { self.new.told ≡ true → IfOk result (λ fs. map shown_frame fs.items ≡ frames_of_file self.old.file place) }
         ensures refused { IfErr result (λ e. OnlyFails (MayFail self.old self.new) e) }
     {
         match place {
@@ -157,7 +157,7 @@ impl<'a, 's, S: Source<'s>> Resolver<'a, 's, S> {
         place: Option<PdbInternalSectionOffset>,
     ) -> Result<()>
         ensures continues { Continues self.old self.new }
-        ensures text { OnOk result (out.new.items ≡ out.old.items ++ frames_text (frames_of_file self.old.file place)) }
+        ensures text { self.new.told ≡ true → OnOk result (out.new.items ≡ out.old.items ++ frames_text (frames_of_file self.old.file place)) }
         ensures unchanged { OnErr result (out.new.items ≡ out.old.items) }
         ensures refused { IfErr result (λ e. OnlyFails (MayFail self.old self.new) e) }
     {
@@ -176,7 +176,7 @@ impl<'a, 's, S: Source<'s>> Resolver<'a, 's, S> {
         place: Option<PdbInternalSectionOffset>,
     ) -> Result<()>
         ensures continues { Continues self.old self.new }
-        ensures text { OnOk result (out.new.items ≡ out.old.items ++ displaced_frames (frames_of_file self.old.file place)) }
+        ensures text { self.new.told ≡ true → OnOk result (out.new.items ≡ out.old.items ++ displaced_frames (frames_of_file self.old.file place)) }
         ensures unchanged { OnErr result (out.new.items ≡ out.old.items) }
         ensures refused { IfErr result (λ e. OnlyFails (MayFail self.old self.new) e) }
     {
@@ -195,7 +195,7 @@ impl<'a, 's, S: Source<'s>> Resolver<'a, 's, S> {
         place: Option<PdbInternalSectionOffset>,
     ) -> Result<Vec<VariableAt<'a>>>
         ensures continues { Continues self.old self.new }
-        ensures variables { IfOk result (λ vs. map shown_variable vs.items ≡ variables_of_file self.old.file place) }
+        ensures variables { self.new.told ≡ true → IfOk result (λ vs. map shown_variable vs.items ≡ variables_of_file self.old.file place) }
         ensures refused { IfErr result (λ e. OnlyFails (MayFail self.old self.new) e) }
     {
         match place {
@@ -211,7 +211,7 @@ impl<'a, 's, S: Source<'s>> Resolver<'a, 's, S> {
         place: PdbInternalSectionOffset,
     ) -> Result<Option<&'a ModuleInfo<'a>>>
         ensures continues { Continues self.old self.new }
-        ensures found { IfOk result (λ m. option_copied m ≡ module_of_place self.old.file place) }
+        ensures found { self.new.told ≡ true → IfOk result (λ m. option_copied m ≡ module_of_place self.old.file place) }
         ensures refused { IfErr result (λ e. OnlyFails (MayFail self.old self.new) e) }
     {
         self.kept.module_info_at(self.alloc, &mut self.pdb, place)
@@ -222,7 +222,7 @@ impl<'a, 's, S: Source<'s>> Resolver<'a, 's, S> {
     /// fails as `variables` does.
     pub fn is_whole_at(&mut self, place: PdbInternalSectionOffset) -> Result<bool>
         ensures continues { Continues self.old self.new }
-        ensures whole { IfOk result (λ b. b ≡ is_whole_at self.old.file place) }
+        ensures whole { self.new.told ≡ true → IfOk result (λ b. b ≡ is_whole_at self.old.file place) }
         ensures refused { IfErr result (λ e. OnlyFails (MayFail self.old self.new) e) }
     {
         self.kept.is_whole_at(self.alloc, &mut self.pdb, place)
@@ -230,7 +230,7 @@ impl<'a, 's, S: Source<'s>> Resolver<'a, 's, S> {
 
     /// The DBI stream; none where it can't be read.
     pub fn information_read(&self) -> Option<&'a DebugInformation<'a>>
-        ensures { option_copied result ≡ if_read (debug_information_in self.now.file) }
+        ensures { self.now.told ≡ true → option_copied result ≡ if_read (debug_information_in self.now.file) }
     {
         self.kept.tables.names.information
     }

@@ -1,6 +1,6 @@
 //! What the names of frames are found by.
 
-ghost use Rattle.std.specs.Prelude.{◌≡◌, ◌++◌, [], ◌∷◌, map, reverse, option_copied, IfOk, IfErr, IsSome, None};
+ghost use Rattle.std.specs.Prelude.{◌≡◌, ◌++◌, [], ◌∷◌, map, reverse, option_copied, IfOk, IfErr, IsSome, None, true};
 ghost use Rattle.std.specs.Option.{option_map};
 ghost use Rattle.pdb.specs.Source.{Continues, MayFail};
 ghost use Rattle.pdb.specs.Answers.{string_table_in};
@@ -36,10 +36,10 @@ fn strings_asked<'a, 's, S: Source<'s>>(
     pdb: &mut PDB<'s, S>,
     part: &mut Part<'a, StringTable<'s>>,
 ) -> Result<Option<&'a StringTable<'s>>>
-    requires { IsAskedOf (if_read (string_table_in pdb.old.file)) part.old }
+    requires { IsAskedOf pdb.old.told (if_read (string_table_in pdb.old.file)) part.old }
     ensures continues { Continues pdb.old pdb.new }
-    ensures asked { IsAskedOf (if_read (string_table_in pdb.old.file)) part.new }
-    ensures is { IfOk result (λ o. option_copied o ≡ if_read (string_table_in pdb.old.file)) }
+    ensures asked { IsAskedOf pdb.new.told (if_read (string_table_in pdb.new.file)) part.new }
+    ensures is { pdb.new.told ≡ true → IfOk result (λ o. option_copied o ≡ if_read (string_table_in pdb.old.file)) }
     ensures refused { IfErr result (λ e. OnlyFails (MayFail pdb.old pdb.new) e) }
 {
     if part.asked {
@@ -60,11 +60,11 @@ fn inlined_frames<'a, 's, S: Source<'s>>(
     place: PdbInternalSectionOffset,
 ) -> Result<Vec<Frame<'a>>>
     requires procedure { option_map shown_procedure procedure ≡ procedure_at place code.now }
-    requires names { AreTablesOf pdb.old.file names.old }
-    requires strings { option_copied strings ≡ if_read (string_table_in pdb.old.file) }
+    requires names { AreTablesOf pdb.old names.old }
+    requires strings { pdb.old.told ≡ true → option_copied strings ≡ if_read (string_table_in pdb.old.file) }
     ensures continues { Continues pdb.old pdb.new }
-    ensures kept { AreTablesOf pdb.old.file names.new }
-    ensures frames { IfOk result (λ fs. map shown_frame fs.items ≡ map (inlined_frame (names_in pdb.old.file) (global_id_in pdb.old.file code.now) (program_in code.now)) (reverse (inlined_at place code.now))) }
+    ensures kept { AreTablesOf pdb.new names.new }
+    ensures frames { pdb.new.told ≡ true → IfOk result (λ fs. map shown_frame fs.items ≡ map (inlined_frame (names_in pdb.old.file) (global_id_in pdb.old.file code.now) (program_in code.now)) (reverse (inlined_at place code.now))) }
     ensures refused { IfErr result (λ e. OnlyFails (MayFail pdb.old pdb.new) e) }
 {
     let calls = code.inlined_in(alloc, place, procedure)?;
@@ -127,11 +127,11 @@ impl<'a, 's> Tables<'a, 's> {
         other: Naming<'a>,
         place: PdbInternalSectionOffset,
     ) -> Result<Vec<Frame<'a>>>
-        requires names { AreNamesOf pdb.old.file self.old }
+        requires names { AreNamesOf pdb.old self.old }
         requires procedure { option_map shown_procedure procedure ≡ procedure_at place code.now }
         ensures continues { Continues pdb.old pdb.new }
-        ensures kept { AreNamesOf pdb.old.file self.new }
-        ensures frames { (n : Named) → IsNamed other.entry n → IfOk result (λ fs. map shown_frame fs.items ≡ frames_in (names_in pdb.old.file) (global_id_in pdb.old.file code.now) n place code.now) }
+        ensures kept { AreNamesOf pdb.new self.new }
+        ensures frames { pdb.new.told ≡ true → (n : Named) → IsNamed other.entry n → IfOk result (λ fs. map shown_frame fs.items ≡ frames_in (names_in pdb.old.file) (global_id_in pdb.old.file code.now) n place code.now) }
         ensures refused { IfErr result (λ e. OnlyFails (MayFail pdb.old pdb.new) e) }
     {
         let strings = strings_asked(pdb, &mut self.strings)?;

@@ -18,4 +18,6 @@ state_of state s = record {
   file = (state s.source).file;
   failures = failures_of state s;
   steady = is_none s.left && nat_lt (failures_of state s) (2 ^ 64 - 1) && (state s.source).steady;
+  told = (state s.source).told;
+  known = (state s.source).known;
 }

@@ -38,7 +38,7 @@ impl<T: Drop> From<AllocFailed<T>> for WordsError {
 
 /// The program's arguments, without its own name. `InvalidData` where one isn't UTF-8, `OutOfMemory` where there is no
 /// memory for them.
-pub fn words_of(rt: &(impl Env + AllocGlobal)) -> io::Result<Vec<String>> {
+pub fn words_of<R: Env + Alloc>(rt: &R) -> io::Result<Vec<String<R::A>, R::A>> {
     let args = env::args(rt)?;
     let mut words = Vec::new(rt.alloc());
     for word in args.skip(1) {

@@ -1,6 +1,7 @@
 pub mod HexWords
 pub mod AnsweredLines
 pub mod RefusalIs
+pub mod ImageFronts
 pub mod AllWords
 pub mod OptionWords
 pub mod OperandWords

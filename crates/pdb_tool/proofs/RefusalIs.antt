@@ -11,3 +11,9 @@ fails_is e read some h = h
 
 pub refusal_is : {Y : Type 0} (e x : Error) (read : Result Y Error) → (e ≡ x) × (e ≢ OutOfMemory) → Fails ⊥ e read → read ≡ Err x
 refusal_is e x read same h = subst (λ y. read ≡ Err y) same.0 (fails_is e read same.1 h)
+
+-- the same over a source that may fail
+pub refusal_but : {Y : Type 0} (io : Type 0) (e x : Error) (read : Result Y Error) → (e ≡ x) × (e ≢ OutOfMemory) × (e ≢ IoError) → Fails io e read → read ≡ Err x
+refusal_but io IoError x read same h = absurd (same.2 refl)
+refusal_but io OutOfMemory x read same h = absurd (same.1 refl)
+refusal_but io e x read same h = subst (λ y. read ≡ Err y) same.0 h

@@ -1,6 +1,6 @@
 -- Stops that are passed on.
-use Rattle.std.proofs.Common.{◌≡◌, false, Result, Ok, Err, refl, subst, sym}
-use Rattle.std.specs.Prelude.{IfErr, IsErrAnd}
+use Rattle.std.proofs.Common.{◌≡◌, Bool, true, false, true≢false, ◌∙◌, Result, Ok, Err, refl, subst, sym}
+use Rattle.std.specs.Prelude.{IfErr, IfOk, IsErrAnd, IsErrOf, MatchResult, is_ok}
 use Rattle.pdb.specs.Source.{State, Continues, MayFail}
 use Rattle.pdb.proofs.Passing.{unsteady_before}
 use Rattle.pdb_file.specs.declared.reading.FetchError.{FetchError}
@@ -61,3 +61,24 @@ unsteady_source source opened new on fails = unsteady_before source opened on fa
 pub read_failed : (e : FetchError) → stop_of_fetch e ≡ Read → e ≡ fetch.Read
 read_failed fetch.Read same = refl
 read_failed fetch.Memory same = absurd cc
+
+-- over a source that can't fail there is no read error
+pub unread_command : {T : Type 0} (steady : Bool) (r : Result T Stop) → steady ≡ true → IfErr r (StopsCommand (steady ≡ false)) → IsErrOf r Read → ⊥
+unread_command steady (Ok x) sure stops read = absurd cc
+unread_command steady (Err Read) sure stops read = absurd (true≢false (sym sure ∙ stops))
+unread_command steady (Err e) sure stops read = absurd cc
+
+pub unread_opening : {T : Type 0} (steady : Bool) (r : Result T Stop) → steady ≡ true → IfErr r (StopsOpening (steady ≡ false)) → IsErrOf r Read → ⊥
+unread_opening steady (Ok x) sure stops read = absurd cc
+unread_opening steady (Err Read) sure stops read = absurd (true≢false (sym sure ∙ stops))
+unread_opening steady (Err e) sure stops read = absurd cc
+
+-- what a call gave is passed on where its error is told in other words
+pub mapped_ok : {T E F : Type 0} (a : Result T E) (b : Result T F) (P : T → Type 0) (Q : E → Type 0) → MatchResult a (λ x. b ≡ Ok x) Q → is_ok b ≡ is_ok a → IfOk a P → IfOk b P
+mapped_ok (Ok x) b P Q cases same h = subst (λ r. IfOk r P) (sym cases) h
+mapped_ok (Err e) (Ok y) P Q cases same h = absurd cc
+mapped_ok (Err e) (Err f) P Q cases same h = tt
+
+pub if_ok_on : {T E : Type 0} (r : Result T E) (P Q : T → Type 0) → ((x : T) → P x → Q x) → IfOk r P → IfOk r Q
+if_ok_on (Ok x) P Q f h = f x h
+if_ok_on (Err e) P Q f h = tt

@@ -22,6 +22,7 @@ stop_of_refusal e = Read
 -- a file that can't be opened
 abbrev pub stop_of_opening : Error → Stop
 stop_of_opening refusal.OutOfMemory = Memory
+stop_of_opening refusal.IoError = Read
 stop_of_opening e = Open e
 
 -- ---- why a call stops: out of memory at any time, a read error only where io holds

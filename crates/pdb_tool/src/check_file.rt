@@ -1,6 +1,6 @@
 //! What is wrong with the streams of a file, its modules aside.
 
-ghost use Rattle.std.specs.Prelude.{◌≡◌, ◌≢◌, ◌++◌, ◌⊎◌, flat_map, None, Err, OnOk, IfOk, IfErr};
+ghost use Rattle.std.specs.Prelude.{◌≡◌, ◌≢◌, ◌++◌, ◌⊎◌, flat_map, None, Err, OnOk, IfOk, IfErr, true};
 ghost use Rattle.pdb.specs.Error.{Error};
 ghost use Rattle.pdb.specs.Answers.{debug_information_in};
 ghost use Rattle.pdb.specs.Container.{stream_of};
@@ -30,7 +30,7 @@ fn put_names<'s, S: Source<'s>>(
     label: &[u8],
 ) -> Result<(), Stop>
     ensures continues { Continues pdb.old pdb.new }
-    ensures text { OnOk result (out.new.items ≡ out.old.items ++ fault_text subject.now label.now (refused (names_in pdb.old.file))) }
+    ensures text { pdb.new.told ≡ true → OnOk result (out.new.items ≡ out.old.items ++ fault_text subject.now label.now (refused (names_in pdb.old.file))) }
     ensures unwritten { IfErr result (StopsComposing (MayFail pdb.old pdb.new)) }
 {
     match pdb.pdb_information() {
@@ -49,7 +49,7 @@ fn put_module_list<'s, S: Source<'s>>(
     label: &[u8],
 ) -> Result<(), Stop>
     ensures continues { Continues pdb.old pdb.new }
-    ensures text { OnOk result (out.new.items ≡ out.old.items ++ fault_text subject.now label.now (ended_by (modules_of_file pdb.old.file))) }
+    ensures text { pdb.new.told ≡ true → OnOk result (out.new.items ≡ out.old.items ++ fault_text subject.now label.now (ended_by (modules_of_file pdb.old.file))) }
     ensures unwritten { IfErr result (StopsComposing (MayFail pdb.old pdb.new)) }
 {
     match pdb.debug_information() {
@@ -83,7 +83,7 @@ fn put_contributions<'s, S: Source<'s>>(
     label: &[u8],
 ) -> Result<(), Stop>
     ensures continues { Continues pdb.old pdb.new }
-    ensures text { OnOk result (out.new.items ≡ out.old.items ++ fault_text subject.now label.now (contributions_ended_in (debug_information_in pdb.old.file))) }
+    ensures text { pdb.new.told ≡ true → OnOk result (out.new.items ≡ out.old.items ++ fault_text subject.now label.now (contributions_ended_in (debug_information_in pdb.old.file))) }
     ensures unwritten { IfErr result (StopsComposing (MayFail pdb.old pdb.new)) }
 {
     match pdb.debug_information() {
@@ -141,7 +141,7 @@ fn put_listed_globals<'s, S: Source<'s>>(
     word: &[u8],
 ) -> Result<(), Stop>
     ensures continues { Continues pdb.old pdb.new }
-    ensures text { OnOk result (out.new.items ≡ out.old.items ++ listed_globals_text subject.now label.now word.now pdb.old.file) }
+    ensures text { pdb.new.told ≡ true → OnOk result (out.new.items ≡ out.old.items ++ listed_globals_text subject.now label.now word.now pdb.old.file) }
     ensures unwritten { IfErr result (StopsComposing (MayFail pdb.old pdb.new)) }
 {
     match pdb.global_symbols() {
@@ -162,7 +162,7 @@ pub(crate) fn put_globals<'s, S: Source<'s>>(
     subject: &Subject<'_>,
 ) -> Result<(), Stop>
     ensures continues { Continues pdb.old pdb.new }
-    ensures text { OnOk result (out.new.items ≡ out.old.items ++ globals_text subject.now pdb.old.file) }
+    ensures text { pdb.new.told ≡ true → OnOk result (out.new.items ≡ out.old.items ++ globals_text subject.now pdb.old.file) }
     ensures unwritten { IfErr result (StopsComposing (MayFail pdb.old pdb.new)) }
 {
     put_listed_globals(
@@ -199,7 +199,7 @@ fn put_id_stream<'s, S: Source<'s>>(
     label: &[u8],
 ) -> Result<(), Stop>
     ensures continues { Continues pdb.old pdb.new }
-    ensures text { OnOk result (out.new.items ≡ out.old.items ++ fault_text subject.now label.now (items_ended_by (stream_of pdb.old.file 4 None))) }
+    ensures text { pdb.new.told ≡ true → OnOk result (out.new.items ≡ out.old.items ++ fault_text subject.now label.now (items_ended_by (stream_of pdb.old.file 4 None))) }
     ensures unwritten { IfErr result (StopsComposing (MayFail pdb.old pdb.new)) }
 {
     match pdb.id_information() {
@@ -212,7 +212,7 @@ fn put_id_stream<'s, S: Source<'s>>(
 #[tactic(auto, unfolding(crate::specs::Checks::ids_in))]
 fn has_ids<'s, S: Source<'s>>(pdb: &mut PDB<'s, S>) -> Result<bool, Stop>
     ensures continues { Continues pdb.old pdb.new }
-    ensures said { IfOk result (λ b. b ≡ is_said (ids_in pdb.old.file)) }
+    ensures said { pdb.new.told ≡ true → IfOk result (λ b. b ≡ is_said (ids_in pdb.old.file)) }
     ensures unwritten { IfErr result (StopsComposing (MayFail pdb.old pdb.new)) }
 {
     match pdb.pdb_information() {
@@ -231,7 +231,7 @@ fn put_ids<'s, S: Source<'s>>(
     subject: &Subject<'_>,
 ) -> Result<(), Stop>
     ensures continues { Continues pdb.old pdb.new }
-    ensures text { OnOk result (out.new.items ≡ out.old.items ++ ids_text subject.now pdb.old.file) }
+    ensures text { pdb.new.told ≡ true → OnOk result (out.new.items ≡ out.old.items ++ ids_text subject.now pdb.old.file) }
     ensures unwritten { IfErr result (StopsComposing (MayFail pdb.old pdb.new)) }
 {
     if !has_ids(pdb)? {
@@ -249,7 +249,7 @@ pub(crate) fn put_first<'s, S: Source<'s>>(
     subject: &Subject<'_>,
 ) -> Result<(), Stop>
     ensures continues { Continues pdb.old pdb.new }
-    ensures text { OnOk result (out.new.items ≡ out.old.items ++ first_text subject.now pdb.old.file) }
+    ensures text { pdb.new.told ≡ true → OnOk result (out.new.items ≡ out.old.items ++ first_text subject.now pdb.old.file) }
     ensures unwritten { IfErr result (StopsComposing (MayFail pdb.old pdb.new)) }
 {
     put_part(pdb, out, subject, FilePart::Information)?;
@@ -264,7 +264,7 @@ pub(crate) fn put_lists<'s, S: Source<'s>>(
     subject: &Subject<'_>,
 ) -> Result<(), Stop>
     ensures continues { Continues pdb.old pdb.new }
-    ensures text { OnOk result (out.new.items ≡ out.old.items ++ lists_text subject.now pdb.old.file) }
+    ensures text { pdb.new.told ≡ true → OnOk result (out.new.items ≡ out.old.items ++ lists_text subject.now pdb.old.file) }
     ensures unwritten { IfErr result (StopsComposing (MayFail pdb.old pdb.new)) }
 {
     put_module_list(pdb, out, subject, b"modules")?;
@@ -280,7 +280,7 @@ pub(crate) fn put_items<'s, S: Source<'s>>(
     subject: &Subject<'_>,
 ) -> Result<(), Stop>
     ensures continues { Continues pdb.old pdb.new }
-    ensures text { OnOk result (out.new.items ≡ out.old.items ++ items_text subject.now pdb.old.file) }
+    ensures text { pdb.new.told ≡ true → OnOk result (out.new.items ≡ out.old.items ++ items_text subject.now pdb.old.file) }
     ensures unwritten { IfErr result (StopsComposing (MayFail pdb.old pdb.new)) }
 {
     put_types(alloc, pdb, out, subject, b"types")?;

@@ -1,7 +1,7 @@
 //! What is wrong with the streams of a file, its modules aside: those that a DBI stream without a byte takes away are
 //! left out.
 
-ghost use Rattle.std.specs.Prelude.{◌≡◌, ◌++◌, ◌⊎◌, OnOk, IfOk, IfErr};
+ghost use Rattle.std.specs.Prelude.{◌≡◌, ◌++◌, ◌⊎◌, OnOk, IfOk, IfErr, true};
 ghost use Rattle.pdb.specs.Source.{Continues, MayFail};
 ghost use Rattle.pdb_tool.specs.Checks.{has_empty_dbi};
 ghost use Rattle.pdb_tool.specs.CheckTexts.{debug_parts_text, file_text, streams_text, tables_text};
@@ -22,7 +22,7 @@ const DBI_STREAM: StreamIndex = StreamIndex(3);
 #[tactic(auto, unfolding(crate::specs::Checks::has_empty_dbi))]
 fn has_empty_dbi<'s, S: Source<'s>>(pdb: &mut PDB<'s, S>) -> Result<bool, Stop>
     ensures continues { Continues pdb.old pdb.new }
-    ensures is { IfOk result (λ b. b ≡ has_empty_dbi pdb.old.file) }
+    ensures is { pdb.new.told ≡ true → IfOk result (λ b. b ≡ has_empty_dbi pdb.old.file) }
     ensures unwritten { IfErr result (StopsComposing (MayFail pdb.old pdb.new)) }
 {
     match pdb.raw_stream(DBI_STREAM) {
@@ -42,7 +42,7 @@ fn put_debug_parts<'s, S: Source<'s>>(
     subject: &Subject<'_>,
 ) -> Result<(), Stop>
     ensures continues { Continues pdb.old pdb.new }
-    ensures text { OnOk result (out.new.items ≡ out.old.items ++ debug_parts_text subject.now pdb.old.file) }
+    ensures text { pdb.new.told ≡ true → OnOk result (out.new.items ≡ out.old.items ++ debug_parts_text subject.now pdb.old.file) }
     ensures unwritten { IfErr result (StopsComposing (MayFail pdb.old pdb.new)) }
 {
     put_part(pdb, out, subject, FilePart::DebugInformation)?;
@@ -62,7 +62,7 @@ fn put_streams<'s, S: Source<'s>>(
     is_empty: bool,
 ) -> Result<(), Stop>
     ensures continues { Continues pdb.old pdb.new }
-    ensures text { OnOk result (out.new.items ≡ out.old.items ++ streams_text is_empty subject.now pdb.old.file) }
+    ensures text { pdb.new.told ≡ true → OnOk result (out.new.items ≡ out.old.items ++ streams_text is_empty subject.now pdb.old.file) }
     ensures unwritten { IfErr result (StopsComposing (MayFail pdb.old pdb.new)) }
 {
     put_first(alloc, pdb, out, subject)?;
@@ -82,7 +82,7 @@ fn put_tables<'s, S: Source<'s>>(
     is_empty: bool,
 ) -> Result<(), Stop>
     ensures continues { Continues pdb.old pdb.new }
-    ensures text { OnOk result (out.new.items ≡ out.old.items ++ tables_text is_empty subject.now pdb.old.file) }
+    ensures text { pdb.new.told ≡ true → OnOk result (out.new.items ≡ out.old.items ++ tables_text is_empty subject.now pdb.old.file) }
     ensures unwritten { IfErr result (StopsComposing (MayFail pdb.old pdb.new)) }
 {
     put_part(pdb, out, subject, FilePart::StringTable)?;
@@ -100,7 +100,7 @@ pub fn put_streams_of<'s, S: Source<'s>>(
     subject: &Subject<'_>,
 ) -> Result<(), Stop>
     ensures continues { Continues pdb.old pdb.new }
-    ensures text { OnOk result (out.new.items ≡ out.old.items ++ file_text subject.now pdb.old.file) }
+    ensures text { pdb.new.told ≡ true → OnOk result (out.new.items ≡ out.old.items ++ file_text subject.now pdb.old.file) }
     ensures unwritten { IfErr result (StopsComposing (MayFail pdb.old pdb.new)) }
 {
     let is_empty = has_empty_dbi(pdb)?;

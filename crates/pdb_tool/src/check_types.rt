@@ -1,6 +1,6 @@
 //! What is wrong with the types of a file, and with their members.
 
-ghost use Rattle.std.specs.Prelude.{◌≡◌, ◌++◌, ◌⊎◌, flat_map, None, OnOk, IfErr};
+ghost use Rattle.std.specs.Prelude.{◌≡◌, ◌++◌, ◌⊎◌, flat_map, None, OnOk, IfErr, true};
 ghost use Rattle.std.specs.Option.{option_map};
 ghost use Rattle.pdb.specs.Container.{stream_of};
 ghost use Rattle.pdb.specs.Source.{Continues, MayFail};
@@ -94,7 +94,7 @@ pub(crate) fn put_types<'s, S: Source<'s>>(
     label: &[u8],
 ) -> Result<(), Stop>
     ensures continues { Continues pdb.old pdb.new }
-    ensures text { OnOk result (out.new.items ≡ out.old.items ++ listed_types_text subject.now label.now (stream_of pdb.old.file 2 None)) }
+    ensures text { pdb.new.told ≡ true → OnOk result (out.new.items ≡ out.old.items ++ listed_types_text subject.now label.now (stream_of pdb.old.file 2 None)) }
     ensures unwritten { IfErr result (StopsComposing (MayFail pdb.old pdb.new)) }
 {
     match pdb.type_information() {

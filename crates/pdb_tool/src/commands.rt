@@ -5,7 +5,7 @@ ghost use Rattle.std.specs.Io.KnownBytes.{Appends};
 ghost use Rattle.pdb.specs.Container.{opens, stream_of};
 ghost use Rattle.pdb.specs.Error.{Error};
 ghost use Rattle.pdb.specs.Answers.{global_symbols_in, string_table_in};
-ghost use Rattle.pdb.specs.Source.{Continues, MayFail};
+ghost use Rattle.pdb.specs.Source.{Continues, MayFail, IsKnown};
 ghost use Rattle.pdb_resolve.specs.AsIfEmpty.{if_read};
 ghost use Rattle.pdb_resolve.specs.FileParts.{items_where};
 ghost use Rattle.pdb_resolve.specs.ImportTables.{ids_by};
@@ -165,11 +165,12 @@ pub fn write_modules<'s, S: Source<'s>, T: ModuleText, W: CountedWrite>(
     indices: &[u32],
     out: &mut W,
 ) -> Result<(), Stop>
+    ensures continues { Continues pdb.old pdb.new }
     ensures opened { (e : Error) → IsErrOf result (Stop.Open e) → ⊥ }
     ensures stops { IfErr result (StopsWriting (MayFail pdb.old pdb.new)) }
     ensures failures { W.failures out.new ≡ failures_after (W.failures out.old) result }
-    ensures ok { OnOk result (Appends (W.contents out.old) (W.contents out.new) (modules_text form (in_file (T.text texts.now) pdb.old.file) pdb.old.file indices.now)) }
-    ensures front { OnErr result (WroteFront (W.contents out.old) (W.contents out.new) (modules_text form (in_file (T.text texts.now) pdb.old.file) pdb.old.file indices.now)) }
+    ensures ok { pdb.new.told ≡ true → OnOk result (Appends (W.contents out.old) (W.contents out.new) (modules_text form (in_file (T.text texts.now) pdb.old.file) pdb.old.file indices.now)) }
+    ensures front { pdb.new.told ≡ true → OnErr result (WroteFront (W.contents out.old) (W.contents out.new) (modules_text form (in_file (T.text texts.now) pdb.old.file) pdb.old.file indices.now)) }
 {
     if indices.is_empty() {
         write_all(alloc, pdb, form, texts, out)
@@ -182,7 +183,7 @@ pub fn write_modules<'s, S: Source<'s>, T: ModuleText, W: CountedWrite>(
 /// The string table; none where it can't be read.
 pub fn strings_of<'s, S: Source<'s>>(pdb: &mut PDB<'s, S>) -> Result<Option<StringTable<'s>>, Stop>
     ensures continues { Continues pdb.old pdb.new }
-    ensures is { IfOk result (λ o. o ≡ if_read (string_table_in pdb.old.file)) }
+    ensures is { pdb.new.told ≡ true → IfOk result (λ o. o ≡ if_read (string_table_in pdb.old.file)) }
     ensures unwritten { IfErr result (StopsComposing (MayFail pdb.old pdb.new)) }
 {
     match pdb.string_table() {
@@ -199,7 +200,7 @@ pub fn ids_stream<'s, S: Source<'s>>(
     pdb: &mut PDB<'s, S>,
 ) -> Result<Option<IdInformation<'s>>, Stop>
     ensures continues { Continues pdb.old pdb.new }
-    ensures is { IfOk result (λ o. o ≡ if_read (stream_of pdb.old.file 4 None)) }
+    ensures is { pdb.new.told ≡ true → IfOk result (λ o. o ≡ if_read (stream_of pdb.old.file 4 None)) }
     ensures unwritten { IfErr result (StopsComposing (MayFail pdb.old pdb.new)) }
 {
     match pdb.id_information() {
@@ -215,7 +216,7 @@ pub fn types_stream<'s, S: Source<'s>>(
     pdb: &mut PDB<'s, S>,
 ) -> Result<Option<TypeInformation<'s>>, Stop>
     ensures continues { Continues pdb.old pdb.new }
-    ensures is { IfOk result (λ o. o ≡ if_read (stream_of pdb.old.file 2 None)) }
+    ensures is { pdb.new.told ≡ true → IfOk result (λ o. o ≡ if_read (stream_of pdb.old.file 2 None)) }
     ensures unwritten { IfErr result (StopsComposing (MayFail pdb.old pdb.new)) }
 {
     match pdb.type_information() {
@@ -234,12 +235,12 @@ pub fn write_lines<'s, S: Source<'s>, W: CountedWrite>(
     indices: &[u32],
     out: &mut W,
 ) -> Result<(), Stop>
-    ensures opened { OnOk result (opens (S.state source).file ≡ Ok tt) }
-    ensures ok { OnOk result (Appends (W.contents out.old) (W.contents out.new) (lines_command (S.state source).file indices.now)) }
-    ensures refused { (S.state source).steady ≡ true → (e : Error) → IsErrOf result (Stop.Open e) → opens (S.state source).file ≡ Err e }
+    ensures opened { IsKnown (S.state source) → OnOk result (opens (S.state source).file ≡ Ok tt) }
+    ensures ok { IsKnown (S.state source) → OnOk result (Appends (W.contents out.old) (W.contents out.new) (lines_command (S.state source).file indices.now)) }
+    ensures refused { IsKnown (S.state source) → (e : Error) → IsErrOf result (Stop.Open e) → opens (S.state source).file ≡ Err e }
     ensures stops { IfErr result (StopsCommand ((S.state source).steady ≡ false)) }
     ensures failures { W.failures out.new ≡ failures_after (W.failures out.old) result }
-    ensures front { OnErr result (WroteFront (W.contents out.old) (W.contents out.new) (lines_command (S.state source).file indices.now)) }
+    ensures front { IsKnown (S.state source) → OnErr result (WroteFront (W.contents out.old) (W.contents out.new) (lines_command (S.state source).file indices.now)) }
 {
     let mut pdb = opened(alloc, source)?;
     let strings = strings_of(&mut pdb)?;
@@ -295,12 +296,12 @@ pub fn write_scopes<'s, S: Source<'s>, W: CountedWrite>(
     indices: &[u32],
     out: &mut W,
 ) -> Result<(), Stop>
-    ensures opened { OnOk result (opens (S.state source).file ≡ Ok tt) }
-    ensures ok { OnOk result (Appends (W.contents out.old) (W.contents out.new) (scopes_command (S.state source).file indices.now)) }
-    ensures refused { (S.state source).steady ≡ true → (e : Error) → IsErrOf result (Stop.Open e) → opens (S.state source).file ≡ Err e }
+    ensures opened { IsKnown (S.state source) → OnOk result (opens (S.state source).file ≡ Ok tt) }
+    ensures ok { IsKnown (S.state source) → OnOk result (Appends (W.contents out.old) (W.contents out.new) (scopes_command (S.state source).file indices.now)) }
+    ensures refused { IsKnown (S.state source) → (e : Error) → IsErrOf result (Stop.Open e) → opens (S.state source).file ≡ Err e }
     ensures stops { IfErr result (StopsCommand ((S.state source).steady ≡ false)) }
     ensures failures { W.failures out.new ≡ failures_after (W.failures out.old) result }
-    ensures front { OnErr result (WroteFront (W.contents out.old) (W.contents out.new) (scopes_command (S.state source).file indices.now)) }
+    ensures front { IsKnown (S.state source) → OnErr result (WroteFront (W.contents out.old) (W.contents out.new) (scopes_command (S.state source).file indices.now)) }
 {
     let mut pdb = opened(alloc, source)?;
     let ids = ids_stream(&mut pdb)?;
@@ -344,11 +345,12 @@ fn write_globals<'s, S: Source<'s>, W: CountedWrite>(
     tables: &Tables<'_>,
     out: &mut W,
 ) -> Result<(), Stop>
+    ensures continues { Continues pdb.old pdb.new }
     ensures opened { (e : Error) → IsErrOf result (Stop.Open e) → ⊥ }
     ensures stops { IfErr result (StopsWriting (MayFail pdb.old pdb.new)) }
     ensures failures { W.failures out.new ≡ failures_after (W.failures out.old) result }
-    ensures ok { OnOk result (Appends (W.contents out.old) (W.contents out.new) (told (global_symbols_in pdb.old.file) (global_symbols_text (names_from tables.now.ids tables.now.types (first_definition tables.now.definitions) (ids_by no_imports)) tables.now.header))) }
-    ensures front { OnErr result (WroteFront (W.contents out.old) (W.contents out.new) (told (global_symbols_in pdb.old.file) (global_symbols_text (names_from tables.now.ids tables.now.types (first_definition tables.now.definitions) (ids_by no_imports)) tables.now.header))) }
+    ensures ok { pdb.new.told ≡ true → OnOk result (Appends (W.contents out.old) (W.contents out.new) (told (global_symbols_in pdb.old.file) (global_symbols_text (names_from tables.now.ids tables.now.types (first_definition tables.now.definitions) (ids_by no_imports)) tables.now.header))) }
+    ensures front { pdb.new.told ≡ true → OnErr result (WroteFront (W.contents out.old) (W.contents out.new) (told (global_symbols_in pdb.old.file) (global_symbols_text (names_from tables.now.ids tables.now.types (first_definition tables.now.definitions) (ids_by no_imports)) tables.now.header))) }
 {
     let symbols = match pdb.global_symbols() {
         Ok(symbols) => symbols,
@@ -368,11 +370,12 @@ fn write_numbered<'s, S: Source<'s>, W: CountedWrite>(
     indices: &[u32],
     out: &mut W,
 ) -> Result<(), Stop>
+    ensures continues { Continues pdb.old pdb.new }
     ensures opened { (e : Error) → IsErrOf result (Stop.Open e) → ⊥ }
     ensures stops { IfErr result (StopsWriting (MayFail pdb.old pdb.new)) }
     ensures failures { W.failures out.new ≡ failures_after (W.failures out.old) result }
-    ensures ok { OnOk result (Appends (W.contents out.old) (W.contents out.new) (symbols_command pdb.old.file indices.now)) }
-    ensures front { OnErr result (WroteFront (W.contents out.old) (W.contents out.new) (symbols_command pdb.old.file indices.now)) }
+    ensures ok { pdb.new.told ≡ true → OnOk result (Appends (W.contents out.old) (W.contents out.new) (symbols_command pdb.old.file indices.now)) }
+    ensures front { pdb.new.told ≡ true → OnErr result (WroteFront (W.contents out.old) (W.contents out.new) (symbols_command pdb.old.file indices.now)) }
 {
     let ids = ids_stream(pdb)?;
     let types = types_stream(pdb)?;
@@ -392,12 +395,12 @@ pub fn write_symbols<'s, S: Source<'s>, W: CountedWrite>(
     indices: &[u32],
     out: &mut W,
 ) -> Result<(), Stop>
-    ensures opened { OnOk result (opens (S.state source).file ≡ Ok tt) }
-    ensures ok { OnOk result (Appends (W.contents out.old) (W.contents out.new) (symbols_command (S.state source).file indices.now)) }
-    ensures refused { (S.state source).steady ≡ true → (e : Error) → IsErrOf result (Stop.Open e) → opens (S.state source).file ≡ Err e }
+    ensures opened { IsKnown (S.state source) → OnOk result (opens (S.state source).file ≡ Ok tt) }
+    ensures ok { IsKnown (S.state source) → OnOk result (Appends (W.contents out.old) (W.contents out.new) (symbols_command (S.state source).file indices.now)) }
+    ensures refused { IsKnown (S.state source) → (e : Error) → IsErrOf result (Stop.Open e) → opens (S.state source).file ≡ Err e }
     ensures stops { IfErr result (StopsCommand ((S.state source).steady ≡ false)) }
     ensures failures { W.failures out.new ≡ failures_after (W.failures out.old) result }
-    ensures front { OnErr result (WroteFront (W.contents out.old) (W.contents out.new) (symbols_command (S.state source).file indices.now)) }
+    ensures front { IsKnown (S.state source) → OnErr result (WroteFront (W.contents out.old) (W.contents out.new) (symbols_command (S.state source).file indices.now)) }
 {
     let mut pdb = opened(alloc, source)?;
     write_numbered(alloc, &mut pdb, indices, out)
@@ -410,12 +413,12 @@ pub fn write_all_symbols<'s, S: Source<'s>, W: CountedWrite>(
     source: S,
     out: &mut W,
 ) -> Result<(), Stop>
-    ensures opened { OnOk result (opens (S.state source).file ≡ Ok tt) }
-    ensures ok { OnOk result (Appends (W.contents out.old) (W.contents out.new) (all_symbols_command (S.state source).file)) }
-    ensures refused { (S.state source).steady ≡ true → (e : Error) → IsErrOf result (Stop.Open e) → opens (S.state source).file ≡ Err e }
+    ensures opened { IsKnown (S.state source) → OnOk result (opens (S.state source).file ≡ Ok tt) }
+    ensures ok { IsKnown (S.state source) → OnOk result (Appends (W.contents out.old) (W.contents out.new) (all_symbols_command (S.state source).file)) }
+    ensures refused { IsKnown (S.state source) → (e : Error) → IsErrOf result (Stop.Open e) → opens (S.state source).file ≡ Err e }
     ensures stops { IfErr result (StopsCommand ((S.state source).steady ≡ false)) }
     ensures failures { W.failures out.new ≡ failures_after (W.failures out.old) result }
-    ensures front { OnErr result (WroteFront (W.contents out.old) (W.contents out.new) (all_symbols_command (S.state source).file)) }
+    ensures front { IsKnown (S.state source) → OnErr result (WroteFront (W.contents out.old) (W.contents out.new) (all_symbols_command (S.state source).file)) }
 {
     let mut pdb = opened(alloc, source)?;
     let ids = ids_stream(&mut pdb)?;

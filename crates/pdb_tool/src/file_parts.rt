@@ -1,6 +1,7 @@
 //! The parts of a file that are whole or have one error, and the lines of these errors.
 
-ghost use Rattle.std.specs.Prelude.{◌≡◌, ◌++◌, ◌⊎◌, OnOk, IfErr};
+ghost use Rattle.std.specs.Prelude.{◌≡◌, ◌++◌, ◌⊎◌, OnOk, IfErr, IfSome, true};
+ghost use Rattle.pdb.specs.Error.{Error};
 ghost use Rattle.pdb.specs.Source.{Continues, MayFail};
 ghost use Rattle.pdb_tool.specs.Checks.{IsErrorOf, error_of};
 ghost use Rattle.pdb_tool.specs.CheckTexts.{part_label, part_text};
@@ -46,7 +47,8 @@ fn label_of(part: FilePart) -> &'static [u8]
 /// The error of a part, where it can't be read.
 fn error_of<'s, S: Source<'s>>(pdb: &mut PDB<'s, S>, part: FilePart) -> Option<Error>
     ensures continues { Continues pdb.old pdb.new }
-    ensures is { IsErrorOf (MayFail pdb.old pdb.new) result (error_of part pdb.old.file) }
+    ensures failed { IfSome result (λ e. e ≡ Error.IoError → MayFail pdb.old pdb.new) }
+    ensures is { pdb.new.told ≡ true → IsErrorOf (MayFail pdb.old pdb.new) result (error_of part pdb.old.file) }
 {
     match part {
         FilePart::Information => pdb.pdb_information().err(),
@@ -67,7 +69,7 @@ pub fn put_part<'s, S: Source<'s>>(
     part: FilePart,
 ) -> Result<(), Stop>
     ensures continues { Continues pdb.old pdb.new }
-    ensures text { OnOk result (out.new.items ≡ out.old.items ++ part_text subject.now part pdb.old.file) }
+    ensures text { pdb.new.told ≡ true → OnOk result (out.new.items ≡ out.old.items ++ part_text subject.now part pdb.old.file) }
     ensures unwritten { IfErr result (StopsComposing (MayFail pdb.old pdb.new)) }
 {
     match error_of(pdb, part) {

@@ -1,5 +1,6 @@
 //! What a command writes of one file.
 
+ghost use Rattle.pdb.specs.Source.{IsKnown};
 ghost use Rattle.std.specs.Prelude.{◌≡◌, true, false, Ok, Err, IfErr, IsErrOf, OnOk, OnErr};
 ghost use Rattle.std.specs.Io.KnownBytes.{Appends};
 ghost use Rattle.pdb.specs.Container.{opens};
@@ -76,13 +77,13 @@ pub fn write_text<'s, S: Source<'s>, W: NotesDamage>(
     text: FileText<'_>,
     out: &mut W,
 ) -> Result<(), Stop>
-    ensures opened { OnOk result (opens (S.state source).file ≡ Ok tt) }
-    ensures ok { OnOk result (Appends (W.contents out.old) (W.contents out.new) (file_text (S.state source).file text.entry)) }
-    ensures refused { (S.state source).steady ≡ true → (e : Error) → IsErrOf result (Stop.Open e) → opens (S.state source).file ≡ Err e }
+    ensures opened { IsKnown (S.state source) → OnOk result (opens (S.state source).file ≡ Ok tt) }
+    ensures ok { IsKnown (S.state source) → OnOk result (Appends (W.contents out.old) (W.contents out.new) (file_text (S.state source).file text.entry)) }
+    ensures refused { IsKnown (S.state source) → (e : Error) → IsErrOf result (Stop.Open e) → opens (S.state source).file ≡ Err e }
     ensures stops { IfErr result (StopsCommand ((S.state source).steady ≡ false)) }
     ensures failures { W.failures out.new ≡ failures_after (W.failures out.old) result }
     // A beginning of the text was written.
-    ensures front { OnErr result (WroteFront (W.contents out.old) (W.contents out.new) (file_text (S.state source).file text.entry)) }
+    ensures front { IsKnown (S.state source) → OnErr result (WroteFront (W.contents out.old) (W.contents out.new) (file_text (S.state source).file text.entry)) }
 {
     match text {
         FileText::Code(questions) => resolve_words(alloc, source, questions, out),

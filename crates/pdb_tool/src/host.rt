@@ -1,7 +1,6 @@
 //! The files that operands name.
 
 use crate::file_kind::{FRONT_SIZE, file_kind};
-use crate::file_texts::FileText;
 use crate::operands::Operand;
 use crate::report::{Fault, Kind, file_in_word, write_stop};
 use crate::stop::{Stop, Unopened};
@@ -113,17 +112,6 @@ impl<'a, R: Files<File = File> + AllocGlobal> Host<'a, R> {
         };
         let kind = file_kind(front.get(..count).unwrap_or(&[]), size)?;
         Some((kind, size))
-    }
-}
-
-/// How many addresses are looked for in a file of which parts are read: more of them ask for most of it.
-const MOST_IN_PARTS: usize = 64;
-
-/// How many bytes a file has of which parts are read for a text; none where it is read whole.
-pub fn size_in_parts(file: &File, text: FileText<'_>) -> Option<u64> {
-    match text {
-        FileText::Code(questions) if questions.len() > MOST_IN_PARTS => None,
-        _ => size_of(file),
     }
 }
 

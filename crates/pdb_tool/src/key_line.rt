@@ -1,8 +1,10 @@
 //! The lines of `key`: of a PDB, and of an image with the PDB that it names.
 
-ghost use Rattle.std.specs.Prelude.{◌≡◌, ◌≢◌, ◌<◌, ◌++◌, codes, true, false, Some, None, Ok, Err, IfOk, IfErr, IsErrOf, OnOk, Option, get_or, length, ⊤};
+ghost use Rattle.std.specs.Prelude.{◌≡◌, ◌≢◌, ◌↔◌, ◌<◌, ◌++◌, codes, true, false, Some, None, Ok, Err, IfOk, IfErr, IsErrOf, OnOk, Option, get_or, length, ⊤};
 ghost use Rattle.std.specs.Option.{ForSome, option_map};
 ghost use Rattle.pdb.specs.Error.{Error};
+ghost use Rattle.pdb.specs.Refusal.{Gives};
+ghost use Rattle.pdb.specs.Source.{Continues, IsKnown, MayFail};
 ghost use Rattle.pdb_image.specs.Headers.{is_image};
 ghost use Rattle.pdb_image.specs.Images.{image_of, reference, said};
 ghost use Rattle.pdb_tool.specs.KeyLines.{IsLine, image_in as line_of_image, image_line as image_line_of, image_text as text_of_image, key_line as key_line_of, own_key, pdb_in as line_of_pdb, pdb_named, pdb_text as text_of_pdb};
@@ -10,12 +12,12 @@ ghost use Rattle.pdb.specs.Keys.{key_of_file};
 ghost use Rattle.pdb_tool.specs.Stops.{StopsOpening};
 ghost use Rattle.pdb_tool.specs.declared.stop.Stop.{Stop};
 
-use crate::key::key_in_parts;
 use crate::key_objects::{image_object, pdb_object};
 use crate::options::Form;
 use crate::stop::{Stop, stop_of_opening};
-use pdb::{MemorySource, key_of, key_text, put_hex_bytes};
-use pdb_file::ReadAt;
+use bumpalo::Bump;
+use pdb::{Error, MemorySource, Source, SourceSlice, key_of, key_text, put_hex_bytes};
+use pdb_file::{KnownFile, ReadAt, ReadingSource};
 use pdb_image::{Image, PdbReference, is_image};
 use pdb_text::put_one_line;
 use std::alloc::{AllocError, Global};
@@ -130,37 +132,51 @@ pub fn key_line(alloc: Global, form: Form, bytes: &[u8], name: &[u8]) -> Result<
     }
 }
 
-/// The byte at an offset of a file.
-fn byte_at<R: ReadAt>(input: &R, at: u64) -> Result<u8, Stop>
-    ensures byte { ForSome (R.known input.now) (λ G. at < length G → IfOk result (λ b. b ≡ get_or G at 0)) }
-    ensures stopped { (s : Stop) → IsErrOf result s → s ≡ Stop.Read }
-    ensures steady { R.is_steady input.now ≡ true → ForSome (R.known input.now) (λ G. at < length G → IsErrOf result Stop.Read → ⊥) }
+/// Whether an error is that of a file that ends early.
+fn is_end(e: Error) -> bool
+    ensures { (result ≡ true) ↔ (e ≡ Error.UnexpectedEof) }
 {
-    let mut byte = [0u8; 1];
-    match input.read_bytes_at(&mut byte, at) {
-        Ok(1) => Ok(byte[0]),
-        _ => Err(Stop::Read),
+    matches!(e, Error::UnexpectedEof)
+}
+
+/// Whether the file of a source begins as an image does.
+fn begins_as_image<'s, S: Source<'s>>(alloc: Global, source: &mut S) -> Result<bool, Error>
+    ensures continues { Continues (S.state source.old) (S.state source.new) }
+    ensures failed { IsErrOf result Error.IoError → MayFail (S.state source.old) (S.state source.new) }
+    ensures image { (S.state source.new).told ≡ true → Gives (λ b. b) (MayFail (S.state source.old) (S.state source.new)) result (Ok (is_image (S.state source.old).file)) }
+{
+    let front = SourceSlice { offset: 0, size: 2 };
+    match source.view(alloc, &[front]) {
+        Ok(front) => Ok(is_image(front.as_slice())),
+        Err(e) if is_end(e) => Ok(false),
+        Err(e) => Err(e),
     }
 }
 
-/// Whether a file of this size begins as an image does.
-fn begins_as_image<R: ReadAt>(input: &R, size: u64) -> Result<bool, Stop>
-    ensures image { ForSome (R.known input.now) (λ G. length G ≡ size → IfOk result (λ b. b ≡ is_image G)) }
-    ensures stopped { (s : Stop) → IsErrOf result s → s ≡ Stop.Read }
-    ensures steady { R.is_steady input.now ≡ true → ForSome (R.known input.now) (λ G. length G ≡ size → IsErrOf result Stop.Read → ⊥) }
+/// The line of a source's file, where it is a PDB, of which no more is viewed than its key asks for; none where it is an
+/// image.
+#[tactic(auto, unfolding(crate::specs::KeyLines::key_line))]
+fn line_of<'s, S: Source<'s>>(
+    alloc: Global,
+    form: Form,
+    mut source: S,
+    name: &[u8],
+) -> Result<Option<Vec<u8>>, Stop>
+    ensures line { IsKnown (S.state source) → IfOk result (λ o. IsLine form name.now (S.state source).file (option_map (λ v. v.items) o)) }
+    ensures open { IsKnown (S.state source) → (e : Error) → IsErrOf result (Stop.Open e) → (is_image (S.state source).file ≡ false) × (key_of_file (S.state source).file ≡ Err e) }
+    ensures stops { IfErr result (StopsOpening ((S.state source).steady ≡ false)) }
 {
-    if size < 2 {
-        return Ok(false);
+    if begins_as_image(alloc, &mut source).map_err(stop_of_opening)? {
+        return Ok(None);
     }
-    let first = byte_at(input, 0)?;
-    let second = byte_at(input, 1)?;
-    Ok(first == b'M' && second == b'Z')
+    let key = key_of(alloc, source).map_err(stop_of_opening)?;
+    Ok(Some(pdb_in(alloc, form, &key, name)?))
 }
 
 /// The line of a PDB of this size and name, of which no more is read than its key asks for; none where the file is an
 /// image.
 #[tactic(auto, unfolding(crate::specs::KeyLines::key_line))]
-pub fn line_in_parts<R: ReadAt>(
+pub fn line_from<R: ReadAt>(
     alloc: Global,
     form: Form,
     input: &R,
@@ -172,9 +188,8 @@ pub fn line_in_parts<R: ReadAt>(
     ensures stops { IfErr result (StopsOpening ⊤) }
     ensures steady { R.is_steady input.now ≡ true → ForSome (R.known input.now) (λ G. length G ≡ size → IsErrOf result Stop.Read → ⊥) }
 {
-    if begins_as_image(input, size)? {
-        return Ok(None);
-    }
-    let key = key_in_parts(alloc, input, size)?;
-    Ok(Some(pdb_in(alloc, form, &key, name)?))
+    let arena = Bump::new(alloc);
+    let file = KnownFile::new(input);
+    let source = ReadingSource::new(alloc, &arena, input, &file, size);
+    line_of(alloc, form, source, name)
 }

@@ -6,7 +6,7 @@ ghost use Rattle.pdb.specs.Container.{opens, stream_of};
 ghost use Rattle.pdb.specs.Error.{Error};
 ghost use Rattle.pdb.specs.Answers.{address_map_in, debug_information_in, global_symbols_in, string_table_in};
 ghost use Rattle.pdb.specs.Header.{header_of};
-ghost use Rattle.pdb.specs.Source.{Continues, MayFail};
+ghost use Rattle.pdb.specs.Source.{Continues, MayFail, IsKnown};
 ghost use Rattle.pdb_resolve.specs.AsIfEmpty.{if_read};
 ghost use Rattle.pdb_resolve.specs.FileParts.{items_where};
 ghost use Rattle.pdb_text.specs.Written.{WroteFront};
@@ -77,12 +77,12 @@ pub fn write_sources<'s, S: Source<'s>, W: CountedWrite>(
     indices: &[u32],
     out: &mut W,
 ) -> Result<(), Stop>
-    ensures opened { OnOk result (opens (S.state source).file ≡ Ok tt) }
-    ensures ok { OnOk result (Appends (W.contents out.old) (W.contents out.new) (sources_command form (S.state source).file indices.now)) }
-    ensures refused { (S.state source).steady ≡ true → (e : Error) → IsErrOf result (Stop.Open e) → opens (S.state source).file ≡ Err e }
+    ensures opened { IsKnown (S.state source) → OnOk result (opens (S.state source).file ≡ Ok tt) }
+    ensures ok { IsKnown (S.state source) → OnOk result (Appends (W.contents out.old) (W.contents out.new) (sources_command form (S.state source).file indices.now)) }
+    ensures refused { IsKnown (S.state source) → (e : Error) → IsErrOf result (Stop.Open e) → opens (S.state source).file ≡ Err e }
     ensures stops { IfErr result (StopsCommand ((S.state source).steady ≡ false)) }
     ensures failures { W.failures out.new ≡ failures_after (W.failures out.old) result }
-    ensures front { OnErr result (WroteFront (W.contents out.old) (W.contents out.new) (sources_command form (S.state source).file indices.now)) }
+    ensures front { IsKnown (S.state source) → OnErr result (WroteFront (W.contents out.old) (W.contents out.new) (sources_command form (S.state source).file indices.now)) }
 {
     let mut pdb = opened(alloc, source)?;
     let strings = strings_of(&mut pdb)?;
@@ -119,7 +119,7 @@ impl<'w, 'a> ModuleText for Finder<'w, 'a> {
 /// The address map; none where it has an error.
 fn address_map<'s, S: Source<'s>>(pdb: &mut PDB<'s, S>) -> Result<Option<AddressMap<'s>>, Stop>
     ensures continues { Continues pdb.old pdb.new }
-    ensures is { IfOk result (λ o. o ≡ if_read (address_map_in pdb.old.file)) }
+    ensures is { pdb.new.told ≡ true → IfOk result (λ o. o ≡ if_read (address_map_in pdb.old.file)) }
     ensures unwritten { IfErr result (StopsComposing (MayFail pdb.old pdb.new)) }
 {
     match pdb.address_map() {
@@ -133,7 +133,7 @@ fn address_map<'s, S: Source<'s>>(pdb: &mut PDB<'s, S>) -> Result<Option<Address
 /// Whether the image is for x86, by the header of the DBI stream.
 fn image_is_x86<'s, S: Source<'s>>(pdb: &mut PDB<'s, S>) -> Result<bool, Stop>
     ensures continues { Continues pdb.old pdb.new }
-    ensures is { IfOk result (λ b. b ≡ x86_in pdb.old.file) }
+    ensures is { pdb.new.told ≡ true → IfOk result (λ b. b ≡ x86_in pdb.old.file) }
     ensures unwritten { IfErr result (StopsComposing (MayFail pdb.old pdb.new)) }
 {
     match pdb.debug_information() {
@@ -169,7 +169,7 @@ fn put_globals<'s, S: Source<'s>>(
     out: &mut Vec<u8>,
 ) -> Result<(), Stop>
     ensures continues { Continues pdb.old pdb.new }
-    ensures text { OnOk result (out.new.items ≡ out.old.items ++ globals_found pdb.old.file finder.now) }
+    ensures text { pdb.new.told ≡ true → OnOk result (out.new.items ≡ out.old.items ++ globals_found pdb.old.file finder.now) }
     ensures unwritten { IfErr result (StopsComposing (MayFail pdb.old pdb.new)) }
 {
     let x86 = image_is_x86(pdb)?;
@@ -186,11 +186,12 @@ fn write_found<'s, S: Source<'s>, W: CountedWrite>(
     finder: &Finder<'_, '_>,
     out: &mut W,
 ) -> Result<(), Stop>
+    ensures continues { Continues pdb.old pdb.new }
     ensures opened { (e : Error) → IsErrOf result (Stop.Open e) → ⊥ }
     ensures stops { IfErr result (StopsWriting (MayFail pdb.old pdb.new)) }
     ensures failures { W.failures out.new ≡ failures_after (W.failures out.old) result }
-    ensures ok { OnOk result (Appends (W.contents out.old) (W.contents out.new) (found_by pdb.old.file finder.now)) }
-    ensures front { OnErr result (WroteFront (W.contents out.old) (W.contents out.new) (found_by pdb.old.file finder.now)) }
+    ensures ok { pdb.new.told ≡ true → OnOk result (Appends (W.contents out.old) (W.contents out.new) (found_by pdb.old.file finder.now)) }
+    ensures front { pdb.new.told ≡ true → OnErr result (WroteFront (W.contents out.old) (W.contents out.new) (found_by pdb.old.file finder.now)) }
 {
     let mut text = Vec::new(alloc);
     put_globals(alloc, pdb, finder, &mut text)?;
@@ -207,12 +208,12 @@ pub fn write_find<'w, 's, S: Source<'s>, W: CountedWrite>(
     words: &'w [Operand<'w>],
     out: &mut W,
 ) -> Result<(), Stop>
-    ensures opened { OnOk result (opens (S.state source).file ≡ Ok tt) }
-    ensures ok { OnOk result (Appends (W.contents out.old) (W.contents out.new) (find_command form (S.state source).file (map word_of words.now))) }
-    ensures refused { (S.state source).steady ≡ true → (e : Error) → IsErrOf result (Stop.Open e) → opens (S.state source).file ≡ Err e }
+    ensures opened { IsKnown (S.state source) → OnOk result (opens (S.state source).file ≡ Ok tt) }
+    ensures ok { IsKnown (S.state source) → OnOk result (Appends (W.contents out.old) (W.contents out.new) (find_command form (S.state source).file (map word_of words.now))) }
+    ensures refused { IsKnown (S.state source) → (e : Error) → IsErrOf result (Stop.Open e) → opens (S.state source).file ≡ Err e }
     ensures stops { IfErr result (StopsCommand ((S.state source).steady ≡ false)) }
     ensures failures { W.failures out.new ≡ failures_after (W.failures out.old) result }
-    ensures front { OnErr result (WroteFront (W.contents out.old) (W.contents out.new) (find_command form (S.state source).file (map word_of words.now))) }
+    ensures front { IsKnown (S.state source) → OnErr result (WroteFront (W.contents out.old) (W.contents out.new) (find_command form (S.state source).file (map word_of words.now))) }
 {
     let mut pdb = opened(alloc, source)?;
     let ids = ids_stream(&mut pdb)?;
@@ -273,12 +274,12 @@ pub fn write_where<'w, 's, S: Source<'s>, W: CountedWrite>(
     asked: &'w [SourceAsked<'w>],
     out: &mut W,
 ) -> Result<(), Stop>
-    ensures opened { OnOk result (opens (S.state source).file ≡ Ok tt) }
-    ensures ok { OnOk result (Appends (W.contents out.old) (W.contents out.new) (where_command form (S.state source).file (map source_view asked.now))) }
-    ensures refused { (S.state source).steady ≡ true → (e : Error) → IsErrOf result (Stop.Open e) → opens (S.state source).file ≡ Err e }
+    ensures opened { IsKnown (S.state source) → OnOk result (opens (S.state source).file ≡ Ok tt) }
+    ensures ok { IsKnown (S.state source) → OnOk result (Appends (W.contents out.old) (W.contents out.new) (where_command form (S.state source).file (map source_view asked.now))) }
+    ensures refused { IsKnown (S.state source) → (e : Error) → IsErrOf result (Stop.Open e) → opens (S.state source).file ≡ Err e }
     ensures stops { IfErr result (StopsCommand ((S.state source).steady ≡ false)) }
     ensures failures { W.failures out.new ≡ failures_after (W.failures out.old) result }
-    ensures front { OnErr result (WroteFront (W.contents out.old) (W.contents out.new) (where_command form (S.state source).file (map source_view asked.now))) }
+    ensures front { IsKnown (S.state source) → OnErr result (WroteFront (W.contents out.old) (W.contents out.new) (where_command form (S.state source).file (map source_view asked.now))) }
 {
     let mut pdb = opened(alloc, source)?;
     let strings = strings_of(&mut pdb)?;

@@ -29,9 +29,9 @@ mod flags;
 mod found_laws;
 mod found_objects;
 mod frame_objects;
+mod from_reader;
 mod help;
 mod host;
-mod in_parts;
 mod json_laws;
 mod kept_ends;
 mod key;
@@ -87,7 +87,6 @@ mod stream_roles;
 mod stream_texts;
 mod subject;
 mod symbol_texts;
-mod text_asked;
 mod type_kinds;
 mod type_lines;
 mod type_names;
@@ -103,12 +102,12 @@ mod words;
 mod work;
 
 use arguments::arguments_of;
-use checks::check_of;
+use checks::{check_from, check_of};
 use each_file::{EachFile, Printed as PrintedFile, write_each_file};
 use file_texts::FileText;
 use help::{VERSION, help_of};
-use host::{Host, image_wants, size_in_parts};
-use key_line::{key_line, line_in_parts};
+use host::{Host, image_wants};
+use key_line::{key_line, line_from};
 use list_help::LIST;
 use notes::{Noted, NotesDamage};
 use operands::{Operand, all_questions};
@@ -119,12 +118,12 @@ use pdb_text::{CountedWrite, CountedWriter, WordsError, write_out};
 use report::{Fault, report, status_of, word_at, write_damage, write_notice, write_other_key};
 use std::alloc::Global;
 use std::fs::File;
-use std::io::{self, Input, IsTerminal, Write};
+use std::io::{self, BufRead, Input, IsTerminal, Write};
 use std::os::fd::AsRawFd;
 use std::process::ExitCode;
 use std::rt::Files;
 use stop::Stop;
-use wanted::{answer_wanted, key_in_word, write_wanted, write_wanted_in_parts};
+use wanted::{answer_wanted, answer_wanted_from, key_in_word, write_wanted, write_wanted_from};
 use work::{Work, work_in};
 
 /// Whether all was printed and nothing was wrong: else a file among several couldn't be read, or is damaged, and that
@@ -157,8 +156,8 @@ fn write_text_of<W: NotesDamage>(
     out: &mut W,
 ) -> Result<Option<Vec<u8>>, Stop> {
     let mut file = file;
-    if let Some(size) = size_in_parts(&file, text) {
-        return write_wanted_in_parts(alloc, &file, size, wanted, text, out);
+    if let Some(size) = size_of(&file) {
+        return write_wanted_from(alloc, &file, size, wanted, text, out);
     }
     let bytes = read_all(alloc, &mut file)?;
     write_wanted(alloc, &bytes, wanted, text, out)
@@ -198,8 +197,26 @@ fn printed_or_other<E: Write>(
     }
 }
 
-/// Prints the code at the addresses that the lines of standard input are. The file is read whole: which of its modules
-/// the lines will ask for isn't known. Where standard input is closed, the file has its descriptor.
+/// Writes the code at the addresses that the lines of a reader are, over an open file, where it is the wanted one; else
+/// returns its key.
+fn write_lines_read<I: BufRead, W: NotesDamage>(
+    alloc: Global,
+    file: File,
+    wanted: Option<&[u8]>,
+    options: Options,
+    input: &mut I,
+    out: &mut W,
+) -> Result<Option<Vec<u8>>, Stop> {
+    let mut file = file;
+    if let Some(size) = size_of(&file) {
+        return answer_wanted_from(alloc, &file, size, wanted, options, input, out);
+    }
+    let bytes = read_all(alloc, &mut file)?;
+    answer_wanted(alloc, &bytes, wanted, options, input, out)
+}
+
+/// Prints the code at the addresses that the lines of standard input are. Where standard input is closed, the file has
+/// its descriptor.
 fn print_lines_read<R: Files<File = File> + Input + AllocGlobal, W: CountedWrite, E: Write>(
     host: &Host<'_, R>,
     options: Options,
@@ -208,20 +225,16 @@ fn print_lines_read<R: Files<File = File> + Input + AllocGlobal, W: CountedWrite
     streams: &mut Streams<'_, W, E>,
 ) -> Printed {
     let alloc = host.alloc();
-    let mut file = host.open(name)?;
+    let file = host.open(name)?;
     if file.as_raw_fd() == 0 {
         return Err(Fault::NoInput);
     }
-    let bytes = read_all(alloc, &mut file).map_err(|e| Fault::Stopped(
-        Stop::from(e),
-        name.argument,
-    ))?;
     if streams.is_asked_by_hand {
         let _ = write_notice(streams.err);
     }
     let input = &mut host.rt().reader();
     let mut out = Noted::new(streams.out);
-    let written = answer_wanted(alloc, &bytes, wanted, options, input, &mut out);
+    let written = write_lines_read(alloc, file, wanted, options, input, &mut out);
     if out.has_damage() {
         let _ = write_damage(name.word, streams.err);
     }
@@ -302,7 +315,7 @@ fn key_line_of<R: Files<File = File> + AllocGlobal>(
 ) -> Result<Vec<u8>, Stop> {
     let mut file = host.opened(name)?;
     if let Some(size) = size_of(&file) {
-        if let Some(line) = line_in_parts(host.alloc(), form, &file, size, name.word.as_bytes())? {
+        if let Some(line) = line_from(host.alloc(), form, &file, size, name.word.as_bytes())? {
             return Ok(line);
         }
     }
@@ -355,8 +368,12 @@ impl<'h, 'a, R: Files<File = File> + AllocGlobal> EachFile for CheckedFiles<'h, 
 
     fn text_of(&self, name: Operand<'_>) -> Result<PrintedFile, Stop> {
         let mut file = self.host.opened(name)?;
-        let bytes = read_all(self.host.alloc(), &mut file)?;
-        check_of(self.host.alloc(), &bytes, self.form, name.word.as_bytes())
+        let alloc = self.host.alloc();
+        if let Some(size) = size_of(&file) {
+            return check_from(alloc, &file, size, self.form, name.word.as_bytes());
+        }
+        let bytes = read_all(alloc, &mut file)?;
+        check_of(alloc, &bytes, self.form, name.word.as_bytes())
     }
 
     fn pass_over<E: Write>(&self, stop: Stop, name: Operand<'_>, err: &mut E) {

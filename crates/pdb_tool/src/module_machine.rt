@@ -1,6 +1,6 @@
 //! Which machine the code of a module is for.
 
-ghost use Rattle.std.specs.Prelude.{◌≡◌, ◌≢◌, None, Ok, IfOk, IfErr, slice_index};
+ghost use Rattle.std.specs.Prelude.{◌≡◌, ◌≢◌, None, Ok, IfOk, IfErr, slice_index, true};
 ghost use Rattle.pdb.specs.Data.{shown};
 ghost use Rattle.pdb.specs.Error.{Error};
 ghost use Rattle.pdb.specs.Fields.{number};
@@ -94,7 +94,7 @@ pub fn machine_of_module(
 /// The machine that the header of a file's DBI stream names. None where there is no header.
 pub fn machine_of_file<'s, S: Source<'s>>(pdb: &mut PDB<'s, S>) -> Result<Option<Machine>, Stop>
     ensures continues { Continues pdb.old pdb.new }
-    ensures is { IfOk result (λ m. m ≡ file_machine pdb.old.file) }
+    ensures is { pdb.new.told ≡ true → IfOk result (λ m. m ≡ file_machine pdb.old.file) }
     ensures unwritten { IfErr result (StopsComposing (MayFail pdb.old pdb.new)) }
 {
     match pdb.debug_information() {

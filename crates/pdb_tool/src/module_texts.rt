@@ -1,6 +1,6 @@
 //! Texts of the modules of a file, one after another.
 
-ghost use Rattle.std.specs.Prelude.{◌≡◌, ◌≢◌, ◌++◌, ◌⊎◌, Some, [], ℕ, List, codes, count_by, flat_map, IfOk, IfErr, OnOk, OnErr, IsErrOf, IsErrAnd};
+ghost use Rattle.std.specs.Prelude.{◌≡◌, ◌≢◌, ◌++◌, ◌⊎◌, Some, [], ℕ, List, codes, count_by, flat_map, IfOk, IfErr, OnOk, OnErr, IsErrOf, IsErrAnd, true};
 ghost use Rattle.std.specs.Io.KnownBytes.{Appends};
 ghost use Rattle.pdb.specs.Error.{Error};
 ghost use Rattle.pdb.specs.Error.TheVariants.{OutOfMemory, IoError};
@@ -92,7 +92,7 @@ fn ids_for<'a, 's, S: Source<'s>, T: ModuleText>(
     info: &'a ModuleInfo<'_>,
 ) -> Result<GlobalIds<'a>, Stop>
     ensures continues { Continues pdb.old pdb.new }
-    ensures ids { IfOk result (λ g. T.text texts.now (ids_by g) k info.entry.now ≡ in_file (T.text texts.now) pdb.old.file k info.entry.now) }
+    ensures ids { pdb.new.told ≡ true → IfOk result (λ g. T.text texts.now (ids_by g) k info.entry.now ≡ in_file (T.text texts.now) pdb.old.file k info.entry.now) }
     ensures unwritten { IfErr result (StopsComposing (MayFail pdb.old pdb.new)) }
 {
     if !texts.names_calls() {
@@ -114,7 +114,7 @@ fn put_info<'s, S: Source<'s>, T: ModuleText>(
     info: &ModuleInfo<'_>,
 ) -> Result<(), Stop>
     ensures continues { Continues pdb.old pdb.new }
-    ensures text { OnOk result (out.new.items ≡ out.old.items ++ in_file (T.text texts.now) pdb.old.file k info.now) }
+    ensures text { pdb.new.told ≡ true → OnOk result (out.new.items ≡ out.old.items ++ in_file (T.text texts.now) pdb.old.file k info.now) }
     ensures unwritten { IfErr result (StopsComposing (MayFail pdb.old pdb.new)) }
 {
     let global = ids_for(alloc, pdb, texts, k, info)?;
@@ -132,7 +132,7 @@ fn put_found<'s, S: Source<'s>, T: ModuleText>(
     found: pdb::Result<Option<ModuleInfo<'_>>>,
 ) -> Result<(), Stop>
     ensures continues { Continues pdb.old pdb.new }
-    ensures found { IfOk found.entry (λ m. OnOk result (out.new.items ≡ out.old.items ++ there_text (in_file (T.text texts.now) pdb.old.file k) (none_of form k) m)) }
+    ensures found { pdb.new.told ≡ true → IfOk found.entry (λ m. OnOk result (out.new.items ≡ out.old.items ++ there_text (in_file (T.text texts.now) pdb.old.file k) (none_of form k) m)) }
     ensures refused { IfErr found.entry (λ e. OnOk result ((e ≢ Error.OutOfMemory) × (e ≢ Error.IoError) × (out.new.items ≡ out.old.items ++ error_of form k e))) }
     ensures unwritten { IfErr result (StopsComposing (IsErrOf found.entry Error.IoError ⊎ MayFail pdb.old pdb.new)) }
 {
@@ -155,7 +155,7 @@ fn put_entry<'s, S: Source<'s>, T: ModuleText>(
     out: &mut Vec<u8>,
 ) -> Result<(), Stop>
     ensures continues { Continues pdb.old pdb.new }
-    ensures text { OnOk result (out.new.items ≡ out.old.items ++ entry_text form several (in_file (T.text texts.now) pdb.old.file) pdb.old.file k (Some «module».now)) }
+    ensures text { pdb.new.told ≡ true → OnOk result (out.new.items ≡ out.old.items ++ entry_text form several (in_file (T.text texts.now) pdb.old.file) pdb.old.file k (Some «module».now)) }
     ensures unwritten { IfErr result (StopsComposing (MayFail pdb.old pdb.new)) }
 {
     put_line_if(out, form, several, u64::from(k), module)?;
@@ -177,7 +177,7 @@ fn put_by_index<'s, S: Source<'s>, T: ModuleText>(
 ) -> Result<(), Stop>
     ensures continues { Continues pdb.old pdb.new }
     ensures kept { OnOk result (listed list.new ≡ listed list.old) }
-    ensures text { OnOk result (out.new.items ≡ out.old.items ++ module_in form several (in_file (T.text texts.now) pdb.old.file) pdb.old.file (listed list.old) k) }
+    ensures text { pdb.new.told ≡ true → OnOk result (out.new.items ≡ out.old.items ++ module_in form several (in_file (T.text texts.now) pdb.old.file) pdb.old.file (listed list.old) k) }
     ensures unwritten { IfErr result (StopsComposing (MayFail pdb.old pdb.new)) }
 {
     list.read_to(k)?;
@@ -202,7 +202,7 @@ fn put_listed<'s, S: Source<'s>, T: ModuleText>(
     out: &mut Vec<u8>,
 ) -> Result<(), Stop>
     ensures continues { Continues pdb.old pdb.new }
-    ensures text { OnOk result (out.new.items ≡ out.old.items ++ listed_text form several (in_file (T.text texts.now) pdb.old.file) pdb.old.file k «module».now) }
+    ensures text { pdb.new.told ≡ true → OnOk result (out.new.items ≡ out.old.items ++ listed_text form several (in_file (T.text texts.now) pdb.old.file) pdb.old.file k «module».now) }
     ensures unwritten { IfErr result (StopsComposing (MayFail pdb.old pdb.new)) }
 {
     match pdb.module_info(module) {
@@ -236,13 +236,14 @@ fn write_each<'s, S: Source<'s>, T: ModuleText, W: CountedWrite>(
     indices: &[u32],
     out: &mut W,
 ) -> Result<(), Stop>
+    ensures continues { Continues pdb.old pdb.new }
     ensures opened { (e : Error) → IsErrOf result (Stop.Open e) → ⊥ }
     ensures stops { IfErr result (StopsWriting (MayFail pdb.old pdb.new)) }
     ensures failures { W.failures out.new ≡ failures_after (W.failures out.old) result }
     // All texts were written.
-    ensures ok { OnOk result (Appends (W.contents out.old) (W.contents out.new) (flat_map (module_in form several (in_file (T.text texts.now) pdb.old.file) pdb.old.file (listed list.old)) indices.now)) }
+    ensures ok { pdb.new.told ≡ true → OnOk result (Appends (W.contents out.old) (W.contents out.new) (flat_map (module_in form several (in_file (T.text texts.now) pdb.old.file) pdb.old.file (listed list.old)) indices.now)) }
     // A beginning of the texts was written.
-    ensures front { OnErr result (WroteFront (W.contents out.old) (W.contents out.new) (flat_map (module_in form several (in_file (T.text texts.now) pdb.old.file) pdb.old.file (listed list.old)) indices.now)) }
+    ensures front { pdb.new.told ≡ true → OnErr result (WroteFront (W.contents out.old) (W.contents out.new) (flat_map (module_in form several (in_file (T.text texts.now) pdb.old.file) pdb.old.file (listed list.old)) indices.now)) }
 {
     let mut text = Vec::new(alloc);
     for k in indices {
@@ -299,13 +300,14 @@ pub fn write_indexed<'s, S: Source<'s>, T: ModuleText, W: CountedWrite>(
     indices: &[u32],
     out: &mut W,
 ) -> Result<(), Stop>
+    ensures continues { Continues pdb.old pdb.new }
     ensures opened { (e : Error) → IsErrOf result (Stop.Open e) → ⊥ }
     ensures stops { IfErr result (StopsWriting (MayFail pdb.old pdb.new)) }
     ensures failures { W.failures out.new ≡ failures_after (W.failures out.old) result }
     // All texts were written.
-    ensures ok { OnOk result (Appends (W.contents out.old) (W.contents out.new) (indexed_text form (in_file (T.text texts.now) pdb.old.file) pdb.old.file indices.now)) }
+    ensures ok { pdb.new.told ≡ true → OnOk result (Appends (W.contents out.old) (W.contents out.new) (indexed_text form (in_file (T.text texts.now) pdb.old.file) pdb.old.file indices.now)) }
     // A beginning of the texts was written.
-    ensures front { OnErr result (WroteFront (W.contents out.old) (W.contents out.new) (indexed_text form (in_file (T.text texts.now) pdb.old.file) pdb.old.file indices.now)) }
+    ensures front { pdb.new.told ≡ true → OnErr result (WroteFront (W.contents out.old) (W.contents out.new) (indexed_text form (in_file (T.text texts.now) pdb.old.file) pdb.old.file indices.now)) }
 {
     let information = match pdb.debug_information() {
         Ok(information) => information,
@@ -372,11 +374,12 @@ fn write_left<'s, S: Source<'s>, T: ModuleText, W: CountedWrite>(
     out: &mut W,
 ) -> Result<(), Stop>
     requires { modules_steps modules ≡ 0 }
+    ensures continues { Continues pdb.old pdb.new }
     ensures opened { (e : Error) → IsErrOf result (Stop.Open e) → ⊥ }
     ensures stops { IfErr result (StopsWriting (MayFail pdb.old pdb.new)) }
     ensures failures { W.failures out.new ≡ failures_after (W.failures out.old) result }
-    ensures ok { OnOk result (Appends (W.contents out.old) (W.contents out.new) (list_text form several (in_file (T.text texts.now) pdb.old.file) pdb.old.file 0 (modules_left modules.entry))) }
-    ensures front { OnErr result (WroteFront (W.contents out.old) (W.contents out.new) (list_text form several (in_file (T.text texts.now) pdb.old.file) pdb.old.file 0 (modules_left modules.entry))) }
+    ensures ok { pdb.new.told ≡ true → OnOk result (Appends (W.contents out.old) (W.contents out.new) (list_text form several (in_file (T.text texts.now) pdb.old.file) pdb.old.file 0 (modules_left modules.entry))) }
+    ensures front { pdb.new.told ≡ true → OnErr result (WroteFront (W.contents out.old) (W.contents out.new) (list_text form several (in_file (T.text texts.now) pdb.old.file) pdb.old.file 0 (modules_left modules.entry))) }
 {
     let mut text = Vec::new(alloc);
     let mut k = 0;
@@ -439,11 +442,12 @@ pub fn write_all<'s, S: Source<'s>, T: ModuleText, W: CountedWrite>(
     texts: &T,
     out: &mut W,
 ) -> Result<(), Stop>
+    ensures continues { Continues pdb.old pdb.new }
     ensures opened { (e : Error) → IsErrOf result (Stop.Open e) → ⊥ }
     ensures stops { IfErr result (StopsWriting (MayFail pdb.old pdb.new)) }
     ensures failures { W.failures out.new ≡ failures_after (W.failures out.old) result }
-    ensures ok { OnOk result (Appends (W.contents out.old) (W.contents out.new) (all_text form (in_file (T.text texts.now) pdb.old.file) pdb.old.file)) }
-    ensures front { OnErr result (WroteFront (W.contents out.old) (W.contents out.new) (all_text form (in_file (T.text texts.now) pdb.old.file) pdb.old.file)) }
+    ensures ok { pdb.new.told ≡ true → OnOk result (Appends (W.contents out.old) (W.contents out.new) (all_text form (in_file (T.text texts.now) pdb.old.file) pdb.old.file)) }
+    ensures front { pdb.new.told ≡ true → OnErr result (WroteFront (W.contents out.old) (W.contents out.new) (all_text form (in_file (T.text texts.now) pdb.old.file) pdb.old.file)) }
 {
     let information = match pdb.debug_information() {
         Ok(information) => information,
@@ -465,11 +469,12 @@ pub fn write_plain<'s, S: Source<'s>, T: ModuleText, W: CountedWrite>(
     texts: &T,
     out: &mut W,
 ) -> Result<(), Stop>
+    ensures continues { Continues pdb.old pdb.new }
     ensures opened { (e : Error) → IsErrOf result (Stop.Open e) → ⊥ }
     ensures stops { IfErr result (StopsWriting (MayFail pdb.old pdb.new)) }
     ensures failures { W.failures out.new ≡ failures_after (W.failures out.old) result }
-    ensures ok { OnOk result (Appends (W.contents out.old) (W.contents out.new) (plain_text form (in_file (T.text texts.now) pdb.old.file) pdb.old.file)) }
-    ensures front { OnErr result (WroteFront (W.contents out.old) (W.contents out.new) (plain_text form (in_file (T.text texts.now) pdb.old.file) pdb.old.file)) }
+    ensures ok { pdb.new.told ≡ true → OnOk result (Appends (W.contents out.old) (W.contents out.new) (plain_text form (in_file (T.text texts.now) pdb.old.file) pdb.old.file)) }
+    ensures front { pdb.new.told ≡ true → OnErr result (WroteFront (W.contents out.old) (W.contents out.new) (plain_text form (in_file (T.text texts.now) pdb.old.file) pdb.old.file)) }
 {
     let information = match pdb.debug_information() {
         Ok(information) => information,

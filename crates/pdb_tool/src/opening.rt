@@ -1,9 +1,9 @@
 //! A source's file, opened.
 
-ghost use Rattle.std.specs.Prelude.{◌≡◌, true, Ok, Err, IfOk, IfErr, IsErrOf, OnOk};
+ghost use Rattle.std.specs.Prelude.{◌≡◌, true, false, Ok, Err, IfOk, IfErr, IsErrOf, OnOk};
 ghost use Rattle.pdb.specs.Container.{opens};
 ghost use Rattle.pdb.specs.Error.{Error};
-ghost use Rattle.pdb.specs.Source.{Continues};
+ghost use Rattle.pdb.specs.Source.{Continues, IsKnown};
 ghost use Rattle.pdb_tool.specs.Stops.{StopsOpening};
 ghost use Rattle.pdb_tool.specs.declared.stop.Stop.{Stop};
 
@@ -15,9 +15,9 @@ use std::alloc::Global;
 pub fn opened<'s, S: Source<'s>>(alloc: Global, source: S) -> Result<PDB<'s, S>, Stop>
     ensures file { IfOk result (λ p. p.file ≡ (S.state source).file) }
     ensures continues { IfOk result (λ p. Continues (S.state source) p) }
-    ensures opened { OnOk result (opens (S.state source).file ≡ Ok tt) }
-    ensures refused { (S.state source).steady ≡ true → (e : Error) → IsErrOf result (Stop.Open e) → opens (S.state source).file ≡ Err e }
-    ensures unwritten { IfErr result (StopsOpening ⊥) }
+    ensures opened { IfOk result (λ p. p.told ≡ true → opens (S.state source).file ≡ Ok tt) }
+    ensures refused { IsKnown (S.state source) → (e : Error) → IsErrOf result (Stop.Open e) → opens (S.state source).file ≡ Err e }
+    ensures unwritten { IfErr result (StopsOpening ((S.state source).steady ≡ false)) }
 {
     PDB::open(alloc, source).map_err(stop_of_opening)
 }

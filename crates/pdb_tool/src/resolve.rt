@@ -5,7 +5,7 @@ ghost use Rattle.std.specs.Io.KnownBytes.{Appends, IsAtEnd};
 ghost use Rattle.std.specs.Io.BufRead.{drop_through, strip_last, take_through};
 ghost use Rattle.pdb.specs.Container.{opens};
 ghost use Rattle.pdb.specs.Error.{Error};
-ghost use Rattle.pdb.specs.Source.{Continues, MayFail};
+ghost use Rattle.pdb.specs.Source.{Continues, MayFail, IsKnown};
 ghost use Rattle.pdb_text.specs.Written.{WroteFirst, WroteFront};
 ghost use Rattle.pdb_tool.specs.Questions.{asked_line, asks_text, line_text, question_text, question_view, unasked_text};
 ghost use Rattle.pdb_tool.specs.Asked.{AnsweredUpTo, asked_place, asked_text, is_whole_asked, lines_of, of_first_line, without_blanks};
@@ -32,7 +32,7 @@ fn place_of<'s, S: Source<'s>>(
     resolver: &Resolver<'_, 's, S>,
     asked: Asked,
 ) -> Option<PdbInternalSectionOffset>
-    ensures { result ≡ asked_place resolver.now.file asked }
+    ensures { resolver.now.told ≡ true → result ≡ asked_place resolver.now.file asked }
 {
     match asked {
         Asked::Address(address) => resolver.place(address),
@@ -51,7 +51,7 @@ pub fn put_asked<'s, S: Source<'s>>(
     asked: Asked,
 ) -> Result<(), Stop>
     ensures continues { Continues resolver.old resolver.new }
-    ensures text { OnOk result (out.new.items ≡ out.old.items ++ asked_text resolver.old.file detail asked) }
+    ensures text { resolver.new.told ≡ true → OnOk result (out.new.items ≡ out.old.items ++ asked_text resolver.old.file detail asked) }
     ensures unwritten { IfErr result (StopsComposing (MayFail resolver.old resolver.new)) }
 {
     let place = place_of(resolver, asked);
@@ -72,7 +72,7 @@ fn put_headed<'s, S: Source<'s>>(
     asked: Asked,
 ) -> Result<(), Stop>
     ensures continues { Continues resolver.old resolver.new }
-    ensures text { OnOk result (out.new.items ≡ out.old.items ++ (word.now ++ codes "\n" ++ asked_text resolver.old.file detail asked)) }
+    ensures text { resolver.new.told ≡ true → OnOk result (out.new.items ≡ out.old.items ++ (word.now ++ codes "\n" ++ asked_text resolver.old.file detail asked)) }
     ensures unwritten { IfErr result (StopsComposing (MayFail resolver.old resolver.new)) }
 {
     out.extend_from_slice(word)?;
@@ -89,7 +89,7 @@ fn put_object<'s, S: Source<'s>>(
     asked: Asked,
 ) -> Result<(), Stop>
     ensures continues { Continues resolver.old resolver.new }
-    ensures text { OnOk result (out.new.items ≡ out.old.items ++ asked_line resolver.old.file word.now asked) }
+    ensures text { resolver.new.told ≡ true → OnOk result (out.new.items ≡ out.old.items ++ asked_line resolver.old.file word.now asked) }
     ensures unwritten { IfErr result (StopsComposing (MayFail resolver.old resolver.new)) }
 {
     let place = place_of(resolver, asked);
@@ -106,7 +106,7 @@ fn put_question_text<'s, S: Source<'s>>(
     question: &Question<'_>,
 ) -> Result<(), Stop>
     ensures continues { Continues resolver.old resolver.new }
-    ensures text { OnOk result (out.new.items ≡ out.old.items ++ asks_text resolver.old.file question.now) }
+    ensures text { resolver.new.told ≡ true → OnOk result (out.new.items ≡ out.old.items ++ asks_text resolver.old.file question.now) }
     ensures unwritten { IfErr result (StopsComposing (MayFail resolver.old resolver.new)) }
 {
     match question.answer {
@@ -122,7 +122,7 @@ fn is_whole_asked<'s, S: Source<'s>>(
     asked: Asked,
 ) -> Result<bool, Stop>
     ensures continues { Continues resolver.old resolver.new }
-    ensures whole { IfOk result (λ b. b ≡ is_whole_asked resolver.old.file asked) }
+    ensures whole { resolver.new.told ≡ true → IfOk result (λ b. b ≡ is_whole_asked resolver.old.file asked) }
     ensures unwritten { IfErr result (StopsComposing (MayFail resolver.old resolver.new)) }
 {
     match place_of(resolver, asked) {
@@ -138,8 +138,8 @@ pub fn put_question<'s, S: Source<'s>>(
     question: &Question<'_>,
 ) -> Result<bool, Stop>
     ensures continues { Continues resolver.old resolver.new }
-    ensures text { OnOk result (out.new.items ≡ out.old.items ++ asks_text resolver.old.file question.now) }
-    ensures whole { IfOk result (λ b. b ≡ is_whole_asked resolver.old.file question.now.asked) }
+    ensures text { resolver.new.told ≡ true → OnOk result (out.new.items ≡ out.old.items ++ asks_text resolver.old.file question.now) }
+    ensures whole { resolver.new.told ≡ true → IfOk result (λ b. b ≡ is_whole_asked resolver.old.file question.now.asked) }
     ensures unwritten { IfErr result (StopsComposing (MayFail resolver.old resolver.new)) }
 {
     put_question_text(resolver, out, question)?;
@@ -159,11 +159,11 @@ pub fn write_asked<'s, S: Source<'s>, W: NotesDamage>(
     ensures stops { IfErr result (StopsWriting (MayFail resolver.old resolver.new)) }
     ensures failures { W.failures out.new ≡ failures_after (W.failures out.old) result }
     // All texts were written.
-    ensures ok { OnOk result (Appends (W.contents out.old) (W.contents out.new) (flat_map (asks_text resolver.old.file) questions.now)) }
+    ensures ok { resolver.new.told ≡ true → OnOk result (Appends (W.contents out.old) (W.contents out.new) (flat_map (asks_text resolver.old.file) questions.now)) }
     // The texts of some first words were written, whole.
-    ensures stopped { IsErrAnd result (λ e. e ≢ Stop.Write) → WroteFirst (asks_text resolver.old.file) (W.contents out.old) (W.contents out.new) questions.now }
+    ensures stopped { resolver.new.told ≡ true → IsErrAnd result (λ e. e ≢ Stop.Write) → WroteFirst (asks_text resolver.old.file) (W.contents out.old) (W.contents out.new) questions.now }
     // A beginning of the texts was written.
-    ensures write { IsErrOf result Stop.Write → WroteFront (W.contents out.old) (W.contents out.new) (flat_map (asks_text resolver.old.file) questions.now) }
+    ensures write { resolver.new.told ≡ true → IsErrOf result Stop.Write → WroteFront (W.contents out.old) (W.contents out.new) (flat_map (asks_text resolver.old.file) questions.now) }
 {
     let mut text = Vec::new(alloc);
     for question in questions {
@@ -201,7 +201,7 @@ fn put_answer<'s, S: Source<'s>>(
     out: &mut Vec<u8>,
 ) -> Result<bool, Stop>
     ensures continues { Continues resolver.old resolver.new }
-    ensures text { OnOk result (out.new.items ≡ out.old.items ++ line_text resolver.old.file options line.now) }
+    ensures text { resolver.new.told ≡ true → OnOk result (out.new.items ≡ out.old.items ++ line_text resolver.old.file options line.now) }
     ensures unwritten { IfErr result (StopsComposing (MayFail resolver.old resolver.new)) }
 {
     match question_of(options, trimmed(line)) {
@@ -282,14 +282,14 @@ pub fn answer_line<'s, S: Source<'s>, R: BufRead, W: NotesDamage>(
     ensures failures { W.failures out.new ≡ failures_after (W.failures out.old) result }
     // The first line that was left, and no more, was read, and its text was written.
     ensures read { IfSome (R.remaining input.old) (λ xs. OnOk result (R.remaining input.new ≡ Some (drop_through 10 xs))) }
-    ensures answered { IfSome (R.remaining input.old) (λ xs. OnOk result (Appends (W.contents out.old) (W.contents out.new) (of_first_line (line_text resolver.old.file options) xs))) }
+    ensures answered { resolver.new.told ≡ true → IfSome (R.remaining input.old) (λ xs. OnOk result (Appends (W.contents out.old) (W.contents out.new) (of_first_line (line_text resolver.old.file options) xs))) }
     // There was a line exactly where bytes were left.
     ensures end { IfOk result (λ more. more ≡ false → IsAtEnd (R.remaining input.old)) }
     ensures more { IfOk result (λ more. more ≡ true → IfSome (R.remaining input.old) (λ xs. 0 < length xs)) }
     // Where its text can't be written, that line and no more was read.
     ensures write { IsErrOf result Stop.Write → IfSome (R.remaining input.old) (λ xs. (0 < length xs) × (R.remaining input.new ≡ Some (drop_through 10 xs))) }
     // A beginning of that text was written.
-    ensures refused { IfSome (R.remaining input.old) (λ xs. OnErr result (WroteFront (W.contents out.old) (W.contents out.new) (of_first_line (line_text resolver.old.file options) xs))) }
+    ensures refused { resolver.new.told ≡ true → IfSome (R.remaining input.old) (λ xs. OnErr result (WroteFront (W.contents out.old) (W.contents out.new) (of_first_line (line_text resolver.old.file options) xs))) }
 {
     if read_line(input, &mut rooms.line)? == 0 {
         return Ok(false);
@@ -315,11 +315,11 @@ pub fn answer_lines<'s, S: Source<'s>, R: BufRead, W: NotesDamage>(
     ensures stops { IfErr result (StopsWriting ⊤) }
     ensures failures { W.failures out.new ≡ failures_after (W.failures out.old) result }
     // All lines were read, and their texts written.
-    ensures ok { IfSome (R.remaining input.old) (λ xs. OnOk result (Appends (W.contents out.old) (W.contents out.new) (flat_map (line_text resolver.old.file options) (lines_of xs)))) }
+    ensures ok { resolver.new.told ≡ true → IfSome (R.remaining input.old) (λ xs. OnOk result (Appends (W.contents out.old) (W.contents out.new) (flat_map (line_text resolver.old.file options) (lines_of xs)))) }
     // A beginning of the texts was written.
-    ensures refused { IfSome (R.remaining input.old) (λ xs. OnErr result (WroteFront (W.contents out.old) (W.contents out.new) (flat_map (line_text resolver.old.file options) (lines_of xs)))) }
+    ensures refused { resolver.new.told ≡ true → IfSome (R.remaining input.old) (λ xs. OnErr result (WroteFront (W.contents out.old) (W.contents out.new) (flat_map (line_text resolver.old.file options) (lines_of xs)))) }
     // No line is read before the texts of those before it stand there.
-    ensures order { IsErrOf result Stop.Write → IfSome (R.remaining input.old) (λ xs. IfSome (R.remaining input.new) (λ rest. AnsweredUpTo (line_text resolver.old.file options) xs rest (W.contents out.old) (W.contents out.new))) }
+    ensures order { resolver.new.told ≡ true → IsErrOf result Stop.Write → IfSome (R.remaining input.old) (λ xs. IfSome (R.remaining input.new) (λ rest. AnsweredUpTo (line_text resolver.old.file options) xs rest (W.contents out.old) (W.contents out.new))) }
 {
     for _ in 0..u64::MAX {
         if !answer_line(resolver, options, rooms, input, out)? {
@@ -338,8 +338,8 @@ pub fn resolver_over<'a, 's, S: Source<'s>>(
 ) -> Result<Resolver<'a, 's, S>, Stop>
     ensures file { IfOk result (λ r. r.file ≡ (S.state source).file) }
     ensures continues { IfOk result (λ r. Continues (S.state source) r) }
-    ensures opened { OnOk result (opens (S.state source).file ≡ Ok tt) }
-    ensures refused { (S.state source).steady ≡ true → (e : Error) → IsErrOf result (Stop.Open e) → opens (S.state source).file ≡ Err e }
+    ensures opened { IfOk result (λ r. r.told ≡ true → opens (S.state source).file ≡ Ok tt) }
+    ensures refused { IsKnown (S.state source) → (e : Error) → IsErrOf result (Stop.Open e) → opens (S.state source).file ≡ Err e }
     ensures unwritten { IfErr result (StopsOpening ((S.state source).steady ≡ false)) }
 {
     let pdb = opened(alloc, source)?;
@@ -355,15 +355,15 @@ pub fn resolve_words<'s, S: Source<'s>, W: NotesDamage>(
     questions: &[Question<'_>],
     out: &mut W,
 ) -> Result<(), Stop>
-    ensures opened { OnOk result (opens (S.state source).file ≡ Ok tt) }
-    ensures ok { OnOk result (Appends (W.contents out.old) (W.contents out.new) (flat_map (asks_text (S.state source).file) questions.now)) }
-    ensures refused { (S.state source).steady ≡ true → (e : Error) → IsErrOf result (Stop.Open e) → opens (S.state source).file ≡ Err e }
+    ensures opened { IsKnown (S.state source) → OnOk result (opens (S.state source).file ≡ Ok tt) }
+    ensures ok { IsKnown (S.state source) → OnOk result (Appends (W.contents out.old) (W.contents out.new) (flat_map (asks_text (S.state source).file) questions.now)) }
+    ensures refused { IsKnown (S.state source) → (e : Error) → IsErrOf result (Stop.Open e) → opens (S.state source).file ≡ Err e }
     ensures stops { IfErr result (StopsCommand ((S.state source).steady ≡ false)) }
     ensures failures { W.failures out.new ≡ failures_after (W.failures out.old) result }
     // The texts of some first words were written, whole.
-    ensures stopped { IsErrAnd result (λ e. e ≢ Stop.Write) → WroteFirst (asks_text (S.state source).file) (W.contents out.old) (W.contents out.new) questions.now }
+    ensures stopped { IsKnown (S.state source) → IsErrAnd result (λ e. e ≢ Stop.Write) → WroteFirst (asks_text (S.state source).file) (W.contents out.old) (W.contents out.new) questions.now }
     // A beginning of the texts was written.
-    ensures write { IsErrOf result Stop.Write → WroteFront (W.contents out.old) (W.contents out.new) (flat_map (asks_text (S.state source).file) questions.now) }
+    ensures write { IsKnown (S.state source) → IsErrOf result Stop.Write → WroteFront (W.contents out.old) (W.contents out.new) (flat_map (asks_text (S.state source).file) questions.now) }
 {
     let mut streams = Streams::new(alloc);
     let mut resolver = resolver_over(alloc, source, &mut streams)?;
@@ -378,12 +378,12 @@ pub fn resolve_lines<'s, S: Source<'s>, R: BufRead, W: NotesDamage>(
     input: &mut R,
     out: &mut W,
 ) -> Result<(), Stop>
-    ensures opened { OnOk result (opens (S.state source).file ≡ Ok tt) }
-    ensures ok { IfSome (R.remaining input.old) (λ xs. OnOk result (Appends (W.contents out.old) (W.contents out.new) (flat_map (line_text (S.state source).file options) (lines_of xs)))) }
-    ensures refused { (S.state source).steady ≡ true → (e : Error) → IsErrOf result (Stop.Open e) → opens (S.state source).file ≡ Err e }
+    ensures opened { IsKnown (S.state source) → OnOk result (opens (S.state source).file ≡ Ok tt) }
+    ensures ok { IsKnown (S.state source) → IfSome (R.remaining input.old) (λ xs. OnOk result (Appends (W.contents out.old) (W.contents out.new) (flat_map (line_text (S.state source).file options) (lines_of xs)))) }
+    ensures refused { IsKnown (S.state source) → (e : Error) → IsErrOf result (Stop.Open e) → opens (S.state source).file ≡ Err e }
     ensures stops { IfErr result (StopsCommand ⊤) }
     ensures failures { W.failures out.new ≡ failures_after (W.failures out.old) result }
-    ensures front { IfSome (R.remaining input.old) (λ xs. OnErr result (WroteFront (W.contents out.old) (W.contents out.new) (flat_map (line_text (S.state source).file options) (lines_of xs)))) }
+    ensures front { IsKnown (S.state source) → IfSome (R.remaining input.old) (λ xs. OnErr result (WroteFront (W.contents out.old) (W.contents out.new) (flat_map (line_text (S.state source).file options) (lines_of xs)))) }
 {
     let mut streams = Streams::new(alloc);
     let mut resolver = resolver_over(alloc, source, &mut streams)?;

@@ -7,7 +7,7 @@ ghost use Rattle.json.specs.Token.{key};
 ghost use Rattle.json.specs.Tree.{json_tokens, members_tokens};
 ghost use Rattle.pdb.specs.Container.{opens};
 ghost use Rattle.pdb.specs.Error.{Error};
-ghost use Rattle.pdb.specs.Source.{Continues, MayFail};
+ghost use Rattle.pdb.specs.Source.{Continues, MayFail, IsKnown};
 ghost use Rattle.pdb_text.specs.Digits.{hex};
 ghost use Rattle.pdb_text.specs.Written.{WroteFront};
 ghost use Rattle.pdb_tool.specs.SectionTexts.{flags_members, placed_members, section_line, section_line_in, section_lines, section_value, sections_command, sized_members};
@@ -160,7 +160,7 @@ fn put_sections<'s, S: Source<'s>>(
     out: &mut Vec<u8>,
 ) -> Result<(), Stop>
     ensures continues { Continues pdb.old pdb.new }
-    ensures text { OnOk result (out.new.items ≡ out.old.items ++ sections_command form pdb.old.file) }
+    ensures text { pdb.new.told ≡ true → OnOk result (out.new.items ≡ out.old.items ++ sections_command form pdb.old.file) }
     ensures unwritten { IfErr result (StopsComposing (MayFail pdb.old pdb.new)) }
 {
     match pdb.sections() {
@@ -178,12 +178,12 @@ pub fn write_sections<'s, S: Source<'s>, W: CountedWrite>(
     form: Form,
     out: &mut W,
 ) -> Result<(), Stop>
-    ensures opened { OnOk result (opens (S.state source).file ≡ Ok tt) }
-    ensures ok { OnOk result (Appends (W.contents out.old) (W.contents out.new) (sections_command form (S.state source).file)) }
-    ensures refused { (S.state source).steady ≡ true → (e : Error) → IsErrOf result (Stop.Open e) → opens (S.state source).file ≡ Err e }
+    ensures opened { IsKnown (S.state source) → OnOk result (opens (S.state source).file ≡ Ok tt) }
+    ensures ok { IsKnown (S.state source) → OnOk result (Appends (W.contents out.old) (W.contents out.new) (sections_command form (S.state source).file)) }
+    ensures refused { IsKnown (S.state source) → (e : Error) → IsErrOf result (Stop.Open e) → opens (S.state source).file ≡ Err e }
     ensures stops { IfErr result (StopsCommand ((S.state source).steady ≡ false)) }
     ensures failures { W.failures out.new ≡ failures_after (W.failures out.old) result }
-    ensures front { OnErr result (WroteFront (W.contents out.old) (W.contents out.new) (sections_command form (S.state source).file)) }
+    ensures front { IsKnown (S.state source) → OnErr result (WroteFront (W.contents out.old) (W.contents out.new) (sections_command form (S.state source).file)) }
 {
     let mut pdb = opened(alloc, source)?;
     let mut text = Vec::new(alloc);

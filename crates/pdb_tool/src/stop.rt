@@ -88,14 +88,15 @@ pub fn stop_of(e: Error) -> Stop
     }
 }
 
-/// Why a file can't be opened: out of memory is reported as such.
+/// Why a file can't be opened: out of memory, and that it can't be read, are reported as such.
 pub fn stop_of_opening(e: Error) -> Stop
     ensures is { result ≡ stop_of_opening e }
-    ensures opened { (x : Error) → result ≡ Stop.Open x → (e ≡ x) × (e ≢ Error.OutOfMemory) }
-    ensures unread { StopsOpening ⊥ result }
+    ensures opened { (x : Error) → result ≡ Stop.Open x → (e ≡ x) × (e ≢ Error.OutOfMemory) × (e ≢ Error.IoError) }
+    ensures read { StopsOpening (e ≡ Error.IoError) result }
 {
     match e {
         Error::OutOfMemory => Stop::Memory,
+        Error::IoError => Stop::Read,
         e => Stop::Open(e),
     }
 }

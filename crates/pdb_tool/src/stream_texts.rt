@@ -10,7 +10,7 @@ ghost use Rattle.pdb.specs.DbiViews.{information as information_said};
 ghost use Rattle.pdb_resolve.specs.AsIfEmpty.{if_read};
 ghost use Rattle.pdb_tool.specs.Checks.{names_in};
 ghost use Rattle.pdb.specs.Error.{Error};
-ghost use Rattle.pdb.specs.Source.{Continues, MayFail};
+ghost use Rattle.pdb.specs.Source.{Continues, MayFail, IsKnown};
 ghost use Rattle.pdb_text.specs.Written.{WroteFront};
 ghost use Rattle.pdb_tool.specs.StreamOrder.{is_of, rises};
 ghost use Rattle.pdb_tool.specs.StreamRoles.{hash_roles, known_text, role_view, stream_number};
@@ -129,7 +129,7 @@ fn put_stream<'s, S: Source<'s>>(
     number: u32,
     roles: &[Role<'_>],
 ) -> Result<(), AllocError>
-    ensures { OnOk result (out.new.items ≡ out.old.items ++ line_in form number (if_read (stream_size pdb.now.file number)) (map role_view roles.now)) }
+    ensures { pdb.now.told ≡ true → OnOk result (out.new.items ≡ out.old.items ++ line_in form number (if_read (stream_size pdb.now.file number)) (map role_view roles.now)) }
 {
     match pdb.stream_size(number) {
         Ok(size) => put_line_in(out, form, room, number, Some(size), roles),
@@ -157,7 +157,7 @@ fn put_lines<'s, S: Source<'s>>(
     count: u32,
 ) -> Result<(), AllocError>
     requires { rises stream_number 0 roles.now ≡ true }
-    ensures { OnOk result (out.new.items ≡ out.old.items ++ flat_map (role_line form pdb.now.file roles.now) (range_with_len 0 count)) }
+    ensures { pdb.now.told ≡ true → OnOk result (out.new.items ≡ out.old.items ++ flat_map (role_line form pdb.now.file roles.now) (range_with_len 0 count)) }
 {
     let mut room = Vec::new(*out.allocator());
     let mut at = 0;
@@ -204,7 +204,7 @@ fn put_information(
 /// What streams are by the DBI stream of a file.
 fn put_debug<'s, S: Source<'s>>(pdb: &mut PDB<'s, S>, roles: &mut Vec<Role<'_>>) -> Result<(), Stop>
     ensures continues { Continues pdb.old pdb.new }
-    ensures roles { OnOk result (map role_view roles.new.items ≡ map role_view roles.old.items ++ debug_roles pdb.old.file) }
+    ensures roles { pdb.new.told ≡ true → OnOk result (map role_view roles.new.items ≡ map role_view roles.old.items ++ debug_roles pdb.old.file) }
     ensures unwritten { IfErr result (StopsComposing (MayFail pdb.old pdb.new)) }
 {
     match if_read(pdb.debug_information())? {
@@ -224,7 +224,7 @@ fn put_items<'s, S: Source<'s>>(
 ) -> Result<(), Stop>
     requires { number < 5 }
     ensures continues { Continues pdb.old pdb.new }
-    ensures roles { OnOk result (map role_view roles.new.items ≡ map role_view roles.old.items ++ read_or_none (stream_of pdb.old.file number None) (hash_roles (known_text hashes) (known_text further))) }
+    ensures roles { pdb.new.told ≡ true → OnOk result (map role_view roles.new.items ≡ map role_view roles.old.items ++ read_or_none (stream_of pdb.old.file number None) (hash_roles (known_text hashes) (known_text further))) }
     ensures unwritten { IfErr result (StopsComposing (MayFail pdb.old pdb.new)) }
 {
     match if_read(pdb.raw_stream(StreamIndex(number)))? {
@@ -241,7 +241,7 @@ fn put_all<'a, 's, S: Source<'s>>(
     roles: &mut Vec<Role<'a>>,
 ) -> Result<(), Stop>
     ensures continues { Continues pdb.old pdb.new }
-    ensures roles { OnOk result (map role_view roles.new.items ≡ map role_view roles.old.items ++ roles_by pdb.old.file (option_copied names.entry)) }
+    ensures roles { pdb.new.told ≡ true → OnOk result (map role_view roles.new.items ≡ map role_view roles.old.items ++ roles_by pdb.old.file (option_copied names.entry)) }
     ensures unwritten { IfErr result (StopsComposing (MayFail pdb.old pdb.new)) }
 {
     put_fixed(roles)?;
@@ -278,7 +278,8 @@ fn put_streams<'a, 's, S: Source<'s>>(
     form: Form,
     out: &mut Vec<u8>,
 ) -> Result<(), Stop>
-    ensures text { OnOk result (out.new.items ≡ out.old.items ++ flat_map (stream_line form pdb.old.file (roles_by pdb.old.file (option_copied names.entry))) (range_with_len 0 count)) }
+    ensures continues { Continues pdb.old pdb.new }
+    ensures text { pdb.new.told ≡ true → OnOk result (out.new.items ≡ out.old.items ++ flat_map (stream_line form pdb.old.file (roles_by pdb.old.file (option_copied names.entry))) (range_with_len 0 count)) }
     ensures unwritten { IfErr result (StopsComposing (MayFail pdb.old pdb.new)) }
 {
     let mut roles = Vec::new(alloc);
@@ -295,7 +296,8 @@ fn put_counted<'s, S: Source<'s>>(
     form: Form,
     out: &mut Vec<u8>,
 ) -> Result<(), Stop>
-    ensures text { OnOk result (out.new.items ≡ out.old.items ++ flat_map (stream_line form pdb.old.file (roles_of pdb.old.file)) (range_with_len 0 count)) }
+    ensures continues { Continues pdb.old pdb.new }
+    ensures text { pdb.new.told ≡ true → OnOk result (out.new.items ≡ out.old.items ++ flat_map (stream_line form pdb.old.file (roles_of pdb.old.file)) (range_with_len 0 count)) }
     ensures unwritten { IfErr result (StopsComposing (MayFail pdb.old pdb.new)) }
 {
     let information = if_read(pdb.pdb_information())?;
@@ -311,7 +313,8 @@ fn put_command<'s, S: Source<'s>>(
     form: Form,
     out: &mut Vec<u8>,
 ) -> Result<(), Stop>
-    ensures text { OnOk result (out.new.items ≡ out.old.items ++ streams_command form pdb.old.file) }
+    ensures continues { Continues pdb.old pdb.new }
+    ensures text { pdb.new.told ≡ true → OnOk result (out.new.items ≡ out.old.items ++ streams_command form pdb.old.file) }
     ensures unwritten { IfErr result (StopsComposing (MayFail pdb.old pdb.new)) }
 {
     match pdb.stream_count() {
@@ -328,12 +331,12 @@ pub fn write_streams<'s, S: Source<'s>, W: CountedWrite>(
     form: Form,
     out: &mut W,
 ) -> Result<(), Stop>
-    ensures opened { OnOk result (opens (S.state source).file ≡ Ok tt) }
-    ensures ok { OnOk result (Appends (W.contents out.old) (W.contents out.new) (streams_command form (S.state source).file)) }
-    ensures refused { (S.state source).steady ≡ true → (e : Error) → IsErrOf result (Stop.Open e) → opens (S.state source).file ≡ Err e }
+    ensures opened { IsKnown (S.state source) → OnOk result (opens (S.state source).file ≡ Ok tt) }
+    ensures ok { IsKnown (S.state source) → OnOk result (Appends (W.contents out.old) (W.contents out.new) (streams_command form (S.state source).file)) }
+    ensures refused { IsKnown (S.state source) → (e : Error) → IsErrOf result (Stop.Open e) → opens (S.state source).file ≡ Err e }
     ensures stops { IfErr result (StopsCommand ((S.state source).steady ≡ false)) }
     ensures failures { W.failures out.new ≡ failures_after (W.failures out.old) result }
-    ensures front { OnErr result (WroteFront (W.contents out.old) (W.contents out.new) (streams_command form (S.state source).file)) }
+    ensures front { IsKnown (S.state source) → OnErr result (WroteFront (W.contents out.old) (W.contents out.new) (streams_command form (S.state source).file)) }
 {
     let mut pdb = opened(alloc, source)?;
     let mut text = Vec::new(alloc);

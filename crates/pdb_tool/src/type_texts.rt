@@ -5,7 +5,7 @@ ghost use Rattle.std.specs.Io.KnownBytes.{Appends};
 ghost use Rattle.std.specs.Option.{option_map};
 ghost use Rattle.pdb.specs.Container.{opens};
 ghost use Rattle.pdb.specs.Error.{Error};
-ghost use Rattle.pdb.specs.Source.{MayFail};
+ghost use Rattle.pdb.specs.Source.{MayFail, IsKnown, Continues};
 ghost use Rattle.pdb_items.specs.ItemViews.{item_of, items_left};
 ghost use Rattle.pdb_text.specs.Written.{WroteFront};
 ghost use Rattle.pdb_resolve.specs.FileParts.{items_where};
@@ -150,11 +150,12 @@ fn write_asked<'s, S: Source<'s>, W: CountedWrite>(
     indices: &[u32],
     out: &mut W,
 ) -> Result<(), Stop>
+    ensures continues { Continues pdb.old pdb.new }
     ensures opened { (e : Error) → IsErrOf result (Stop.Open e) → ⊥ }
     ensures stops { IfErr result (StopsWriting (MayFail pdb.old pdb.new)) }
     ensures failures { W.failures out.new ≡ failures_after (W.failures out.old) result }
-    ensures ok { OnOk result (Appends (W.contents out.old) (W.contents out.new) (flat_map (index_lines (types_in pdb.old.file)) indices.now)) }
-    ensures front { OnErr result (WroteFront (W.contents out.old) (W.contents out.new) (flat_map (index_lines (types_in pdb.old.file)) indices.now)) }
+    ensures ok { pdb.new.told ≡ true → OnOk result (Appends (W.contents out.old) (W.contents out.new) (flat_map (index_lines (types_in pdb.old.file)) indices.now)) }
+    ensures front { pdb.new.told ≡ true → OnErr result (WroteFront (W.contents out.old) (W.contents out.new) (flat_map (index_lines (types_in pdb.old.file)) indices.now)) }
 {
     let information = types_stream(pdb)?;
     let tables = type_tables(alloc, information.as_ref())?;
@@ -195,11 +196,12 @@ fn write_all<'s, S: Source<'s>, W: CountedWrite>(
     pdb: &mut PDB<'s, S>,
     out: &mut W,
 ) -> Result<(), Stop>
+    ensures continues { Continues pdb.old pdb.new }
     ensures opened { (e : Error) → IsErrOf result (Stop.Open e) → ⊥ }
     ensures stops { IfErr result (StopsWriting (MayFail pdb.old pdb.new)) }
     ensures failures { W.failures out.new ≡ failures_after (W.failures out.old) result }
-    ensures ok { OnOk result (Appends (W.contents out.old) (W.contents out.new) (types_command pdb.old.file [])) }
-    ensures front { OnErr result (WroteFront (W.contents out.old) (W.contents out.new) (types_command pdb.old.file [])) }
+    ensures ok { pdb.new.told ≡ true → OnOk result (Appends (W.contents out.old) (W.contents out.new) (types_command pdb.old.file [])) }
+    ensures front { pdb.new.told ≡ true → OnErr result (WroteFront (W.contents out.old) (W.contents out.new) (types_command pdb.old.file [])) }
 {
     match pdb.type_information() {
         Ok(information) => write_stream(alloc, &information, out),
@@ -215,12 +217,12 @@ pub fn write_types<'s, S: Source<'s>, W: CountedWrite>(
     indices: &[u32],
     out: &mut W,
 ) -> Result<(), Stop>
-    ensures opened { OnOk result (opens (S.state source).file ≡ Ok tt) }
-    ensures ok { OnOk result (Appends (W.contents out.old) (W.contents out.new) (types_command (S.state source).file indices.now)) }
-    ensures refused { (S.state source).steady ≡ true → (e : Error) → IsErrOf result (Stop.Open e) → opens (S.state source).file ≡ Err e }
+    ensures opened { IsKnown (S.state source) → OnOk result (opens (S.state source).file ≡ Ok tt) }
+    ensures ok { IsKnown (S.state source) → OnOk result (Appends (W.contents out.old) (W.contents out.new) (types_command (S.state source).file indices.now)) }
+    ensures refused { IsKnown (S.state source) → (e : Error) → IsErrOf result (Stop.Open e) → opens (S.state source).file ≡ Err e }
     ensures stops { IfErr result (StopsCommand ((S.state source).steady ≡ false)) }
     ensures failures { W.failures out.new ≡ failures_after (W.failures out.old) result }
-    ensures front { OnErr result (WroteFront (W.contents out.old) (W.contents out.new) (types_command (S.state source).file indices.now)) }
+    ensures front { IsKnown (S.state source) → OnErr result (WroteFront (W.contents out.old) (W.contents out.new) (types_command (S.state source).file indices.now)) }
 {
     let mut pdb = opened(alloc, source)?;
     match indices.split_first() {

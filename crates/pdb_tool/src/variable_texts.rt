@@ -1,6 +1,6 @@
 //! The text of a place with the variables in scope there.
 
-ghost use Rattle.std.specs.Prelude.{◌≡◌, ◌++◌, ℕ, List, [], map, option_copied, replicate, IfOk, IfErr, OnOk};
+ghost use Rattle.std.specs.Prelude.{◌≡◌, ◌++◌, ℕ, List, [], map, option_copied, replicate, IfOk, IfErr, OnOk, true};
 ghost use Rattle.pdb.specs.Answers.{debug_information_in};
 ghost use Rattle.pdb.specs.Source.{Continues, MayFail};
 ghost use Rattle.pdb_resolve.specs.AsIfEmpty.{if_read};
@@ -266,7 +266,7 @@ fn machine_at<'s, S: Source<'s>>(
     place: Option<PdbInternalSectionOffset>,
 ) -> Result<Option<Machine>, Stop>
     ensures continues { Continues resolver.old resolver.new }
-    ensures is { IfOk result (λ m. m ≡ machine_at resolver.old.file place) }
+    ensures is { resolver.new.told ≡ true → IfOk result (λ m. m ≡ machine_at resolver.old.file place) }
     ensures unwritten { IfErr result (StopsComposing (MayFail resolver.old resolver.new)) }
 {
     let Some(place) = place else {
@@ -289,7 +289,7 @@ pub fn put_variables<'s, S: Source<'s>>(
     place: Option<PdbInternalSectionOffset>,
 ) -> Result<(), Stop>
     ensures continues { Continues resolver.old resolver.new }
-    ensures text { OnOk result (out.new.items ≡ out.old.items ++ variables_text resolver.old.file place) }
+    ensures text { resolver.new.told ≡ true → OnOk result (out.new.items ≡ out.old.items ++ variables_text resolver.old.file place) }
     ensures unwritten { IfErr result (StopsComposing (MayFail resolver.old resolver.new)) }
 {
     let frames = resolver.frames(place).map_err(stop_of)?;

@@ -12,8 +12,8 @@ ghost use Rattle.pdb_tool.specs.WriteFailures.{failures_after};
 ghost use Rattle.pdb_tool.specs.declared.stop.Stop.{Stop};
 
 use crate::file_texts::{FileText, write_text};
-use crate::in_parts::write_in_parts;
-use crate::key::key_in_parts;
+use crate::from_reader::{answer_from, write_from};
+use crate::key::key_from;
 use crate::notes::NotesDamage;
 use crate::options::Options;
 use crate::resolve::resolve_lines;
@@ -102,7 +102,7 @@ fn other_key(alloc: Global, bytes: &[u8], wanted: Option<&[u8]>) -> Result<Optio
 }
 
 /// The key of a file of this size, where another is wanted. No more of the file is read than its key asks for.
-fn other_key_in_parts<R: ReadAt>(
+fn other_key_from<R: ReadAt>(
     alloc: Global,
     input: &R,
     size: u64,
@@ -115,7 +115,7 @@ fn other_key_in_parts<R: ReadAt>(
     let Some(wanted) = wanted else {
         return Ok(None);
     };
-    let key = key_in_parts(alloc, input, size)?;
+    let key = key_from(alloc, input, size)?;
     Ok(unless_wanted(key, wanted))
 }
 
@@ -141,7 +141,7 @@ pub fn write_wanted<W: NotesDamage>(
 
 /// Writes the text of a file of this size, where it is the wanted one; else returns its key. No more of the file is
 /// read than both ask for.
-pub fn write_wanted_in_parts<R: ReadAt, W: NotesDamage>(
+pub fn write_wanted_from<R: ReadAt, W: NotesDamage>(
     alloc: Global,
     input: &R,
     size: u64,
@@ -155,10 +155,10 @@ pub fn write_wanted_in_parts<R: ReadAt, W: NotesDamage>(
     ensures told { ForSome (R.known input.now) (λ G. length G ≡ size → IfOk result (λ o. IsTold G (option_copied wanted.entry) (W.contents out.old) (W.contents out.new) (file_text G text.entry) (option_map (λ v. v.items) o))) }
     ensures stopped { ForSome (R.known input.now) (λ G. length G ≡ size → OnErr result (IsStopped G (option_copied wanted.entry) (W.contents out.old) (W.contents out.new) (file_text G text.entry))) }
 {
-    if let Some(key) = other_key_in_parts(alloc, input, size, wanted)? {
+    if let Some(key) = other_key_from(alloc, input, size, wanted)? {
         return Ok(Some(key));
     }
-    write_in_parts(alloc, input, size, text, out)?;
+    write_from(alloc, input, size, text, out)?;
     Ok(None)
 }
 
@@ -181,5 +181,27 @@ pub fn answer_wanted<R: BufRead, W: NotesDamage>(
         return Ok(Some(key));
     }
     resolve_lines(alloc, MemorySource::new(bytes), options, input, out)?;
+    Ok(None)
+}
+
+/// The same over a file of this size. No more of it is read than its key and the lines ask for.
+pub fn answer_wanted_from<R: ReadAt, I: BufRead, W: NotesDamage>(
+    alloc: Global,
+    file: &R,
+    size: u64,
+    wanted: Option<&[u8]>,
+    options: Options,
+    input: &mut I,
+    out: &mut W,
+) -> Result<Option<Vec<u8>>, Stop>
+    ensures stops { IfErr result (StopsCommand ⊤) }
+    ensures failures { W.failures out.new ≡ failures_after (W.failures out.old) result }
+    ensures told { ForSome (R.known file.now) (λ G. length G ≡ size → IfSome (I.remaining input.old) (λ xs. IfOk result (λ o. IsTold G (option_copied wanted.entry) (W.contents out.old) (W.contents out.new) (flat_map (line_text G options) (lines_of xs)) (option_map (λ v. v.items) o)))) }
+    ensures stopped { ForSome (R.known file.now) (λ G. length G ≡ size → IfSome (I.remaining input.old) (λ xs. OnErr result (IsStopped G (option_copied wanted.entry) (W.contents out.old) (W.contents out.new) (flat_map (line_text G options) (lines_of xs))))) }
+{
+    if let Some(key) = other_key_from(alloc, file, size, wanted)? {
+        return Ok(Some(key));
+    }
+    answer_from(alloc, file, size, options, input, out)?;
     Ok(None)
 }

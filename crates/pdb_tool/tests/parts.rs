@@ -3,7 +3,7 @@
 use super::files::{debug_stream, file_of, module_record};
 use crate::asked::Asked;
 use crate::file_texts::{FileText, write_text};
-use crate::in_parts::write_in_parts;
+use crate::from_reader::write_from;
 use crate::options::Detail;
 use crate::question::{Answer, Question};
 use crate::stop::Stop;
@@ -56,7 +56,7 @@ pub fn both(rt: &(impl Abort + AllocGlobal), bytes: &Vec<u8>, text: FileText<'_>
     is(rt, "written", &written, &Ok(()));
     is(rt, "whole.taken()", &whole.taken(), &wanted);
     let mut parts = Narrow::new(alloc, 4096);
-    let written = write_in_parts(
+    let written = write_from(
         alloc,
         bytes,
         bytes.len() as u64,
@@ -109,7 +109,7 @@ fn files_that_end_early_and_writers_that_fail(rt: HostRuntime) -> Result<(), Fai
     let size = bytes.len() as u64;
     let text = FileText::Scopes(&[]);
     let mut out = Narrow::new(alloc, 4096);
-    let shrank = write_in_parts(
+    let shrank = write_from(
         alloc,
         &bytes,
         size + 600,
@@ -119,7 +119,7 @@ fn files_that_end_early_and_writers_that_fail(rt: HostRuntime) -> Result<(), Fai
     is(&rt, "a file that shrank", &shrank, &Err(Stop::Read));
     let mut out = Narrow::new(alloc, 4096);
     let front = Vec::from_slice(alloc, bytes.get(..2000).unwrap_or(&[]))?;
-    let ended = write_in_parts(
+    let ended = write_from(
         alloc,
         &front,
         size,
@@ -128,7 +128,7 @@ fn files_that_end_early_and_writers_that_fail(rt: HostRuntime) -> Result<(), Fai
     );
     is(&rt, "a file that ends early", &ended, &Err(Stop::Read));
     assert!(rt; out.taken().is_empty());
-    let other = write_in_parts(
+    let other = write_from(
         alloc,
         &vec![in alloc; 7u8; 900]?,
         900,
@@ -138,7 +138,7 @@ fn files_that_end_early_and_writers_that_fail(rt: HostRuntime) -> Result<(), Fai
     let refused = Err(Stop::Open(Error::UnrecognizedFileFormat));
     is(&rt, "no container", &other, &refused);
     let mut out = Narrow::new(alloc, 9);
-    let full = write_in_parts(
+    let full = write_from(
         alloc,
         &bytes,
         size,

@@ -3,12 +3,12 @@
 use super::files::{debug_stream, file_of};
 use crate::asked::Asked;
 use crate::file_texts::FileText;
-use crate::key_line::{key_line, line_in_parts};
+use crate::key_line::{key_line, line_from};
 use crate::options::{Detail, Form, Options};
 use crate::question::{Answer, Question};
 use crate::stop::Stop;
 use crate::tests::fakes::{Narrow, is};
-use crate::wanted::{answer_wanted, key_in_word, wants_in, write_wanted, write_wanted_in_parts};
+use crate::wanted::{answer_wanted, key_in_word, wants_in, write_wanted, write_wanted_from};
 use pdb::Error;
 use pdb_image::ImageError;
 use pdb_text::CountedWriter;
@@ -95,7 +95,7 @@ fn lines_of_images(rt: HostRuntime) -> Result<(), Fail> {
         .ok()
         .expect(&rt, "line");
     is(&rt, "line", &given.as_slice(), &line);
-    let parts = line_in_parts(alloc, Form::Text, &bytes, 354, b"x.exe");
+    let parts = line_from(alloc, Form::Text, &bytes, 354, b"x.exe");
     is(&rt, "in parts", &parts, &Ok(None));
     let object =
         b"{\"key\":\"112233443000\",\"file\":\"x.exe\",\"pdb_key\":\"030201000504070608090A0B0C0D0E0F1\",\"pdb\":\"a.pdb\"}\n".as_slice();
@@ -157,7 +157,7 @@ fn lines_of_pdbs(rt: HostRuntime) -> Result<(), Fail> {
         .ok()
         .expect(&rt, "line");
     is(&rt, "line", &given.as_slice(), &line);
-    let parts = line_in_parts(alloc, Form::Text, &bytes, 6144, b"a.pdb")
+    let parts = line_from(alloc, Form::Text, &bytes, 6144, b"a.pdb")
         .ok()
         .flatten();
     is(
@@ -168,7 +168,7 @@ fn lines_of_pdbs(rt: HostRuntime) -> Result<(), Fail> {
     );
     let object =
         b"{\"key\":\"030201000504070608090A0B0C0D0E0F1\",\"file\":\"a\\\\b.pdb\"}\n".as_slice();
-    let parts = line_in_parts(alloc, Form::Json, &bytes, 6144, b"a\\b.pdb")
+    let parts = line_from(alloc, Form::Json, &bytes, 6144, b"a\\b.pdb")
         .ok()
         .flatten();
     is(
@@ -264,7 +264,7 @@ fn nothing_is_told_of_another_file(rt: HostRuntime) -> Result<(), Fail> {
         );
         is(&rt, "whole.taken()", &whole.taken(), &told);
         let mut parts = Narrow::new(alloc, 4096);
-        let given = write_wanted_in_parts(
+        let given = write_wanted_from(
             alloc,
             &bytes,
             6144,

@@ -8,9 +8,9 @@ use Rattle.pdb.specs.Answers.{answer, Made, AreMade, GoesOn, IsAnswered}
 use Rattle.pdb.proofs.laws.calls_answer_for_the_file_alone.Goals as goal
 
 answered : (source old : State) (m : Made) → Continues source old → m.before ≡ old → GoesOn m → IsAnswered source.file m
-answered source old m before here goes =
+answered source old m before here goes told =
     let same : m.before.file ≡ source.file = ap (λ (s : State). s.file) here ∙ before.file in
-    subst (λ file. Gives (λ x. x) (MayFail m.before m.behind) m.given (answer file m.call)) same goes.answers
+    subst (λ file. Gives (λ x. x) (MayFail m.before m.behind) m.given (answer file m.call)) same (goes.answers told)
 
 all_answered : (source old : State) (calls : List Made) → Continues source old → AreMade old calls → AllByRecursion (IsAnswered source.file) calls
 all_answered source old [] before are = tt

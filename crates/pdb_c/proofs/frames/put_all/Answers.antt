@@ -17,6 +17,7 @@ loop-address-preserved c =
     let size = rw so_far.continues.file at on.size in
     record {
       continues = continues_then _ _ _ so_far.continues on.continues;
+      known = on.continues.known so_far.known;
       rows = all_rows_next file n (drop n asked) (drop (n + 1) asked) c.loop-address.count c.put_asked.new.count c.loop-address.size c.put_asked.new.size _ c.loop-address.rows c.put_asked.new.rows _ (drop_next asked n _ c.loop-address-test.true) rows count size so_far.rows;
       count = all_counts_next file n (drop n asked) (drop (n + 1) asked) c.loop-address.count c.put_asked.new.count c.loop-address.size c.put_asked.new.size _ _ (drop_next asked n _ c.loop-address-test.true) count size so_far.count;
       names = all_names_next file (drop n asked) (drop (n + 1) asked) c.loop-address.size c.put_asked.new.size _ c.loop-address.names c.put_asked.new.names _ (drop_next asked n _ c.loop-address-test.true) names size so_far.names;

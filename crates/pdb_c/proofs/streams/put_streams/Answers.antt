@@ -19,6 +19,7 @@ loop-place-preserved c =
     record {
       continues = continues_then _ _ _ so_far.continues on.continues;
       steady = (on.continues.steady so_far.steady).0;
+      known = on.continues.known so_far.known;
       rows = rows_next file numbers n c.loop-place.size c.put_stream.new.size x c.loop-place.rows c.put_stream.new.rows _ e rows size so_far.rows;
       room = bytes_next file numbers n c.loop-place.size c.put_stream.new.size x c.loop-place.room c.put_stream.new.room _ e room size so_far.room;
       size = sizes_next file numbers n c.loop-place.size c.put_stream.new.size x _ e size so_far.size;

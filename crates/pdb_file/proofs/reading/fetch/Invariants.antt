@@ -2,7 +2,7 @@ use Rattle.std.proofs.Common.{◌≡◌, ◌<◌, ◌≤◌, ℕ, List, length, 
 use Rattle.std.specs.List.{All}
 use Rattle.std.specs.Option.{ForSome}
 use Rattle.pdb_base.specs.declared.source.SourceSlice.{SourceSlice}
-use Rattle.pdb_file.specs.HeldBytes.{IsOf, IsSameOrMore}
+use Rattle.pdb_file.specs.HeldBytes.{IsHeldAt, IsOf}
 use Rattle.pdb_file.proofs.Groups.{IsHeldOrIn}
 use Rattle.pdb_file.proofs.reading.fetch.Given as goal
 
@@ -12,8 +12,8 @@ invariant-loop-slice g l = record {
   size : l.held.size ≡ l.fn.held.size;
   kept : (F : List ℕ) → IsOf F l.held → IsOf F l.fn.held;
   told : ForSome (g.R.ReadAt.known l.input) (λ F. IsOf F l.fn.held → IsOf F l.held);
+  grows : (at : ℕ) → IsHeldAt l.fn.held at → IsHeldAt l.held at;
   done : All (IsHeldOrIn l.held l.from l.end) (take l.slice-index l.slice-items);
   behind : (j : ℕ) (d : SourceSlice) → l.slice-index ≤ j → j < length l.slice-items → l.from ≤ (get_or l.slice-items j d).offset;
   within : l.end ≤ l.held.size;
-  more : IsSameOrMore l.fn.held l.held;
 }

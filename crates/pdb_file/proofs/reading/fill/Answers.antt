@@ -1,7 +1,6 @@
-use Rattle.std.proofs.Common.{inr, refl, rules, ap, ◌∙◌, arith}
+use Rattle.std.proofs.Common.{refl, rules, ap, ◌∙◌, arith}
 use Rattle.pdb_file.proofs.Files.{with_agrees, without_agrees}
 use Rattle.pdb_file.proofs.FreeRuns.{found_held, held_join, held_then, with_more}
-use Rattle.pdb_file.proofs.Groups.{more_then, more_with}
 use Rattle.pdb_file.proofs.reading.fill.Goals as goal
 
 pub loop-at-preserved : goal.loop-at-preserved
@@ -16,7 +15,6 @@ loop-at-preserved g c =
           with_agrees F _ _ _ more is (c.in_ok-bytes.ensures.told F known (omega (arith, is.size, c.size.ensures.size, c.if-at-size.false)));
       grows = λ at h. with_more _ _ _ more at (so_far.grows at h);
       held = held_then _ _ _ _ c.loop-at.at _ more so_far.held refl (omega (arith, c.in_ok-bytes.ensures.len));
-      more = more_then _ _ _ so_far.more (inr (more_with _ _ _ more (omega (arith, c.in_ok-bytes.ensures.len))));
     }
 
 pub loop-at-preserved-in-Some : goal.loop-at-preserved-in-Some
@@ -28,7 +26,6 @@ loop-at-preserved-in-Some g c =
       told = so_far.told;
       grows = so_far.grows;
       held = held_join c.loop-at.held _ c.loop-at.at _ so_far.held (found_held c.loop-at.held _ _ _ _ c.in-Some.ensures.held refl (search rules));
-      more = so_far.more;
     }
 
 pub returns-in_err-insert-clause-grows : goal.returns-in_err-insert-clause-grows
@@ -36,9 +33,3 @@ returns-in_err-insert-clause-grows g c = λ at h. rw c.in_err-insert.ensures.ref
 
 pub returns-then-not-branch-clause-grows : goal.returns-then-not-branch-clause-grows
 returns-then-not-branch-clause-grows g c = λ at h. rw (c.in_ok-insert.ensures.same c.if-not-branch.true) (c.loop-at.invariant.grows at h)
-
-pub returns-in_err-insert-clause-more : goal.returns-in_err-insert-clause-more
-returns-in_err-insert-clause-more g c = rw c.in_err-insert.ensures.refused c.loop-at.invariant.more
-
-pub returns-then-not-branch-clause-more : goal.returns-then-not-branch-clause-more
-returns-then-not-branch-clause-more g c = rw (c.in_ok-insert.ensures.same c.if-not-branch.true) c.loop-at.invariant.more

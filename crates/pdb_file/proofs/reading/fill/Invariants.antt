@@ -1,6 +1,6 @@
 use Rattle.std.proofs.Common.{◌≡◌, ℕ, List, ◌-◌}
 use Rattle.std.specs.Option.{ForSome}
-use Rattle.pdb_file.specs.HeldBytes.{AreHeld, IsHeldAt, IsOf, IsSameOrMore}
+use Rattle.pdb_file.specs.HeldBytes.{AreHeld, IsHeldAt, IsOf}
 use Rattle.pdb_file.proofs.reading.fill.Given as goal
 
 abbrev pub invariant-loop-at : goal.invariant-loop-at
@@ -10,7 +10,6 @@ invariant-loop-at g l = record {
   told : ForSome (g.R.ReadAt.known l.input) (λ F. IsOf F l.fn.held → IsOf F l.held);
   grows : (at : ℕ) → IsHeldAt l.fn.held at → IsHeldAt l.held at;
   held : AreHeld l.held l.from l.at;
-  more : IsSameOrMore l.fn.held l.held;
 }
 
 abbrev pub decreases-loop-at : goal.decreases-loop-at

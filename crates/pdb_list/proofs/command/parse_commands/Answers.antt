@@ -1,11 +1,11 @@
-use Rattle.std.proofs.Common.{length, map, string_bytes, sym, ap, arith, length-append}
+use Rattle.std.proofs.Common.{◌≤◌, length, map, string_bytes, Ok, sym, ap, ◌∙◌, arith, length-append, append-nil}
 use Rattle.std.proofs.lemmas.List.{length-map}
-use Rattle.pdb_list.specs.Words.{spelled}
-use Rattle.pdb_list.proofs.Spelling.{begins, goes_on}
+use Rattle.pdb_list.specs.Words.{behind, spelled}
+use Rattle.pdb_list.proofs.Spelling.{begins, goes_on, from_end}
 use Rattle.pdb_list.proofs.command.parse_commands.Goals as goal
 
 pub loop-at-init : goal.loop-at-init
-loop-at-init c =
+loop-at-init g c =
     let words = map string_bytes c.args.words.now in
     record {
       fewer = omega (arith, ap length c.new-commands.ensures.items);
@@ -13,7 +13,7 @@ loop-at-init c =
     }
 
 pub loop-at-preserved : goal.loop-at-preserved
-loop-at-preserved c =
+loop-at-preserved g c =
     let words = map string_bytes c.args.words.now in
     let same = sym (length-map c.args.words.now string_bytes) in
     record {
@@ -21,3 +21,9 @@ loop-at-preserved c =
       told = rw c.in_ok-push.ensures.items (goes_on words (spelled words) c.loop-at.commands.items (length c.args.words.now) c.loop-at.at c.in_ok-command.command c.in_ok-command.count
           same c.loop-at.invariant.fewer (omega arith) c.in_ok-command.ensures.command c.loop-at.invariant.told);
     }
+
+pub returns : goal.returns
+returns g c =
+    let words = map string_bytes c.args.words.now in
+    let past : length words ≤ c.loop-at.at = omega (arith, length-map c.args.words.now string_bytes, c.loop-at-test.false) in
+    c.loop-at.invariant.told ∙ ap (behind c.loop-at.commands.items) (from_end _ c.loop-at.at words past) ∙ ap Ok (append-nil c.loop-at.commands.items)

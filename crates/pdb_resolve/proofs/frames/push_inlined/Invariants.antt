@@ -1,4 +1,4 @@
-use Rattle.std.proofs.Common.{◌≡◌, ◌++◌, length, map, reverse}
+use Rattle.std.proofs.Common.{◌≡◌, true, ◌++◌, length, map, reverse}
 use Rattle.std.specs.Prelude.{option_copied}
 use Rattle.pdb.specs.Source.{Continues}
 use Rattle.pdb_resolve.specs.ModuleCode.{program_in}
@@ -11,7 +11,7 @@ use Rattle.pdb_resolve.proofs.frames.push_inlined.Given as goal
 abbrev pub invariant-loop-call : goal.invariant-loop-call
 invariant-loop-call g l = record {
   continues : Continues l.fn.pdb l.pdb;
-  frames :
+  frames : l.pdb.told ≡ true →
       map shown_frame l.frames.items ++ map (inlined_frame (names_of l.fn.names (option_copied l.fn.strings)) (global_of_call l.fn.pdb.file (option_copied l.fn.strings) l.fn.names l.fn.code) (program_in l.fn.code)) (reverse (map shown_call l.left))
       ≡ map shown_frame l.fn.frames.items ++ map (inlined_frame (names_of l.fn.names (option_copied l.fn.strings)) (global_of_call l.fn.pdb.file (option_copied l.fn.strings) l.fn.names l.fn.code) (program_in l.fn.code)) (reverse (map shown_call l.fn.calls));
   named : IsNamedIn (option_copied l.fn.strings) (program_in l.fn.code) l.last;

@@ -1,4 +1,4 @@
-use Rattle.std.proofs.Common.{◌≡◌, map, take}
+use Rattle.std.proofs.Common.{◌≡◌, true, map, take}
 use Rattle.std.specs.Prelude.{option_copied}
 use Rattle.pdb.specs.Source.{Continues}
 use Rattle.pdb_modules.specs.ImportViews.{module_of}
@@ -10,5 +10,5 @@ use Rattle.pdb_resolve.proofs.global_ids.exports_of.Given as goal
 abbrev pub invariant-loop-imported : goal.invariant-loop-imported
 invariant-loop-imported g l = record {
   continues : Continues l.fn.pdb l.pdb;
-  exports : l.exports.items ≡ map (exports_for l.fn.pdb.file (option_copied l.fn.strings) (modules_where (option_copied l.fn.information))) (map module_of (take l.imported-index l.modules));
+  exports : l.pdb.told ≡ true → l.exports.items ≡ map (exports_for l.fn.pdb.file (option_copied l.fn.strings) (modules_where (option_copied l.fn.information))) (map module_of (take l.imported-index l.modules));
 }

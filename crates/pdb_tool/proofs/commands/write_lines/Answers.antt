@@ -7,11 +7,17 @@ use Rattle.pdb_tool.specs.declared.options.Form.TheVariants.{Text}
 use Rattle.pdb_tool.proofs.commands.write_lines.Goals as goal
 
 pub returns-clause-front : goal.returns-clause-front
-returns-clause-front g c =
-    let front : OnErr c.write_modules.result (WroteFront (g.W.Write.contents c.args.out.now) (g.W.Write.contents c.write_modules.new.out) (modules_text Text (λ (k : ℕ). lines_text (option_copied c.as_ref.result)) c.strings_of.new.pdb.file c.args.indices.now)) = c.write_modules.ensures.front in
-    rw (c.as_ref.ensures.value, c.in_ok-strings.ensures.is, c.strings_of.ensures.continues.file, c.in_ok-pdb.ensures.file) at front
+returns-clause-front g c = λ known.
+    let k0 = c.in_ok-pdb.ensures.continues.known known in
+    let k1 = c.strings_of.ensures.continues.known k0 in
+    let k2 = c.write_modules.ensures.continues.known k1 in
+    let front : OnErr c.write_modules.result (WroteFront (g.W.Write.contents c.args.out.now) (g.W.Write.contents c.write_modules.new.out) (modules_text Text (λ (k : ℕ). lines_text (option_copied c.as_ref.result)) c.strings_of.new.pdb.file c.args.indices.now)) = (c.write_modules.ensures.front k2.1) in
+    rw (c.as_ref.ensures.value, (c.in_ok-strings.ensures.is k1.1), c.strings_of.ensures.continues.file, c.in_ok-pdb.ensures.file) at front
 
 pub returns-clause-ok : goal.returns-clause-ok
-returns-clause-ok g c =
-    let ok : OnOk c.write_modules.result (Appends (g.W.Write.contents c.args.out.now) (g.W.Write.contents c.write_modules.new.out) (modules_text Text (λ (k : ℕ). lines_text (option_copied c.as_ref.result)) c.strings_of.new.pdb.file c.args.indices.now)) = c.write_modules.ensures.ok in
-    rw (c.as_ref.ensures.value, c.in_ok-strings.ensures.is, c.strings_of.ensures.continues.file, c.in_ok-pdb.ensures.file) at ok
+returns-clause-ok g c = λ known.
+    let k0 = c.in_ok-pdb.ensures.continues.known known in
+    let k1 = c.strings_of.ensures.continues.known k0 in
+    let k2 = c.write_modules.ensures.continues.known k1 in
+    let ok : OnOk c.write_modules.result (Appends (g.W.Write.contents c.args.out.now) (g.W.Write.contents c.write_modules.new.out) (modules_text Text (λ (k : ℕ). lines_text (option_copied c.as_ref.result)) c.strings_of.new.pdb.file c.args.indices.now)) = (c.write_modules.ensures.ok k2.1) in
+    rw (c.as_ref.ensures.value, (c.in_ok-strings.ensures.is k1.1), c.strings_of.ensures.continues.file, c.in_ok-pdb.ensures.file) at ok

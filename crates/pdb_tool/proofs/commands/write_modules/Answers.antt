@@ -12,6 +12,6 @@ some_places P form text file [] some h = absurd (some refl)
 some_places P form text file (k ∷ ks) some h = h
 
 pub returns-else-is_empty-clause-front : goal.returns-else-is_empty-clause-front
-returns-else-is_empty-clause-front g c =
+returns-else-is_empty-clause-front g c = λ told.
     let some : length c.args.indices.now ≡ 0 → ⊥ = λ e. grind (arith, common_steps, e) in
-    some_places (λ t. OnErr c.write_indexed.result (WroteFront (g.W.Write.contents c.args.out.now) (g.W.Write.contents c.write_indexed.new.out) t)) c.args.form (in_file (g.T.ModuleText.text c.args.texts.now) c.args.pdb.now.file) c.args.pdb.now.file c.args.indices.now some c.write_indexed.ensures.front
+    some_places (λ t. OnErr c.write_indexed.result (WroteFront (g.W.Write.contents c.args.out.now) (g.W.Write.contents c.write_indexed.new.out) t)) c.args.form (in_file (g.T.ModuleText.text c.args.texts.now) c.args.pdb.now.file) c.args.pdb.now.file c.args.indices.now some (c.write_indexed.ensures.front told)

@@ -2,7 +2,10 @@ use Rattle.pdb_tool.proofs.Stops.{if_stopped, unsteady_source, writing_command}
 use Rattle.pdb_tool.proofs.commands.write_symbols.Goals as goal
 
 pub returns-clause-front : goal.returns-clause-front
-returns-clause-front g c = rw c.in_ok-pdb.ensures.file at c.write_numbered.ensures.front
+returns-clause-front g c = λ known.
+    let k0 = c.in_ok-pdb.ensures.continues.known known in
+    let k1 = c.write_numbered.ensures.continues.known k0 in
+    rw c.in_ok-pdb.ensures.file at (c.write_numbered.ensures.front k1.1)
 
 pub returns-clause-stops : goal.returns-clause-stops
 returns-clause-stops g c =

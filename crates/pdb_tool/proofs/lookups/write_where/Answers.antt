@@ -1,4 +1,4 @@
-use Rattle.pdb_text.proofs.Written.{on_ok}
+use Rattle.pdb_tool.proofs.AnsweredLines.{on_ok_of}
 use Rattle.pdb_resolve.specs.FileParts.{items_listed}
 use Rattle.pdb.proofs.Passing.{continues_then}
 use Rattle.pdb_tool.proofs.Stops.{if_stopped, unsteady_source, writing_command, composing_passed}
@@ -7,15 +7,31 @@ use Rattle.pdb.specs.Source.{MayFail}
 use Rattle.pdb_tool.proofs.lookups.write_where.Goals as goal
 
 pub returns-clause-opened : goal.returns-clause-opened
-returns-clause-opened g c = on_ok c.write_plain.result (λ w. c.in_ok-pdb.ensures.opened) c.write_plain.ensures.ok
+returns-clause-opened g c = λ known.
+    let k0 = c.in_ok-pdb.ensures.continues.known known in
+    on_ok_of c.write_plain.result (c.in_ok-pdb.ensures.opened k0.1)
 
 pub returns-clause-front : goal.returns-clause-front
 unfolding items_listed
-returns-clause-front g c = rw (c.in_ok-asking.ensures.is, c.as_ref.ensures.value, c.as_ref-2.ensures.value, c.as_ref-3.ensures.value, c.in_ok-strings.ensures.is, c.in_ok-ids.ensures.is, c.in_ok-types.ensures.is, c.in_ok-map.ensures.is, c.address_map.ensures.continues.file, c.types_stream.ensures.continues.file, c.ids_stream.ensures.continues.file, c.strings_of.ensures.continues.file, c.in_ok-pdb.ensures.file) at c.write_plain.ensures.front
+returns-clause-front g c = λ known.
+    let k0 = c.in_ok-pdb.ensures.continues.known known in
+    let k1 = c.strings_of.ensures.continues.known k0 in
+    let k2 = c.ids_stream.ensures.continues.known k1 in
+    let k3 = c.types_stream.ensures.continues.known k2 in
+    let k4 = c.address_map.ensures.continues.known k3 in
+    let k5 = c.write_plain.ensures.continues.known k4 in
+    rw (c.in_ok-asking.ensures.is, c.as_ref.ensures.value, c.as_ref-2.ensures.value, c.as_ref-3.ensures.value, (c.in_ok-strings.ensures.is k1.1), (c.in_ok-ids.ensures.is k2.1), (c.in_ok-types.ensures.is k3.1), (c.in_ok-map.ensures.is k4.1), c.address_map.ensures.continues.file, c.types_stream.ensures.continues.file, c.ids_stream.ensures.continues.file, c.strings_of.ensures.continues.file, c.in_ok-pdb.ensures.file) at (c.write_plain.ensures.front k5.1)
 
 pub returns-clause-ok : goal.returns-clause-ok
 unfolding items_listed
-returns-clause-ok g c = rw (c.in_ok-asking.ensures.is, c.as_ref.ensures.value, c.as_ref-2.ensures.value, c.as_ref-3.ensures.value, c.in_ok-strings.ensures.is, c.in_ok-ids.ensures.is, c.in_ok-types.ensures.is, c.in_ok-map.ensures.is, c.address_map.ensures.continues.file, c.types_stream.ensures.continues.file, c.ids_stream.ensures.continues.file, c.strings_of.ensures.continues.file, c.in_ok-pdb.ensures.file) at c.write_plain.ensures.ok
+returns-clause-ok g c = λ known.
+    let k0 = c.in_ok-pdb.ensures.continues.known known in
+    let k1 = c.strings_of.ensures.continues.known k0 in
+    let k2 = c.ids_stream.ensures.continues.known k1 in
+    let k3 = c.types_stream.ensures.continues.known k2 in
+    let k4 = c.address_map.ensures.continues.known k3 in
+    let k5 = c.write_plain.ensures.continues.known k4 in
+    rw (c.in_ok-asking.ensures.is, c.as_ref.ensures.value, c.as_ref-2.ensures.value, c.as_ref-3.ensures.value, (c.in_ok-strings.ensures.is k1.1), (c.in_ok-ids.ensures.is k2.1), (c.in_ok-types.ensures.is k3.1), (c.in_ok-map.ensures.is k4.1), c.address_map.ensures.continues.file, c.types_stream.ensures.continues.file, c.ids_stream.ensures.continues.file, c.strings_of.ensures.continues.file, c.in_ok-pdb.ensures.file) at (c.write_plain.ensures.ok k5.1)
 
 pub returns-clause-stops : goal.returns-clause-stops
 returns-clause-stops g c =

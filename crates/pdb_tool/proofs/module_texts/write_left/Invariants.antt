@@ -1,4 +1,4 @@
-use Rattle.std.proofs.Common.{◌≡◌, length}
+use Rattle.std.proofs.Common.{◌≡◌, length, true}
 use Rattle.pdb.specs.DbiViews.{modules_left, modules_steps}
 use Rattle.pdb.specs.Source.{Continues}
 use Rattle.pdb_tool.specs.ModuleTexts.{in_file, list_text}
@@ -10,7 +10,7 @@ abbrev pub invariant-loop-module : goal.invariant-loop-module
 invariant-loop-module g l = record {
   continues : Continues l.fn.pdb l.pdb;
   counted : modules_steps l.modules ≡ l.k;
-  told : Before (g.W.Write.contents l.fn.out) (g.W.Write.contents l.out) (list_text l.form l.several (in_file (g.T.ModuleText.text l.texts) l.fn.pdb.file) l.fn.pdb.file l.k (modules_left l.modules)) (list_text l.form l.several (in_file (g.T.ModuleText.text l.texts) l.fn.pdb.file) l.fn.pdb.file 0 (modules_left l.fn.modules));
+  told : l.pdb.told ≡ true → Before (g.W.Write.contents l.fn.out) (g.W.Write.contents l.out) (list_text l.form l.several (in_file (g.T.ModuleText.text l.texts) l.fn.pdb.file) l.fn.pdb.file l.k (modules_left l.modules)) (list_text l.form l.several (in_file (g.T.ModuleText.text l.texts) l.fn.pdb.file) l.fn.pdb.file 0 (modules_left l.fn.modules));
   failures : g.W.CountedWrite.failures l.out ≡ g.W.CountedWrite.failures l.fn.out;
 }
 

@@ -1,4 +1,4 @@
-use Rattle.std.proofs.Common.{◌≡◌}
+use Rattle.std.proofs.Common.{◌≡◌, true}
 use Rattle.pdb.specs.Source.{Continues}
 use Rattle.pdb_tool.specs.Questions.{line_text}
 use Rattle.pdb_tool.proofs.AnsweredLines.{Answered}
@@ -8,6 +8,6 @@ use Rattle.pdb_tool.proofs.resolve.answer_lines.Given as goal
 abbrev pub invariant-loop : goal.invariant-loop
 invariant-loop g l = record {
   continues : Continues l.fn.resolver l.resolver;
-  told : Answered (line_text l.fn.resolver.file l.options) (g.R.Read.remaining l.fn.input) (g.R.Read.remaining l.input) (g.W.Write.contents l.fn.out) (g.W.Write.contents l.out);
+  told : l.resolver.told ≡ true → Answered (line_text l.fn.resolver.file l.options) (g.R.Read.remaining l.fn.input) (g.R.Read.remaining l.input) (g.W.Write.contents l.fn.out) (g.W.Write.contents l.out);
   failures : g.W.CountedWrite.failures l.out ≡ g.W.CountedWrite.failures l.fn.out;
 }

@@ -6,7 +6,7 @@ pub returns-clause-continues : goal.returns-clause-continues
 returns-clause-continues g c = continues_then _ _ _ c.put_question_text.ensures.continues c.is_whole_asked.ensures.continues
 
 pub returns-clause-whole : goal.returns-clause-whole
-returns-clause-whole g c = rw c.put_question_text.ensures.continues.file at c.is_whole_asked.ensures.whole
+returns-clause-whole g c = λ told. rw c.put_question_text.ensures.continues.file at (c.is_whole_asked.ensures.whole told)
 
 pub returns-clause-unwritten : goal.returns-clause-unwritten
 returns-clause-unwritten g c = if_stopped _ _ c.is_whole_asked.result (composing_weaken _ _ (may_after _ _ _ c.put_question_text.ensures.continues)) c.is_whole_asked.ensures.unwritten

@@ -6,19 +6,27 @@ use Rattle.pdb_tool.proofs.WriteFailures.{opening_failures}
 use Rattle.pdb_tool.proofs.resolve.resolve_lines.Goals as goal
 
 pub returns-in_err-resolver-clause-ok : goal.returns-in_err-resolver-clause-ok
-returns-in_err-resolver-clause-ok g c = if_any _ (g.R.Read.remaining c.args.input.now) (λ xs. on_ok_failed _ _ c.from_residual.result c.from_residual.ensures.1)
+returns-in_err-resolver-clause-ok g c = λ known. if_any _ (g.R.Read.remaining c.args.input.now) (λ xs. on_ok_failed _ _ c.from_residual.result c.from_residual.ensures.1)
 
 pub returns-in_err-resolver-clause-front : goal.returns-in_err-resolver-clause-front
-returns-in_err-resolver-clause-front g c = if_any _ (g.R.Read.remaining c.args.input.now) (λ xs. any_err c.from_residual.result (front_none _ _))
+returns-in_err-resolver-clause-front g c = λ known. if_any _ (g.R.Read.remaining c.args.input.now) (λ xs. any_err c.from_residual.result (front_none _ _))
 
 pub returns-clause-opened : goal.returns-clause-opened
-returns-clause-opened g c = on_ok_of c.answer_lines.result c.in_ok-resolver.ensures.opened
+returns-clause-opened g c = λ known.
+    let k0 = c.in_ok-resolver.ensures.continues.known known in
+    on_ok_of c.answer_lines.result (c.in_ok-resolver.ensures.opened k0.1)
 
 pub returns-clause-ok : goal.returns-clause-ok
-returns-clause-ok g c = rw c.in_ok-resolver.ensures.file at c.answer_lines.ensures.ok
+returns-clause-ok g c = λ known.
+    let k0 = c.in_ok-resolver.ensures.continues.known known in
+    let k1 = c.answer_lines.ensures.continues.known k0 in
+    rw c.in_ok-resolver.ensures.file at (c.answer_lines.ensures.ok k1.1)
 
 pub returns-clause-front : goal.returns-clause-front
-returns-clause-front g c = rw c.in_ok-resolver.ensures.file at c.answer_lines.ensures.refused
+returns-clause-front g c = λ known.
+    let k0 = c.in_ok-resolver.ensures.continues.known known in
+    let k1 = c.answer_lines.ensures.continues.known k0 in
+    rw c.in_ok-resolver.ensures.file at (c.answer_lines.ensures.refused k1.1)
 
 pub returns-in_err-resolver-clause-stops : goal.returns-in_err-resolver-clause-stops
 returns-in_err-resolver-clause-stops g c = stopped_as _ c.from_residual.result _ c.from_residual.ensures.1 (opening_command _ _ (λ h. tt) _ c.in_err-resolver.ensures.unwritten)

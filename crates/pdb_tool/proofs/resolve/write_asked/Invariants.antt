@@ -1,4 +1,4 @@
-use Rattle.std.proofs.Common.{◌≡◌, take, flat_map}
+use Rattle.std.proofs.Common.{◌≡◌, take, flat_map, true}
 use Rattle.std.specs.Io.KnownBytes.{Appends}
 use Rattle.pdb.specs.Source.{Continues}
 use Rattle.pdb_tool.specs.Questions.{asks_text}
@@ -8,6 +8,6 @@ use Rattle.pdb_tool.proofs.resolve.write_asked.Given as goal
 abbrev pub invariant-loop-question : goal.invariant-loop-question
 invariant-loop-question g l = record {
   continues : Continues l.fn.resolver l.resolver;
-  told : Appends (g.W.Write.contents l.fn.out) (g.W.Write.contents l.out) (flat_map (asks_text l.fn.resolver.file) (take l.question-index l.questions));
+  told : l.resolver.told ≡ true → Appends (g.W.Write.contents l.fn.out) (g.W.Write.contents l.out) (flat_map (asks_text l.fn.resolver.file) (take l.question-index l.questions));
   failures : g.W.CountedWrite.failures l.out ≡ g.W.CountedWrite.failures l.fn.out;
 }

@@ -8,3 +8,6 @@ returns-in-Some-clause-stays g c = λ k m h. ap (λ codes. slice_index_or codes 
 pub returns-in-None-clause-stays : goal.returns-in-None-clause-stays
 returns-in-None-clause-stays g c = λ k m h.
     ap (λ codes. slice_index_or codes k None) c.public_there.ensures.codes ∙ (ap (λ codes. slice_index_or codes k None) c.begun_name.ensures.codes ∙ c.module_at.ensures.stays k m h)
+
+pub returns-in_err-name-clause-stays : goal.returns-in_err-name-clause-stays
+returns-in_err-name-clause-stays g c = λ k m h. ap (λ codes. slice_index_or codes k None) c.begun_name.ensures.codes ∙ c.module_at.ensures.stays k m h

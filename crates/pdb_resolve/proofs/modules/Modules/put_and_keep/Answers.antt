@@ -5,11 +5,11 @@ use Rattle.pdb_resolve.proofs.Kepts.{put_then, kept_then, stays_then}
 use Rattle.pdb_resolve.proofs.modules.Modules.put_and_keep.Goals as goal
 
 pub returns-clause-kept : goal.returns-clause-kept
-returns-clause-kept c = λ file are none numbered.
+returns-clause-kept c = λ s are none numbered.
     let p = c.put.ensures in
     let k = c.keep.ensures in
-    let after = put_then file c.args.self.now are c.args.number c.put.new.self c.args.info p.listed c.put.result p.codes p.taken p.untaken none p.put p.refused numbered in
-    kept_then file c.put.new.self after c.args.number c.keep.new.self c.in_ok-info.info.now k.listed c.keep.result k.streams k.rooms k.kept k.refused (numbered ∙ ap Some (sym c.in_ok-info.ensures.is))
+    let after = put_then s c.args.self.now are c.args.number c.put.new.self c.args.info p.listed c.put.result p.codes p.taken p.untaken none p.put p.refused numbered in
+    kept_then s c.put.new.self after c.args.number c.keep.new.self c.in_ok-info.info.now k.listed c.keep.result k.streams k.rooms k.kept k.refused (λ told. numbered told ∙ ap Some (sym c.in_ok-info.ensures.is))
 
 pub returns-clause-stays : goal.returns-clause-stays
 returns-clause-stays c = λ none k m h.

@@ -1,0 +1,7 @@
+use Rattle.std.proofs.Common.{rules}
+use Rattle.std.proofs.lemmas.List.Sorted.{IsNonDecreasingBy-from_sort_by_key}
+use Rattle.pdb_base.specs.declared.source.SourceSlice.{SourceSlice}
+use Rattle.pdb_file.proofs.reading.in_order.Goals as goal
+
+pub returns-clause-rises : goal.returns-clause-rises
+returns-clause-rises c = IsNonDecreasingBy-from_sort_by_key (λ (s : SourceSlice). s.offset) _ c.sort_unstable_by_key.ensures.sorted (λ a r q k. search rules)
