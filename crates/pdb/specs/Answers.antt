@@ -145,7 +145,8 @@ abbrev pub IsKept : {A : Type 0} → Result A Error → Option A → Type 0
 IsKept reading None = Unit {0}
 IsKept reading (Some x) = reading ≡ Ok x
 
-pub record AreKept (file : List ℕ) (h : Option DBIHeader) (x : Option DBIExtraStreams) : Type 0 where
+pub record AreKept (file : List ℕ) (s : Option (List ℕ)) (h : Option DBIHeader) (x : Option DBIExtraStreams) : Type 0 where
+  pub debug_stream : IsKept (stream_of file 3 None) s
   pub header : IsKept (header_in file (Some 1024)) h
   pub extra_streams : IsKept (extra_streams_of_file file) x
 

@@ -196,12 +196,23 @@ impl<'s> FrameTable<'s> {
 /// How addresses of an image that was rearranged are those of the image before: the section headers of both, and the
 /// tables between their addresses. Where the image wasn't rearranged its section headers stand as the original ones,
 /// and there is nothing else.
-#[derive(Drop)]
 pub struct AddressMap<'s> {
     original_sections: Vec<ImageSectionHeader>,
     transformed_sections: Option<Vec<ImageSectionHeader>>,
     omap_from_src: Option<OMAPTable<'s>>,
     omap_to_src: Option<OMAPTable<'s>>,
+}
+
+// By hand, as that of `PDB`.
+impl Drop for AddressMap<'_> {
+    fn drop(self) {
+        let AddressMap {
+            original_sections: _,
+            transformed_sections: _,
+            omap_from_src: _,
+            omap_to_src: _,
+        } = self;
+    }
 }
 
 impl<'s> Model for AddressMap<'s> {

@@ -46,12 +46,25 @@ const DBI_FRONT: u32 = 1024;
 /// Each call fails as the container does for the streams that it reads: `UnexpectedEof` where the directory or a
 /// page isn't all there, `PageReferenceOutOfRange` for a number that is no page's, `StreamNotFound`; `IoError` where
 /// the source failed, and `OutOfMemory`. After an error the same call may be made again.
-#[derive(Drop)]
 pub struct PDB<'s, S: Meaning> {
     alloc: Global,
     msf: Msf<'s, S>,
+    debug_stream: Option<Stream<'s>>,
     header: Option<DBIHeader>,
     extra_streams: Option<DBIExtraStreams>,
+}
+
+// By hand: what drops a `PDB` takes one step, and doesn't see what is kept.
+impl<'s, S: Meaning> Drop for PDB<'s, S> {
+    fn drop(self) {
+        let PDB {
+            alloc: _,
+            msf: _,
+            debug_stream: _,
+            header: _,
+            extra_streams: _,
+        } = self;
+    }
 }
 
 impl<'s, S: Meaning> Model for PDB<'s, S> {
@@ -63,7 +76,7 @@ impl<'s, S: Meaning> Model for PDB<'s, S> {
 
     ghost view = { λ p. p.msf };
 
-    ghost invariant = { λ p. p.msf.told ≡ true → AreKept p.msf.file p.header p.extra_streams };
+    ghost invariant = { λ p. p.msf.told ≡ true → AreKept p.msf.file p.debug_stream p.header p.extra_streams };
 }
 
 impl<'s, S: Source<'s>> PDB<'s, S> {
@@ -78,6 +91,7 @@ impl<'s, S: Source<'s>> PDB<'s, S> {
         Ok(PDB {
             alloc,
             msf: Msf::open(alloc, source)?,
+            debug_stream: None,
             header: None,
             extra_streams: None,
         })
@@ -174,6 +188,20 @@ impl<'s, S: Source<'s>> PDB<'s, S> {
         Ok(header)
     }
 
+    /// The DBI stream, unparsed; read once.
+    fn debug_stream(&mut self) -> Result<Stream<'s>>
+        ensures continues { Continues self.old self.new }
+        ensures failed { IsErrOf result Error.IoError → MayFail self.old self.new }
+        ensures stream { self.new.told ≡ true → Gives (λ s. s) (MayFail self.old self.new) result (stream_of self.old.file 3 None) }
+    {
+        if let Some(stream) = &self.debug_stream {
+            return Ok(stream.clone()?);
+        }
+        let stream = self.msf.get(DBI_STREAM, None)?;
+        self.debug_stream = Some(stream.clone()?);
+        Ok(stream)
+    }
+
     /// The DBI stream, stream 3: what the file has on the image and its modules. `UnimplementedFeature` for an
     /// ancient header.
     #[tactic(auto, unfolding(crate::specs::Answers::debug_information_in))]
@@ -182,7 +210,7 @@ impl<'s, S: Source<'s>> PDB<'s, S> {
         ensures failed { IsErrOf result Error.IoError → MayFail self.old self.new }
         ensures answer { self.new.told ≡ true → Gives (λ d. d) (MayFail self.old self.new) result (debug_information_in self.old.file) }
     {
-        let stream = self.msf.get(DBI_STREAM, None)?;
+        let stream = self.debug_stream()?;
         let information = DebugInformation::parse(stream)?;
         self.header = Some(information.header());
         Ok(information)

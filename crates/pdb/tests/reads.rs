@@ -190,6 +190,19 @@ fn the_header_of_the_whole_is_kept(rt: HostRuntime) -> Result<()> {
 }
 
 #[test]
+fn the_dbi_stream_is_read_once(rt: HostRuntime) -> Result<()> {
+    let bytes = file_of(rt.alloc(), &SAMPLE)?;
+    let asked = Asked::new();
+    let mut pdb = opened(rt.alloc(), &bytes, &asked)?;
+    reads(&rt, &asked, None, (4, 7));
+    let (first, second) = (pdb.debug_information()?, pdb.debug_information()?);
+    reads(&rt, &asked, None, (1, DBI));
+    is(&rt, "again", &second.header().age, &first.header().age);
+    reads(&rt, &asked, pdb.sections().err(), (1, SECTIONS));
+    Ok(())
+}
+
+#[test]
 fn symbols_need_the_front_alone(rt: HostRuntime) -> Result<()> {
     let bytes = file(rt.alloc(), 1, 5)?;
     let asked = Asked::new();
@@ -233,7 +246,7 @@ fn the_other_accessors_read_their_streams_alone(rt: HostRuntime) -> Result<()> {
     let frames = pdb.frame_table()?;
     is(&rt, "older", &frames.old_stream().is_some(), &true);
     is(&rt, "newer", &frames.new_stream().is_some(), &true);
-    reads(&rt, &asked, None, (3, DBI | TYPES | IDS));
+    reads(&rt, &asked, None, (2, TYPES | IDS));
     reads(&rt, &asked, pdb.address_map().err(), (1, SECTIONS));
     Ok(())
 }

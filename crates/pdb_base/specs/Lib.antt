@@ -8,6 +8,7 @@ pub mod SectionOrder
 pub mod Left
 pub mod Tiling
 pub mod Reading
+pub mod Shared
 pub mod Source
 pub mod Container
 pub mod Joined

@@ -97,7 +97,7 @@ impl<'s, S: Source<'s>> Msf<'s, S> {
             self.pages_used,
             size as usize,
         )?;
-        Ok(Stream::of(view))
+        Ok(Stream::of(self.alloc, view)?)
     }
 
     /// How many streams the directory lists, absent ones too. `UnexpectedEof` where the directory ends before their

@@ -1,11 +1,12 @@
 //! Where a file's bytes come from.
 
-ghost use Rattle.std.specs.Prelude.{◌≡◌, ℕ, ◌+◌, ◌^◌, ◌<◌, ◌≤◌, ◌↔◌, IsErrOf, List, length, true, false, IfOk, IsOk, OnOk, ◌++◌};
+ghost use Rattle.std.specs.Prelude.{◌≡◌, ℕ, ◌+◌, ◌^◌, ◌<◌, ◌≤◌, ◌↔◌, IsErrOf, List, length, true, false, IfOk, IsOk};
 ghost use Rattle.std.specs.List.{list_all, flat_map, sum_by};
 ghost use Rattle.pdb_base.specs.Refusal.{Gives};
 ghost use Rattle.pdb_base.specs.Source.{State, Continues, MayFail, view_bytes, viewed, is_inside, slice_bytes, IsLent, in_memory};
 
 use crate::error::{Error, Result};
+use crate::part::append;
 use std::alloc::{AllocError, Global};
 use std::marker::Model;
 
@@ -107,22 +108,6 @@ fn part<'b>(bytes: &'b [u8], s: SourceSlice) -> &'b [u8]
 {
     let start = s.offset as usize;
     &bytes[start..start + s.size]
-}
-
-/// How many bytes are copied at a time.
-const PIECE: usize = 4096;
-
-/// Puts bytes behind those that are there.
-fn append(all: &mut Vec<u8>, bytes: &[u8]) -> std::result::Result<(), AllocError>
-    ensures { OnOk result (all.new.items ≡ all.old.items ++ bytes.now) }
-{
-    let mut rest = bytes;
-    while rest.len() > PIECE {
-        let (piece, behind) = rest.split_at(PIECE);
-        all.extend_from_slice(piece)?;
-        rest = behind;
-    }
-    all.extend_from_slice(rest)
 }
 
 fn copied(

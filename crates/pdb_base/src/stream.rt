@@ -1,16 +1,33 @@
 //! A stream: a list of bytes.
 
-ghost use Rattle.std.specs.Prelude.{◌≡◌, ◌<◌, length, IsSome, IfSome, ◌↔◌};
+ghost use Rattle.std.specs.Prelude.{◌≡◌, ◌<◌, length, IsSome, IfSome, IfOk, ◌↔◌};
 ghost use Rattle.pdb_base.specs.Source.{view_bytes};
+ghost use Rattle.pdb_base.specs.Shared.{shared_bytes};
 
 use crate::buffer::ParseBuffer;
 use crate::source::View;
+use std::alloc::{AllocError, Global};
 use std::marker::Model;
+use std::sync::Arc;
 
-/// The bytes of a stream of the container, fewer than 4294967295. A contract sees it as the list of its bytes.
+/// Bytes that clones share.
 #[derive(Drop)]
+enum Shared<'s> {
+    Borrowed(&'s [u8]),
+    Owned(Arc<Vec<u8>>),
+}
+
+/// The bytes of a stream of the container, fewer than 4294967295. A clone copies none of them. A contract sees it as
+/// the list of its bytes.
 pub struct Stream<'s> {
-    view: View<'s>,
+    bytes: Shared<'s>,
+}
+
+// By hand: what drops a stream takes one step, and doesn't see in which form its bytes are held.
+impl Drop for Stream<'_> {
+    fn drop(self) {
+        let Stream { bytes: _ } = self;
+    }
 }
 
 impl<'s> Model for Stream<'s> {
@@ -18,11 +35,11 @@ impl<'s> Model for Stream<'s> {
 
     ghost Value = { List ℕ };
 
-    ghost use Rattle.pdb_base.specs.Source.{view_bytes};
+    ghost use Rattle.pdb_base.specs.Shared.{shared_bytes};
 
-    ghost view = { λ s. view_bytes s.view };
+    ghost view = { λ s. shared_bytes s.bytes };
 
-    ghost invariant = { λ s. length (view_bytes s.view) < 4294967295 };
+    ghost invariant = { λ s. length (shared_bytes s.bytes) < 4294967295 };
 }
 
 impl<'s> Stream<'s> {
@@ -35,15 +52,19 @@ impl<'s> Stream<'s> {
             return None;
         }
         Some(Stream {
-            view: View::Borrowed(bytes),
+            bytes: Shared::Borrowed(bytes),
         })
     }
 
-    pub(crate) fn of(view: View<'s>) -> Self
+    pub(crate) fn of(alloc: Global, view: View<'s>) -> Result<Self, AllocError>
         requires { length (view_bytes view) < 4294967295 }
-        ensures { result ≡ view_bytes view.entry }
+        ensures { IfOk result (λ s. s ≡ view_bytes view.entry) }
     {
-        Stream { view }
+        let bytes = match view {
+            View::Borrowed(bytes) => Shared::Borrowed(bytes),
+            View::Owned(bytes) => Shared::Owned(Arc::new(alloc, bytes)?),
+        };
+        Ok(Stream { bytes })
     }
 
     /// The stream's bytes.
@@ -51,7 +72,10 @@ impl<'s> Stream<'s> {
         ensures bytes { result.now ≡ self.now }
         ensures small { length self.now < 4294967295 }
     {
-        self.view.as_slice()
+        match &self.bytes {
+            Shared::Borrowed(bytes) => bytes,
+            Shared::Owned(bytes) => bytes.as_slice(),
+        }
     }
 
     /// A buffer over the stream's bytes, at their start.
@@ -60,5 +84,17 @@ impl<'s> Stream<'s> {
         ensures small { length self.now < 4294967295 }
     {
         ParseBuffer::from(self.as_slice())
+    }
+}
+
+impl Clone for Stream<'_> {
+    ghost is_clone = { λ s copy. copy ≡ s };
+
+    fn clone(&self) -> Result<Self, AllocError> {
+        let bytes = match &self.bytes {
+            Shared::Borrowed(bytes) => Shared::Borrowed(bytes),
+            Shared::Owned(bytes) => Shared::Owned(bytes.clone()?),
+        };
+        Ok(Stream { bytes })
     }
 }

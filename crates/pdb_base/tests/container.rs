@@ -359,3 +359,18 @@ fn other_formats_are_named(rt: HostRuntime) -> Result<()> {
     );
     Ok(())
 }
+
+/// A stream of neighbouring pages is borrowed, one of others copied.
+#[test]
+fn a_clone_has_the_bytes_of_its_stream(rt: HostRuntime) -> Result<()> {
+    for pages in [[2, 3], [3, 2]] {
+        let mut bytes = file(rt.alloc(), 512)?;
+        put(&mut bytes, 4 * 512 + 20, pages[0]);
+        put(&mut bytes, 4 * 512 + 24, pages[1]);
+        let clone = open(rt.alloc(), &bytes)?.get(0, None)?.clone()?;
+        is(&rt, "bytes", &clone.as_slice().len(), &556);
+        let ends = [clone.as_slice()[0], clone.as_slice()[555]];
+        is(&rt, "first and last", &ends, &pages.map(|page| page as u8));
+    }
+    Ok(())
+}

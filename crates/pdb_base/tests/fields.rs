@@ -1,4 +1,5 @@
 use super::is;
+use crate::part::append;
 use crate::*;
 use std::borrow::CowStr;
 use std::test::Fail;
@@ -390,5 +391,21 @@ fn refusals_are_numbered_and_named(rt: HostRuntime) -> std::result::Result<(), F
         &Part::LinesBlock.as_str(),
         &("DebugLinesBlock"),
     );
+    Ok(())
+}
+
+#[test]
+fn bytes_are_put_behind_others(rt: HostRuntime) -> Result<()> {
+    let mut many = Vec::new(rt.alloc());
+    for n in 0..10_000u32 {
+        many.push((n % 251) as u8)?;
+    }
+    let mut all = Vec::new(rt.alloc());
+    for part in [&b"front"[..], many.as_slice(), &[][..]] {
+        append(&mut all, part)?;
+    }
+    is(&rt, "how many", &all.len(), &10_005);
+    is(&rt, "front", &&all[..5], &&b"front"[..]);
+    is(&rt, "behind it", &&all[5..], &many.as_slice());
     Ok(())
 }

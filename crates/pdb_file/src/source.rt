@@ -11,6 +11,7 @@ ghost use Rattle.pdb_file.specs.declared.run.Run.{Run};
 use crate::held::Held;
 use crate::reading::{FetchError, ReadAt, fetch};
 use bumpalo::Bump;
+use pdb_base::part::append;
 use pdb_base::{Error, Meaning, Result, Source, SourceSlice, View};
 use std::alloc::{AllocError, Global};
 use std::marker::Model;
@@ -129,22 +130,6 @@ fn front<'b>(bytes: &'b [u8], most: usize) -> &'b [u8]
     } else {
         bytes
     }
-}
-
-/// How many bytes are copied at a time.
-const PIECE: usize = 4096;
-
-/// Puts bytes behind those that are there.
-fn append(all: &mut Vec<u8>, bytes: &[u8]) -> std::result::Result<(), AllocError>
-    ensures { OnOk result (all.new.items ≡ all.old.items ++ bytes.now) }
-{
-    let mut rest = bytes;
-    while rest.len() > PIECE {
-        let (piece, behind) = rest.split_at(PIECE);
-        all.extend_from_slice(piece)?;
-        rest = behind;
-    }
-    all.extend_from_slice(rest)
 }
 
 /// A slice where it stands in one run.

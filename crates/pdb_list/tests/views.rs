@@ -104,7 +104,7 @@ fn fails_in_turn(
     let whole = joined(alloc, texts)?;
     let mut last = 0;
     let views = views_of(rt, alloc, commands)?;
-    is(rt, "each command asks for a view", &(views >= 16), &true);
+    is(rt, "each command asks for a view", &(views >= 14), &true);
     for k in 4..=views {
         let mut out = Slow::new(alloc, 4096, 4096);
         let source = FailingSource::new(MemorySource::new(&file), k);

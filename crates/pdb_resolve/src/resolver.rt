@@ -34,15 +34,26 @@ use std::slice;
 /// What code stands at the addresses of a file: which functions, inlined ones too, and which lines. What is read of the
 /// file is kept: the list of modules and the address map from the start, all else from where it is first needed. Each
 /// result is that of the file's bytes, whatever was asked before. A contract sees it as the state of its source.
-#[derive(Drop)]
 pub struct Resolver<'a, 's, S: Meaning> {
     alloc: Global,
     pdb: PDB<'s, S>,
     places: AddressPlaces<'s>,
-    // In a box, so that a caller's resolver is dropped whole.
     kept: Box<KeptFile<'a, 's>>,
     // The text that is put down next; what it had before counts for nothing.
     text: Vec<u8>,
+}
+
+// By hand: what drops a resolver takes one step, and doesn't see what is kept.
+impl<'a, 's, S: Meaning> Drop for Resolver<'a, 's, S> {
+    fn drop(self) {
+        let Resolver {
+            alloc: _,
+            pdb: _,
+            places: _,
+            kept: _,
+            text: _,
+        } = self;
+    }
 }
 
 impl<'a, 's, S: Meaning> Model for Resolver<'a, 's, S> {

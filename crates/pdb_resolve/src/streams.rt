@@ -6,7 +6,6 @@ use std::marker::Model;
 
 /// Buffers for the streams of a file that a `Resolver` reads. It borrows them from here, and makes as many buffers as
 /// the file has modules. A contract sees how many those are.
-#[derive(Drop)]
 pub struct Streams<'s> {
     pub(crate) information: Option<DebugInformation<'s>>,
     pub(crate) strings: Option<StringTable<'s>>,
@@ -14,6 +13,20 @@ pub struct Streams<'s> {
     pub(crate) types: Option<TypeInformation<'s>>,
     pub(crate) ids: Option<IdInformation<'s>>,
     pub(crate) modules: Vec<Option<Box<ModuleInfo<'s>>>>,
+}
+
+// By hand, as that of `Resolver`.
+impl Drop for Streams<'_> {
+    fn drop(self) {
+        let Streams {
+            information: _,
+            strings: _,
+            globals: _,
+            types: _,
+            ids: _,
+            modules: _,
+        } = self;
+    }
 }
 
 impl<'s> Model for Streams<'s> {

@@ -1,7 +1,6 @@
 use Rattle.std.proofs.Common.{◌≤◌, ◌∙◌, arith, ap, length}
 use Rattle.pdb_base.specs.Container.{head_of}
 use Rattle.pdb_base.specs.Heads.{head}
-use Rattle.std.proofs.lemmas.List.{length-take}
 use Rattle.pdb_base.proofs.Passing.{gives_weaken}
 use Rattle.pdb_base.proofs.HeadLemmas.{one_ok, front_fails, head-front}
 use Rattle.pdb_base.proofs.directory.read_head.Goals as goal

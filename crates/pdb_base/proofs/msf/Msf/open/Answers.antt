@@ -2,7 +2,7 @@ use Rattle.std.proofs.Common.{arith, ap, refl, length}
 use Rattle.std.proofs.lemmas.Result.{err_from_is_err_and}
 use Rattle.pdb_base.specs.Heads.{head}
 use Rattle.pdb_base.proofs.Passing.{unsteady_before}
-use Rattle.pdb_base.proofs.OpenLemmas.{list-length, open-head_fails, open-list_fails, open-directory_fails, open-done, opens-done}
+use Rattle.pdb_base.proofs.OpenLemmas.{open-head_fails, open-list_fails, open-directory_fails, open-done, opens-done}
 use Rattle.pdb_base.proofs.msf.Msf.open.Goals as goal
 
 pub returns-in_err-head-clause-answer : goal.returns-in_err-head-clause-answer

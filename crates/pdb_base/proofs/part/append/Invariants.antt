@@ -1,5 +1,5 @@
 use Rattle.std.proofs.Common.{◌≡◌, ◌++◌, length}
-use Rattle.pdb_file.proofs.source.append.Given as goal
+use Rattle.pdb_base.proofs.part.append.Given as goal
 
 -- what is there, and what is left of the bytes
 abbrev pub invariant-loop-rest : goal.invariant-loop-rest
