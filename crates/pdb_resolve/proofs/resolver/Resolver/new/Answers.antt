@@ -7,14 +7,14 @@ use Rattle.pdb_resolve.proofs.Continuing.{unasked_is}
 use Rattle.pdb_resolve.proofs.resolver.Resolver.new.Goals as goal
 
 -- what is kept of a file of which nothing more was asked for
-pub invariant_of-result-3 : goal.invariant_of-result-3
-invariant_of-result-3 g c =
+pub invariant_of-result-2 : goal.invariant_of-result-2
+invariant_of-result-2 g c =
     let s = c.address_map_of.new.pdb in
     let first = c.information_of.ensures.continues in
     let second = c.address_map_of.ensures.continues in
     let information : s.told ≡ true → option_copied c.in_ok-information.information ≡ if_read (debug_information_in s.file) =
     λ told. c.in_ok-information.ensures.is (second.told told) ∙ ap (λ file. if_read (debug_information_in file)) (sym (second.file ∙ first.file)) in
-    rw (c.pdb-2.view_is, c.in_ok-new.ensures.ok) (
+    rw c.in_ok-new.ensures.ok (
       λ told. c.places.view_is ∙ (c.new-places.ensures ∙ (c.in_ok-address_map_of.ensures.is told ∙ ap (λ file. if_read (address_map_in file)) (sym second.file))),
       record {
         module_places = λ told. ap (λ m. m.stream) c.new-module_places.ensures ∙ information told;
