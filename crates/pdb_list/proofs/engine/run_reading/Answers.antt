@@ -10,7 +10,7 @@ use Rattle.pdb_list.proofs.engine.run_reading.Given as given
 use Rattle.pdb_list.proofs.engine.run_reading.Goals as goal
 
 -- what was written of the texts
-wrote : (g : given.Over) (c : goal.After-drop-pdb-inside-3 g) → IsKnown (g.S.Meaning.state c.args.source)
+wrote : (g : given.Over) (c : goal.After-drop-pdb g) → IsKnown (g.S.Meaning.state c.args.source)
     → Wrote (command_text (g.S.Meaning.state c.args.source).file) (g.W.Write.contents c.args.out.now) (g.W.Write.contents c.write_all.new.out) c.args.commands.now c.write_all.result
 wrote g c known =
     let on = c.in-Ok.ensures.continues in
