@@ -1,6 +1,5 @@
 -- What is kept of a file stays what the file says while more of it is read.
-use Rattle.std.proofs.Common.{◌≡◌, ◌<◌, List, ℕ, Bool, true, false, true≢false, length, None, Some, Option, sym, ap, ◌∙◌, subst, refl}
-use Rattle.std.specs.Prelude.{option_copied}
+use Rattle.std.proofs.Common.{◌≡◌, ◌<◌, List, ℕ, Bool, true, false, true≢false, length, None, Some, Option, sym, ap, ◌∙◌, subst}
 use Rattle.pdb.specs.Source.{State, Continues}
 use Rattle.pdb.specs.Container.{stream_of}
 use Rattle.pdb.specs.Answers.{debug_information_in, global_symbols_in, string_table_in}

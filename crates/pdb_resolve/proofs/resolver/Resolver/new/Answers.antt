@@ -1,6 +1,5 @@
 use Rattle.std.proofs.Common.{◌≡◌, true, sym, ap, ◌∙◌, arith}
 use Rattle.std.specs.Prelude.{option_copied}
-use Rattle.pdb.specs.Source.{State}
 use Rattle.pdb.specs.Answers.{address_map_in, debug_information_in}
 use Rattle.pdb_resolve.specs.AsIfEmpty.{if_read}
 use Rattle.pdb_resolve.proofs.Continuing.{unasked_is}
