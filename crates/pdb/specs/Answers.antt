@@ -221,7 +221,7 @@ abbrev pub AreMade : State → List Made → Type 0
 AreMade old [] = Unit {0}
 AreMade old (m ∷ others) = (m.before ≡ old) × GoesOn m × AreMade m.behind others
 
--- what a call gave is its answer for this file alone, or want of memory, or the failure that its source told in that call,
+-- what a call gave is its answer for this file alone, or out of memory, or the failure of its source in that call,
 -- where all that was read is the file's
 abbrev pub IsAnswered : List ℕ → Made → Type 0
 IsAnswered file m = m.behind.told ≡ true → Gives (λ x. x) (MayFail m.before m.behind) m.given (answer file m.call)

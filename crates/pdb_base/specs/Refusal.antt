@@ -55,7 +55,7 @@ abbrev pub Answers : {X Y : Type 0} → (X → Y) → Result X Error → Result 
 Answers view (Ok x) read = read ≡ Ok (view x)
 Answers view (Err e) read = (read ≡ Err e) × (e ≢ OutOfMemory) × (e ≢ IoError)
 
--- What an error says where reading gives read: want of memory at any time, that the source
+-- What an error says where reading gives read: out of memory at any time, that the source
 -- failed only where io holds, and else what reading is refused for.
 abbrev pub Fails : {Y : Type 0} → Type 0 → Error → Result Y Error → Type 0
 Fails io IoError read = io

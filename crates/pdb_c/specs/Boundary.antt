@@ -12,7 +12,7 @@ room_code room needed = if nat_lt room needed then 31 else 0
 abbrev pub both_code : ℕ → ℕ → ℕ
 both_code rows room = if rows == 0 then room else rows
 
--- the code of a refused call: the refusal's number, or 22 for want of memory
+-- the code of a refused call: the refusal's number, or 22 for out of memory
 abbrev pub IsRefused : ℕ → Error → Type 0
 IsRefused code e = (code ≡ number_of e) ⊎ (code ≡ 22)
 

@@ -51,7 +51,7 @@ texts file commands = flat_map (command_text file) commands
 
 -- ---- a run that stopped
 
--- a file that can't be opened; want of memory is told as such
+-- a file that can't be opened; out of memory is an error of its own
 abbrev pub run_error_of : Error → RunError
 run_error_of OutOfMemory = run.OutOfMemory
 run_error_of e = run.Open e

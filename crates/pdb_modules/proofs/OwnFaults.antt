@@ -1,4 +1,4 @@
--- Faults of blocks of lines: they are the bytes' own, neither want of memory nor a failure of the source.
+-- Faults of blocks of lines: they are the bytes' own, neither out of memory nor a failure of the source.
 use Rattle.std.proofs.Common.{◌≡◌, ◌≢◌, ℕ, ◌+◌, ◌-◌, ◌*◌, Bool, true, false, cond, List, [], ◌∷◌, length, take, drop, Option, Some, None, Result, Ok, Err, sym, ◌∙◌}
 use Rattle.std.specs.Prelude.{nat_le, nat_lt}
 use Rattle.std.specs.Option.{ForSome}

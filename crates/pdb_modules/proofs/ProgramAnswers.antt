@@ -23,7 +23,7 @@ program_fails b e h = fails_first e (parts_of b) (λ ps. Ok (made_of b ps)) h
 memory_fails : (e : Error) (r : Result ProgramOf Error) → e ≡ OutOfMemory → Fails ⊥ e r
 memory_fails e r is = subst (λ (e : Error). Fails ⊥ e r) (sym is) tt
 
--- the program of these parts, or want of memory
+-- the program of these parts, or out of memory
 pub program_gives : (b : List ℕ) (ps : PartsOf) (r : Result ProgramOf Error) → parts_of b ≡ Ok ps → IfOk r (λ p. p ≡ made_of b ps) → IfErr r (λ e. e ≡ OutOfMemory) → Gives (λ (p : ProgramOf). p) ⊥ r (program_of b)
 unfolding program_of
 program_gives b ps (Ok p) parts is refused = ap (λ (r : Result PartsOf Error). r >>= (λ ps. Ok (made_of b ps))) parts ∙ ap Ok (sym is)

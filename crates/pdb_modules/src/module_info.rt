@@ -208,8 +208,8 @@ impl<'s> ModuleInfo<'s> {
     }
 
     /// What the module exports to others, by its first part of exports. It fails as `inlinees` does, with
-    /// `InvalidStreamLength(CrossScopeExports)` where that part's size is no multiple of eight, and for want of
-    /// memory.
+    /// `InvalidStreamLength(CrossScopeExports)` where that part's size is no multiple of eight, and with
+    /// `OutOfMemory`.
     #[tactic(auto, unfolding(crate::specs::ModuleStream::exports_of))]
     pub fn exports(&self, alloc: Global) -> Result<CrossModuleExports>
         ensures exports { Gives (λ x. x) ⊥ result (exports_of self.now) }

@@ -24,7 +24,7 @@ abbrev pub if_found : {A : Type 0} → Result (Option A) Error → Option A
 if_found (Ok x) = x
 if_found (Err e) = None
 
--- the only refusals that are passed on: want of memory at any time, and that the source failed, where io holds
+-- the only refusals that are passed on: out of memory at any time, and that the source failed, where io holds
 abbrev pub OnlyFails : Type 0 → Error → Type 0
 OnlyFails io OutOfMemory = Unit {0}
 OnlyFails io IoError = io
