@@ -71,15 +71,14 @@ fn sample(alloc: Global) -> Result<Vec<u8>> {
     file_of(alloc, &all)
 }
 
-/// A resolver of a file, with buffers for its streams. It stands in a box, since the borrow checker doesn't cover the
-/// end of a variable that is one.
+/// A resolver of a file, with buffers for its streams.
 fn resolver<'a, 's>(
     alloc: Global,
     file: &'s [u8],
     streams: &'a mut Streams<'s>,
-) -> Result<Box<Resolver<'a, 's, MemorySource<'s>>>> {
+) -> Result<Resolver<'a, 's, MemorySource<'s>>> {
     let pdb = PDB::open(alloc, MemorySource::new(file))?;
-    Ok(Box::new(alloc, Resolver::new(alloc, pdb, streams)?)?)
+    Resolver::new(alloc, pdb, streams)
 }
 
 /// The place's text is what is wanted; where memory ends, nothing is put, and the same call is made again.
@@ -110,7 +109,7 @@ fn made_again<'a, 's>(
     file: &'s [u8],
     streams: &'a mut Streams<'s>,
     others: &'a mut Streams<'s>,
-) -> Result<Box<Resolver<'a, 's, MemorySource<'s>>>> {
+) -> Result<Resolver<'a, 's, MemorySource<'s>>> {
     match resolver(alloc, file, streams) {
         Ok(resolver) => Ok(resolver),
         Err(Error::OutOfMemory) => resolver(alloc, file, others),
