@@ -196,9 +196,6 @@ front_begins file n limit bytes h =
 
 -- ---- a bad number in the front
 
-bind_err : {A B : Type 0} (r : Result A Error) (f : A → Result B Error) (d : Error) (x : A) → r ≡ Ok x → (r >>= f) ≡ Err d → f x ≡ Err d
-bind_err r f d x e h = rw e at h
-
 bytes-no_page : (file ps : List ℕ) (page : ℕ) → bytes_of_places file ps ≡ Err (PageReferenceOutOfRange page) → ⊥
 unfolding bytes_of_places
 bytes-no_page file ps page h = by_test (list_all (λ p. nat_lt p (length file)) ps) (map (slice_index file) ps) h

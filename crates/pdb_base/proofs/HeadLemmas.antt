@@ -80,9 +80,6 @@ list-short : (file : List ℕ) (h : Head) (count : ℕ) → div_ceil (4 * div_ce
 unfolding list_of
 list-short file h count c lt = let t = lt-ltb (length file) (52 + 4 * count) lt in rw (c, t, or-true) refl
 
-pub list_past : (file : List ℕ) (h : Head) → h.page_size < 52 + 4 * div_ceil (4 * div_ceil h.directory_size h.page_size) h.page_size → list_of file h ≡ Err UnexpectedEof
-list_past file h lt = list-past file h _ refl lt
-
 pub list_fails : (io io' : Type 0) (e : Error) (file : List ℕ) (h : Head) (count : ℕ) → div_ceil (4 * div_ceil h.directory_size h.page_size) h.page_size ≡ count → (io → io')
     → Fails io e (viewed file (record { offset = 52; size = 4 * count } ∷ [])) → Fails io' e (list_of file h)
 list_fails io io' IoError file h count c f p = f p

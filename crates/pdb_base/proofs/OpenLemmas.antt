@@ -1,5 +1,5 @@
 -- Opening a file and reading a stream, step by step.
-use Rattle.std.proofs.Common.{◌≡◌, ℕ, ◌*◌, ◌≤◌, Bool, true, false, cond, List, length, map, Option, Some, None, Result, Ok, Err, refl, ap, ◌∙◌, arith}
+use Rattle.std.proofs.Common.{◌≡◌, ℕ, ◌*◌, Bool, true, false, cond, List, length, map, Option, Some, None, Result, Ok, Err, refl, ap, ◌∙◌}
 use Rattle.std.specs.Prelude.{slice_index, ◌+◌, ◌&&◌, ◌==◌, IfErr, nat_lt, nat_le, not, if◌then◌else◌}
 use Rattle.std.specs.List.{find, list_all}
 use Rattle.std.specs.Int.{div_ceil}
@@ -19,10 +19,6 @@ use Rattle.pdb_base.proofs.Passing.{fails_bind}
 bind_ok : {A B : Type 0} (r : Result A Error) (f : A → Result B Error) (y : B) → (r >>= f) ≡ Ok y → (x : A) × (r ≡ Ok x) × (f x ≡ Ok y)
 bind_ok (Ok x) f y e = (x, refl, e)
 bind_ok (Err d) f y e = absurd cc
-
-guard_ok : {A : Type 0} (b : Bool) (d : Error) (r : Result A Error) (y : A) → cond b (Err d) r ≡ Ok y → r ≡ Ok y
-guard_ok true d r y e = absurd cc
-guard_ok false d r y e = e
 
 test_ok : {A : Type 0} (b : Bool) (d : Error) (x y : A) → cond b (Ok x) (Err d) ≡ Ok y → y ≡ x
 test_ok true d x y e = cc
@@ -45,10 +41,6 @@ unfolding paged
 paged-length file P used pages size bytes e =
     let b = bind_ok (tested P used pages size) (bytes_of_places file) bytes e in
     bytes_of_places-length file b.0 bytes b.2 ∙ tested-length P used pages size b.0 b.1
-
-pub list-length : (file : List ℕ) (h : Head) (bytes : List ℕ) → list_of file h ≡ Ok bytes → length bytes ≡ 4 * div_ceil h.directory_size h.page_size
-unfolding list_of
-list-length file h bytes e = paged-length file h.page_size h.pages_used _ (4 * div_ceil h.directory_size h.page_size) bytes (guard_ok _ UnexpectedEof _ bytes e)
 
 -- ---- open
 
@@ -103,10 +95,6 @@ get-is file o n size m limit pages eo es lim ep = rw (eo, es, ← lim, ep) refl
 pub needed-there : (file : List ℕ) (o : Opened) (n size m : ℕ) (limit : Option ℕ) (pages : List ℕ) → open_of file ≡ Ok o → size_of o.directory n ≡ Ok size → m ≡ limited limit size → pages_at o.directory o.page_size n m ≡ Ok pages → IsOk (pages_needed file n limit)
 unfolding pages_needed
 needed-there file o n size m limit pages eo es lim ep = rw (eo, es, ← lim, ep) refl
-
-pub limited-le : (limit : Option ℕ) (size : ℕ) → limited limit size ≤ size
-limited-le None size = omega arith
-limited-le (Some limit) size = omega arith
 
 -- ---- what refuses a stream of a file that opens
 

@@ -21,9 +21,6 @@ fails_bind io io' IoError read next f h = f h
 fails_bind io io' OutOfMemory read next f h = tt
 fails_bind io io' e read next f h = rw h refl
 
-pub continues_refl : (a : State) → Continues a a
-continues_refl a = record { file = refl; rises = omega arith; steady = λ h. (h, refl); told = λ h. h; known = λ h. h }
-
 pub continues_then : (a b c : State) → Continues a b → Continues b c → Continues a c
 continues_then a b c p q = record {
   file = q.file ∙ p.file;
@@ -45,16 +42,6 @@ may_after a b c p m = record {
   unsteady = unsteady_before a b p m.unsteady;
   told = elim m.told [ inl h ↦ inl (omega arith) | inr h ↦ inr h ];
 }
-
-pub may_before : (a b c : State) → MayFail a b → Continues b c → MayFail a c
-may_before a b c m q = record {
-  unsteady = m.unsteady;
-  told = elim m.told [ inl h ↦ inl (omega arith) | inr h ↦ inr (omega arith) ];
-}
-
--- a last step's answer is the answer of all
-pub gives_then : {X A B : Type 0} (view : X → B) (io io' : Type 0) (r : Result X Error) (read : Result A Error) (x : A) (next : A → Result B Error) → read ≡ Ok x → (io → io') → Gives view io r (next x) → Gives view io' r (read >>= next)
-gives_then view io io' r read x next e f h = rw e (gives_weaken view io io' r (next x) f h)
 
 -- a read at a place answers what stands there
 pub answers_reads : {X Y : Type 0} (view : X → Y) (old new : Cursor) (r : Result X Error) (there read : Result Y Error) (width : Y → ℕ) → there ≡ read → Reads view old new r there width → Answers view r read

@@ -30,7 +30,7 @@ pub use index::{
 pub use iterator::FallibleIterator;
 pub use msf::Msf;
 pub use section_header::ImageSectionHeader;
-pub use source::{Meaning, MemorySource, Source, SourceSlice, View};
+pub use source::{Meaning, MemorySource, Source, SourceSlice, View, bytes_in};
 pub use steps::Steps;
 pub use stream::Stream;
 pub use string_table::StringTable;

@@ -1,6 +1,6 @@
 //! Where a file's bytes come from.
 
-ghost use Rattle.std.specs.Prelude.{◌≡◌, ℕ, ◌+◌, ◌^◌, ◌<◌, ◌≤◌, ◌↔◌, IsErrOf, List, length, true, false, IfOk, IsOk};
+ghost use Rattle.std.specs.Prelude.{◌≡◌, ℕ, ◌+◌, ◌-◌, ◌^◌, ◌<◌, ◌≤◌, ◌↔◌, IsErrOf, List, length, min, true, false, IfOk, IsOk};
 ghost use Rattle.std.specs.List.{list_all, flat_map, sum_by};
 ghost use Rattle.pdb_base.specs.Refusal.{Gives};
 ghost use Rattle.pdb_base.specs.Source.{State, Continues, MayFail, view_bytes, viewed, is_inside, slice_bytes, IsLent, in_memory};
@@ -17,6 +17,17 @@ pub struct SourceSlice {
     pub offset: u64,
     /// How many bytes it has.
     pub size: usize,
+}
+
+/// How many bytes slices have together, up to `usize::MAX`.
+pub fn bytes_in(slices: &[SourceSlice]) -> usize
+    ensures { result ≡ min (sum_by (λ s. s.size) slices.now) (2 ^ 64 - 1) }
+{
+    let mut size = 0usize;
+    for slice in slices {
+        size = size.saturating_add(slice.size);
+    }
+    size
 }
 
 /// Bytes of the file, borrowed or copied.
@@ -118,7 +129,7 @@ fn copied(
     requires { list_all (is_inside bytes.now) slices.now ≡ true }
     ensures { IfOk result (λ all. all.items ≡ flat_map (slice_bytes bytes.now) slices.now) }
 {
-    let mut all = Vec::new(alloc);
+    let mut all = Vec::with_capacity(alloc, bytes_in(slices))?;
     for s in slices {
         append(&mut all, part(bytes, *s))?;
     }

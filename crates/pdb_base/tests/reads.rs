@@ -157,6 +157,14 @@ fn a_run_of_pages_is_one_slice(rt: HostRuntime) -> Result<()> {
 }
 
 #[test]
+fn sizes_of_slices_add_up(rt: HostRuntime) {
+    let [one, none, two, most] = [1, 0, 2, usize::MAX].map(|size| SourceSlice { offset: 9, size });
+    assert!(rt; bytes_in(&[]) == 0);
+    assert!(rt; bytes_in(&[two, none, one]) == 3);
+    assert!(rt; bytes_in(&[two, most, one]) == usize::MAX);
+}
+
+#[test]
 fn memory_lends_one_slice(rt: HostRuntime) -> Result<()> {
     let mut source = MemorySource::new(b"abcdef");
     let (front, end) = (

@@ -1,7 +1,6 @@
 -- Runs that can be held, and what is held with them.
-use Rattle.std.proofs.Common.{◌≡◌, ℕ, ◌+◌, ◌-◌, ◌<◌, ◌≤◌, ⊎_elim, List, length, get_or, Option, Some, None, Bor, ◌∙◌, arith}
-use Rattle.std.specs.Prelude.{IfSome}
-use Rattle.std.specs.List.{All, AllPairs, Any, insert}
+use Rattle.std.proofs.Common.{◌≡◌, ℕ, ◌+◌, ◌-◌, ◌<◌, ◌≤◌, ⊎_elim, List, length, get_or, ◌∙◌, arith}
+use Rattle.std.specs.List.{AllPairs, Any, insert}
 use Rattle.std.proofs.lemmas.List.Edits.{get_or-insert_above, get_or-insert_at, get_or-insert_below, length-insert}
 use Rattle.std.proofs.lemmas.Bool.{cases_lt}
 use Rattle.std.proofs.lemmas.Grind.{common_steps}
@@ -57,12 +56,6 @@ free_between k i r kept filled inside le last next = record {
       (cases_lt held.0 i);
 }
 
--- what is found in a run of the list ends where that ends
-pub ends_in : (o : Option (Bor (List ℕ))) (at : ℕ) (xs : List Run) (i : ℕ) (run : Run) → i < length xs → get_or xs i run ≡ run
-    → IfSome o (λ p. (run.at ≤ at) × (at + length p.now ≡ end_of run)) → IfSome o (λ p. Any (λ r. (r.at ≤ at) × (at + length p.now ≡ end_of r)) xs)
-ends_in None at xs i run lt same h = tt
-ends_in (Some p) at xs i run lt same h = (i, run, lt, same, h)
-
 -- so each byte of it is held
 pub found_held : (k : Kept) (at n m from : ℕ) → Any (λ r. (r.at ≤ at) × (at + n ≡ end_of r)) k.runs → from ≡ at → m ≤ n → AreHeld k from (from + m)
 found_held k at n m from found e le = λ place low high. (found.0, found.1, found.2, found.3, (omega (arith, found.4.0, low, e), omega (arith, found.4.1, high, le, e)))
@@ -100,14 +93,3 @@ held_then k n r from at end w front begins ends = λ place low high. ⊎_elim
     (λ less. with_more k n r w place (front place low less))
     (λ behind. with_all k n r w place (omega (arith, behind, begins), omega (arith, high, ends)))
     (cases_lt place at)
-
--- a run from an offset that isn't held to where the next one begins can be held
-pub gap_is_free : (k : Kept) (at end : ℕ) (r : Run) → r.at ≡ at → end_of r ≡ end → at < end → end ≤ k.size → (IsHeldAt k at → ⊥) → All (λ s. at < s.at → end ≤ s.at) k.runs → IsFree k r
-gap_is_free k at end r begins ends less fits missing next = record {
-  filled = omega (arith, begins, ends, less);
-  inside = omega (arith, ends, fits);
-  apart = λ place has held. ⊎_elim
-      (λ behind. let far = next held.0 held.1 held.2 (rw (← held.3) at behind) in let far' = rw held.3 at far in absurd (omega (arith, far', held.4.0, has.1, ends)))
-      (λ before. missing (held.0, held.1, held.2, held.3, (before, omega (arith, held.4.1, has.0, begins))))
-      (cases_lt at held.1.at);
-}

@@ -1,5 +1,5 @@
 -- Parts of a file, and what loops over them go on with.
-use Rattle.std.proofs.Common.{◌≡◌, ℕ, ◌+◌, ◌<◌, ◌≤◌, List, ◌++◌, length, length-append, get_or, take, drop, refl, sym, ap, ◌∙◌, append_assoc, flat_map, arith}
+use Rattle.std.proofs.Common.{◌≡◌, ℕ, ◌+◌, ◌≤◌, List, ◌++◌, length, length-append, take, drop, refl, sym, ap, ◌∙◌, append_assoc, arith}
 use Rattle.std.proofs.Math.Seq.{take-add}
 use Rattle.pdb_base.specs.declared.source.SourceSlice.{SourceSlice}
 use Rattle.pdb_base.specs.Source.{slice_bytes}
@@ -48,11 +48,6 @@ copied_more file a x y p o done ex ey ep =
     let d : take n (drop done (drop o file)) ≡ p = ap (take n) (sym (drop_drop o done file)) ∙ sym ep in
     let e : take (done + n) (drop o file) ≡ take done (drop o file) ++ p = take-add done n (drop o file) ∙ ap (λ (l : List ℕ). take done (drop o file) ++ l) d in
     ey ∙ ap (λ (l : List ℕ). l ++ p) ex ∙ append_assoc a (take done (drop o file)) p ∙ ap (λ (l : List ℕ). a ++ l) (sym e)
-
-pub copied_next : {X : Type 0} (f : X → List ℕ) (x y : List ℕ) (xs : List X) (i : ℕ) (d : X) → i < length xs → x ≡ flat_map f (take i xs) → y ≡ x ++ f (get_or xs i d) → y ≡ flat_map f (take (i + 1) xs)
-copied_next f x y xs i d lt ex ey =
-    let e : flat_map f (take (i + 1) xs) ≡ flat_map f (take i xs) ++ f (get_or xs i d) = grind (arith, common_steps) in
-    ey ∙ ap (λ (l : List ℕ). l ++ f (get_or xs i d)) ex ∙ sym e
 
 pub read_part : (file bytes old : List ℕ) (from len n at : ℕ) → IsPart file from old → length old ≡ len → at ≡ from + len → take len bytes ≡ old → IsPart file at (take n (drop len bytes)) → IsPart file from (take (len + n) bytes)
 read_part file bytes old from len n at p el ea front q =

@@ -1,5 +1,5 @@
 -- What a view gives of what is held.
-use Rattle.std.proofs.Common.{◌≡◌, ◌<◌, ◌≤◌, ℕ, [], ◌∷◌, get_or, subst, arith, Bool, true, false, List, Option, Some, None, Result, Ok, Err, refl, sym, ap, ◌∙◌, flat_map}
+use Rattle.std.proofs.Common.{◌≡◌, ◌<◌, ◌≤◌, ℕ, [], ◌∷◌, get_or, subst, arith, Bool, true, false, List, Option, Result, Ok, Err, refl, sym, ap, ◌∙◌, flat_map}
 use Rattle.std.specs.Prelude.{IfErr, OnOk, length}
 use Rattle.std.specs.List.{All, list_all}
 use Rattle.std.proofs.lemmas.List.{get_or_default}
@@ -8,7 +8,7 @@ use Rattle.pdb_base.specs.declared.source.SourceSlice.{SourceSlice}
 use Rattle.pdb_base.specs.declared.error.Error.TheVariants.{UnexpectedEof}
 use Rattle.pdb_base.specs.Source.{Continues, is_inside, slice_bytes, viewed}
 use Rattle.pdb_file.specs.declared.run.Run.{Run}
-use Rattle.pdb_file.specs.HeldBytes.{IsAllHeld, StandsIn, Kept, IsOf, Seen, has_all, is_inside_of, knows, reading, size_where_steady}
+use Rattle.pdb_file.specs.HeldBytes.{IsAllHeld, StandsIn, Kept, IsOf, Seen, has_all, is_inside_of, knows, reading}
 use Rattle.pdb_file.specs.declared.reading.FetchError.{FetchError}
 use Rattle.pdb_file.specs.declared.reading.FetchError.TheVariants.{Memory, Read}
 use Rattle.pdb_file.proofs.Files.{has_known, inside_same, of_told, told_before}
@@ -16,11 +16,6 @@ use Rattle.pdb_file.proofs.Files.{has_known, inside_same, of_told, told_before}
 pub on_ok : {X E : Type 0} (r : Result X E) (P : Type 0) → P → OnOk r P
 on_ok (Ok x) P h = h
 on_ok (Err e) P h = tt
-
-pub steady_known : (steady : Bool) (known : Option (List ℕ)) (size : ℕ) → size_where_steady steady known ≡ Some size → (steady ≡ true) × (file : List ℕ) × (known ≡ Some file) × (length file ≡ size)
-steady_known true (Some file) size h = (refl, file, refl, cc)
-steady_known true None size h = absurd cc
-steady_known false known size h = absurd cc
 
 -- what is known of a file is known of the same file
 pub known_in : (o : Option (List ℕ)) (file : List ℕ) (k : Kept) (n : ℕ) (steady : Bool) (s : Seen) → record { file = file; kept = k; failures = n; steady = steady; known = knows o file } ≡ s → s.known ≡ true → knows o s.file ≡ true

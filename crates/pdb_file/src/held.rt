@@ -1,6 +1,6 @@
 //! The bytes of a file that are held.
 
-ghost use Rattle.std.specs.Prelude.{◌≡◌, ◌↔◌, ℕ, ◌+◌, ◌-◌, ◌<◌, ◌≤◌, ◌⊎◌, List, [], length, min, true, false, get_or, Bool, IfOk, IfErr, IfSome, IsSomeAnd, IsNone};
+ghost use Rattle.std.specs.Prelude.{◌≡◌, ◌↔◌, ℕ, ◌+◌, ◌-◌, ◌<◌, ◌≤◌, ◌⊎◌, List, [], length, max, min, true, false, get_or, Bool, IfOk, IfErr, IfSome, IsSomeAnd, IsNone};
 ghost use Rattle.std.specs.List.{All, AllWithin, Any};
 ghost use Rattle.pdb_file.specs.HeldBytes.{Agrees, IsPart, IsRunOf, IsBefore, IsFree, IsKept, IsWith, HasByte, end_of};
 ghost use Rattle.pdb_file.specs.declared.run.Run.{Run};
@@ -14,6 +14,8 @@ use std::marker::Model;
 pub struct Held<'s> {
     size: u64,
     runs: Vec<Run<'s>>,
+    // How many bytes are held. It only chooses how much is read at once.
+    total: u64,
 }
 
 impl<'s> Model for Held<'s> {
@@ -88,6 +90,7 @@ impl<'s> Held<'s> {
         Held {
             size,
             runs: Vec::new(alloc),
+            total: 0,
         }
     }
 
@@ -138,6 +141,34 @@ impl<'s> Held<'s> {
         }
     }
 
+    /// Where the last run ends that begins at or before an offset, or the offset where that comes first.
+    fn end_before(&self, at: u64) -> u64
+        ensures { result ≤ at }
+    {
+        let last = self.before(at).checked_sub(1);
+        match last.and_then(|index| self.runs.get(index)) {
+            Some(run) => run.at.saturating_add(run.bytes.len() as u64).min(at),
+            None => 0,
+        }
+    }
+
+    /// From which offset to which a part of the file is read. Once a quarter of the file is held, it begins and ends at
+    /// the runs next to the part that are at most `near` bytes away, so that no short gaps are left.
+    pub fn around(&self, from: u64, end: u64, near: u64) -> (u64, u64)
+        ensures { (result.0 ≤ from) × (end ≤ result.1) × (result.1 ≤ max end self.now.size) }
+    {
+        if self.total < self.size / 4 || from >= end {
+            return (from, end);
+        }
+        let last = self.end_before(from);
+        let next = self.next_place(end, self.size);
+        let is_near = next.saturating_sub(end) <= near && self.from_place(end).is_none();
+        (
+            if from - last <= near { last } else { from },
+            if is_near { next.max(end) } else { end },
+        )
+    }
+
     /// Holds a run, unless it has no byte, lies outside of the file, or a byte of it is held; returns whether it does.
     pub fn insert(&mut self, run: Run<'s>) -> Result<bool, AllocError>
         ensures exact { IfOk result (λ b. (b ≡ true) ↔ IsFree self.old run.entry) }
@@ -155,7 +186,9 @@ impl<'s> Held<'s> {
         if !is_before_next(&self.runs, index, &run) {
             return Ok(false);
         }
+        let count = run.bytes.len() as u64;
         self.runs.insert(index, run)?;
+        self.total = self.total.saturating_add(count);
         Ok(true)
     }
 }

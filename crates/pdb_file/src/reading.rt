@@ -90,8 +90,11 @@ impl From<AllocError> for FetchError {
     }
 }
 
-/// How many bytes are read at once at least, and how far apart neighbours are that are read together.
+/// How many bytes are read at once at least.
 const LEAST: u64 = 65536;
+
+/// How far apart neighbours are that are read together.
+const NEAR: u64 = 49152;
 
 /// The bytes at an offset, put in a buffer behind its first ones; returns how many.
 fn read_behind<R: ReadAt>(
@@ -154,7 +157,7 @@ fn read_run<'s, R: ReadAt>(
     Ok(into_bump_slice(bytes))
 }
 
-/// Reads what isn't held from an offset to another.
+/// Reads what isn't held from an offset to another, and short gaps beside it.
 fn fill<'s, R: ReadAt>(
     arena: &'s Bump,
     held: &mut Held<'s>,
@@ -169,7 +172,7 @@ fn fill<'s, R: ReadAt>(
     ensures held { OnOk result (AreHeld held.new from end) }
     ensures steady { R.is_steady input.now ≡ true → ForSome (R.known input.now) (λ F. IsOf F held.old → end ≤ length F → length F < 2 ^ 64 → IfErr result (λ e. e ≡ FetchError.Memory)) }
 {
-    let mut at = from;
+    let (mut at, end) = held.around(from, end, NEAR);
     while at < end {
         if let Some(bytes) = held.from_place(at) {
             at += (bytes.len() as u64).min(end - at);
@@ -231,7 +234,7 @@ pub(crate) fn fetch<'s, R: ReadAt>(
             continue;
         }
         let last = end_of(*slice, size);
-        if slice.offset > end.saturating_add(LEAST) {
+        if slice.offset > end.saturating_add(NEAR) {
             fill(arena, held, input, from, end)?;
             from = slice.offset;
             end = last;

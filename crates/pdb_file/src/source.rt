@@ -12,7 +12,7 @@ use crate::held::Held;
 use crate::reading::{FetchError, ReadAt, fetch};
 use bumpalo::Bump;
 use pdb_base::part::append;
-use pdb_base::{Error, Meaning, Result, Source, SourceSlice, View};
+use pdb_base::{Error, Meaning, Result, Source, SourceSlice, View, bytes_in};
 use std::alloc::{AllocError, Global};
 use std::marker::Model;
 
@@ -194,7 +194,7 @@ fn copied(
     ensures sized { IfOk result (λ all. IfSome all (λ v. length v.items ≡ sum_by (λ s. s.size) slices.now)) }
     ensures whole { All (IsWholeHeld held.now) slices.now → IfOk result (λ all. IsSome all) }
 {
-    let mut all = Vec::new(alloc);
+    let mut all = Vec::with_capacity(alloc, bytes_in(slices))?;
     for slice in slices {
         if !copy_slice(&mut all, held, *slice)? {
             return Ok(None);

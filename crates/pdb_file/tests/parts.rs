@@ -97,6 +97,34 @@ fn many_far_runs_are_read_once(rt: HostRuntime) -> Result<(), Fail> {
 }
 
 #[test]
+fn short_gaps_are_read_once_a_quarter_is_held(rt: HostRuntime) -> Result<(), Fail> {
+    let alloc = rt.alloc();
+    let bytes = file(alloc, 1_000_000)?;
+    let input = Counted::of(&bytes);
+    let arena = Bump::new(alloc);
+    let mut source = ReadingSource::new(alloc, &arena, &input, &AnyFile, 1_000_000);
+    // Where each view begins, its size, and how many bytes were read behind it in all.
+    let views = [
+        (0, 3, 65_536),
+        // A short gap in front stays, since less than a quarter is held.
+        (100_000, 3, 131_072),
+        (300_000, 200_000, 331_072),
+        // A gap of 50,000 bytes is not short.
+        (550_000, 3, 396_608),
+        // From 165,536 to 300,000: a gap in front and one behind.
+        (200_000, 3, 531_072),
+        // From 65,536 to 100,000, all of the gap.
+        (65_536, 10, 565_536),
+    ];
+    for (offset, size, given) in views {
+        gives(&rt, "view", alloc, &mut source, &[slice(offset, size)]);
+        is(&rt, "bytes", &input.given(), &given);
+    }
+    is(&rt, "reads", &input.reads(), &6);
+    Ok(())
+}
+
+#[test]
 fn a_slice_in_one_run_is_lent(rt: HostRuntime) -> Result<(), Fail> {
     let alloc = rt.alloc();
     let bytes = file(alloc, 300_000)?;

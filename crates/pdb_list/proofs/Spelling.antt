@@ -1,5 +1,5 @@
 -- Words, one command after another.
-use Rattle.std.proofs.Common.{◌≡◌, ℕ, zero, suc, ◌+◌, ◌-◌, ◌<◌, ◌≤◌, List, [], ◌∷◌, ◌++◌, length, codes, None, Result, Ok, Err, true, false, refl, sym, ap, ◌∙◌, append_assoc, append-nil, arith, length-append, nat_lt}
+use Rattle.std.proofs.Common.{◌≡◌, ℕ, zero, suc, ◌+◌, ◌-◌, ◌<◌, ◌≤◌, List, [], ◌∷◌, ◌++◌, length, codes, None, Result, Ok, Err, true, false, refl, sym, ap, ◌∙◌, append_assoc, arith, length-append, nat_lt}
 use Rattle.std.specs.Str.{bytes_eq}
 use Rattle.std.proofs.lemmas.Bool.Decides.{nat_tests}
 use Rattle.std.proofs.lemmas.Slice.Eq.{bytes_eq-Decides}
@@ -27,11 +27,6 @@ from_command n p words c count lt e =
     let t : nat_lt p (length words) ≡ true = grind (arith, nat_tests) in
     rw (t, e) refl
 
-from_bad : (n p q : ℕ) (words : List (List ℕ)) → p < length words → command_at words p ≡ Err q → commands_from (suc n) words p ≡ Err q
-from_bad n p q words lt e =
-    let t : nat_lt p (length words) ≡ true = grind (arith, nat_tests) in
-    rw (t, e) refl
-
 pub from_end : (n p : ℕ) (words : List (List ℕ)) → length words ≤ p → commands_from n words p ≡ Ok []
 from_end zero p words h = refl
 from_end (suc n) p words h =
@@ -48,19 +43,6 @@ goes_on words told cs m p c count e few lt here h =
     let k : m - length cs ≡ suc n = omega (arith, length-append cs (c ∷ [])) in
     let s = rw k at h in
     s ∙ ap (behind cs) (from_command n p words c count lt here) ∙ behind_behind cs (c ∷ []) (commands_from n words (p + count))
-
-pub bad_word : (words : List (List ℕ)) (told : Result (List Command) ℕ) (cs : List Command) (m p q : ℕ)
-    → m ≡ length words → length cs ≤ p → p < length words → command_at words p ≡ Err q
-    → told ≡ behind cs (commands_from (m - length cs) words p) → told ≡ Err q
-bad_word words told cs m p q e few lt here h =
-    let n = m - length cs - 1 in
-    let k : m - length cs ≡ suc n = omega arith in
-    let s = rw k at h in
-    s ∙ ap (behind cs) (from_bad n p q words lt here)
-
-pub all_words : (words : List (List ℕ)) (told : Result (List Command) ℕ) (cs : List Command) (n p : ℕ)
-    → length words ≤ p → told ≡ behind cs (commands_from n words p) → told ≡ Ok cs
-all_words words told cs n p h t = t ∙ ap (behind cs) (from_end n p words h) ∙ ap Ok (append-nil cs)
 
 pub begins : (words : List (List ℕ)) (cs : List Command) (m : ℕ) → m ≡ length words → cs ≡ [] → spelled words ≡ behind cs (commands_from (m - length cs) words 0)
 unfolding spelled

@@ -28,9 +28,3 @@ only_open run.OutOfMemory f n r s h told = absurd cc
 only_open run.Read f n r s h told = absurd cc
 only_open run.Write f n r s h told = absurd cc
 only_open (run.Open x) f n r s h told = rw (told x refl) cc
-
-pub only_read : {T : Type 0} (e : RunError) (f : Fault) → f ≡ fault_of_run e → IsErrOf {T = T} (Err f) Read → e ≡ run.Read
-only_read run.OutOfMemory f s h = absurd cc
-only_read run.Read f s h = refl
-only_read run.Write f s h = absurd cc
-only_read (run.Open x) f s h = absurd cc

@@ -52,17 +52,6 @@ pub record IsHalvedAt (local : ℕ) (xs : List (ℕ × ℕ)) (low high before no
   pub grows : before ≤ now
   pub asks : now ≡ before → high - low ≡ length xs
 
-pub whole_halved : (local : ℕ) (xs : List (ℕ × ℕ)) (before : ℕ) → IsHalvedAt local xs 0 (length xs) before before
-whole_halved local xs before = record {
-  ordered = omega arith;
-  inside = omega arith;
-  below = λ k d h. absurd (omega (arith, h));
-  above = λ k d h l. absurd (omega (arith, h, l));
-  probes = λ digits h. (digits, omega arith, omega (arith, h));
-  grows = omega arith;
-  asks = λ e. omega arith;
-}
-
 module _ (local : ℕ) (xs : List (ℕ × ℕ)) (low high middle before now : ℕ) (d : ℕ × ℕ) (halved : IsHalvedAt local xs low high before now) (order : Increases xs) (goes : low < high) (is : middle ≡ low + (high - low) / 2) where
   middle_inside : middle < high
   middle_inside = omega (arith, is, goes)
@@ -123,10 +112,3 @@ found_none local xs low high before now halved over = none_is local xs (0, 0) (�
   | inl less ↦ (let a = halved.below j (0, 0) less in omega (arith, a, e))
   | inr not ↦ (let a = halved.above j (0, 0) (omega (arith, over, not)) h in omega (arith, a, e))
 ])
-
--- where there is an export, one was looked at
-pub asked : (local : ℕ) (xs : List (ℕ × ℕ)) (low high before now : ℕ) → IsHalvedAt local xs low high before now → high ≤ low → 0 < length xs → before < now
-asked local xs low high before now halved over some = elim (cases_lt before now) [
-  | inl more ↦ more
-  | inr not ↦ (let all = halved.asks (omega (arith, not, halved.grows)) in absurd (omega (arith, all, over, some)))
-]

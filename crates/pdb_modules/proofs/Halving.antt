@@ -1,6 +1,6 @@
 -- Halving finds how many subsections stand at or before a place.
-use Rattle.std.proofs.Common.{◌≡◌, ℕ, zero, suc, ◌+◌, ◌-◌, ◌/◌, ◌^◌, ◌<◌, ◌≤◌, Bool, true, false, List, length, get_or, inl, inr, refl, sym, ap, ◌∙◌, arith}
-use Rattle.std.proofs.lemmas.Bool.{leb-true, le-leb, cases_lt}
+use Rattle.std.proofs.Common.{◌≡◌, ℕ, zero, suc, ◌+◌, ◌-◌, ◌/◌, ◌^◌, ◌<◌, ◌≤◌, Bool, true, false, List, length, get_or, refl, sym, ap, ◌∙◌, arith}
+use Rattle.std.proofs.lemmas.Bool.{leb-true, le-leb}
 use Rattle.std.proofs.lemmas.List.{get_or-map, length-map}
 use Rattle.std.proofs.Math.Nat.{pow-succ'}
 use Rattle.pdb_base.specs.declared.index.PdbInternalSectionOffset.{PdbInternalSectionOffset}
@@ -40,17 +40,6 @@ pub record IsHalved (q : PdbInternalSectionOffset) (ls : List Listed) (low high 
   pub probes : (digits : ℕ) → length ls < 2 ^ digits → (rest : ℕ) × (now + rest ≤ before + digits) × (high - low < 2 ^ rest)
   pub grows : before ≤ now
   pub asks : now ≡ before → high - low ≡ length ls
-
-pub not_halved : (q : PdbInternalSectionOffset) (ls : List Listed) (before : ℕ) → IsHalved q ls 0 (length ls) before before
-not_halved q ls before = record {
-  ordered = omega arith;
-  inside = omega arith;
-  below = λ k d h. absurd (omega arith);
-  above = λ k d h l. absurd (omega arith);
-  probes = λ digits h. (digits, omega arith, omega arith);
-  grows = omega arith;
-  asks = λ e. omega arith;
-}
 
 module _ (q : PdbInternalSectionOffset) (ls : List Listed) (low high middle before now : ℕ) (r : Listed) (halved : IsHalved q ls low high before now) (order : InOrder (listed_subsections ls)) (goes : low < high) (is : middle ≡ low + (high - low) / 2) where
   middle_inside : middle < high
@@ -105,9 +94,6 @@ pub record IsInSection (q : PdbInternalSectionOffset) (ls : List Listed) (low : 
   pub here : in_section ≡ true → (d : Subsection) → 0 < low → (get_or (listed_subsections ls) (low - 1) d).place.section ≡ q.section
   pub elsewhere : in_section ≡ false → (d : Subsection) → 0 < low → (get_or (listed_subsections ls) (low - 1) d).place.section ≡ q.section → ⊥
 
-pub none_in_section : (q : PdbInternalSectionOffset) (ls : List Listed) (in_section : Bool) → IsInSection q ls 0 in_section
-none_in_section q ls in_section = record { here = λ e d h. absurd (omega arith); elsewhere = λ e d h. absurd (omega arith) }
-
 module _ (q : PdbInternalSectionOffset) (ls : List Listed) (middle : ℕ) (r : Listed) (there : middle < length ls) (t : PdbInternalSectionOffset) (t_is : t ≡ (get_or ls middle r).part.place) where
   last_is : (d : Subsection) → t ≡ (get_or (listed_subsections ls) (middle + 1 - 1) d).place
   last_is d =
@@ -119,10 +105,3 @@ module _ (q : PdbInternalSectionOffset) (ls : List Listed) (middle : ℕ) (r : L
 
   pub ends_elsewhere : (t.section ≡ q.section → ⊥) → IsInSection q ls (middle + 1) false
   ends_elsewhere other = record { here = λ e. absurd cc; elsewhere = λ e d h same. other (ap (λ (p : PdbInternalSectionOffset). p.section) (last_is d) ∙ same) }
-
--- where there is a subsection, one was looked at
-pub asked : (q : PdbInternalSectionOffset) (ls : List Listed) (low high before now : ℕ) → IsHalved q ls low high before now → high ≤ low → 0 < length ls → before < now
-asked q ls low high before now halved over some = elim (cases_lt before now) [
-  | inl more ↦ more
-  | inr not ↦ (let all = halved.asks (omega (arith, not, halved.grows)) in absurd (omega (arith, all, over, some)))
-]

@@ -1,5 +1,5 @@
 -- What one more annotation does to what is seen, to a length and to the records.
-use Rattle.std.specs.Prelude.{not, ◌&&◌, IfNone}
+use Rattle.std.specs.Prelude.{not, ◌&&◌}
 use Rattle.std.proofs.Common.{◌≡◌, ℕ, zero, suc, ◌+◌, ◌-◌, ◌≤◌, Bool, true, false, cond, List, [], ◌∷◌, length, take, drop, map, Option, Some, None, Result, Ok, refl, sym, ap, ◌∙◌, arith}
 use Rattle.std.specs.List.{filter, find, list_any, range_with_len}
 use Rattle.std.specs.Option.{option_map, option_or, option_len, is_some}
@@ -383,10 +383,6 @@ none_more xs ys a over more = let e = sym over ∙ more in absurd cc
 
 pub no_fault : (f : Option Error) (e : Error) → f ≡ None → f ≡ Some e → ⊥
 no_fault f e over told = let d = sym over ∙ told in absurd cc
-
-pub if_none : {A : Type 0} (o : Option A) (P : Type 0) → P → IfNone o P
-if_none None P p = p
-if_none (Some x) P p = tt
 
 pub items_ended : (left : Left BinaryAnnotation) → left ≡ ended → left.items ≡ []
 items_ended left e = ap (λ (l : Left BinaryAnnotation). l.items) e

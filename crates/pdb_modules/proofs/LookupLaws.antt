@@ -22,10 +22,6 @@ and_true false h = h
 one_digest : (x y : List ℕ) → Decides (bytes_eq x y && true) (x ≡ y)
 one_digest x y = (λ h. (bytes_eq-Decides x y).0 (and_left (bytes_eq x y) true h), λ h. and_true (bytes_eq x y) ((bytes_eq-Decides x y).1 h))
 
-and_false : (s : Bool) → (s && false) ≡ true → ⊥
-and_false true h = absurd cc
-and_false false h = absurd cc
-
 pub equal_sums : (a b : Checksum) → Decides (same_sums a b) (HaveOneDigest a b)
 equal_sums absent absent = (λ h. absurd cc, λ h. absurd h)
 equal_sums absent (md5 y) = (λ h. absurd cc, λ h. absurd h)

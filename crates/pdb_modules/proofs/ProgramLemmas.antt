@@ -26,9 +26,6 @@ pub record IsPartly (rows : List Row) (ls : List Listed) (count : ℕ) (stop : O
   pub told : stop ≡ program_fault ss
   pub counted : count ≡ given_count (length (records (program_marks ss))) (program_fault ss)
 
-pub none_so_far : IsPartly [] [] 0 None []
-none_so_far = record { listed = refl; shown = refl; alone = refl; ranges = tt; told = refl; counted = refl }
-
 module _ (rows : List Row) (ls : List Listed) (count : ℕ) (stop : Option Error) (ss : List Subsection) (partly : IsPartly rows ls count stop ss) where
   rows_counted : length rows ≡ length (all_own ss)
   rows_counted = omega (arith, length-map rows own, ap length partly.alone)

@@ -4,10 +4,6 @@ use Rattle.std.specs.Prelude.{Option, Some, None, option_and_then}
 use Rattle.std.proofs.lemmas.List.{map_more, map-append}
 use Rattle.pdb_names.specs.Pieces.{each}
 
-cons_is : (f : List ℕ → Option (List ℕ)) (t u : List ℕ) (ts us : List (List ℕ)) → f t ≡ Some u → each f ts ≡ Some us → each f (t ∷ ts) ≡ Some (u ∷ us)
-unfolding each
-cons_is f t u ts us p q = rw (p, q) refl
-
 cons_head : (f : List ℕ → Option (List ℕ)) (t : List ℕ) (ts : List (List ℕ)) → f t ≡ None → each f (t ∷ ts) ≡ None
 unfolding each
 cons_head f t ts p = rw p refl

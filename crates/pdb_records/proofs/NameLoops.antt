@@ -106,10 +106,6 @@ counted_fails b p e h = sym (names_behind b p) ∙ counted_fails_of (names_at (d
 abbrev pub plus : ℕ → Result (List (List ℕ)) Error → Result ℕ Error
 plus n read = read >>= (λ names. Ok (n + length names))
 
-pub starts_at_none : (r : Result (List (List ℕ)) Error) → plus 0 r ≡ (r >>= (λ names. Ok (length names)))
-starts_at_none (Ok xs) = ap Ok (omega arith)
-starts_at_none (Err e) = refl
-
 plus_one : (n : ℕ) (c : ℕ) (s : List ℕ) (r : Result (List (List ℕ)) Error) → plus n (r >>= (λ names. Ok ((c ∷ s) ∷ names))) ≡ plus (n + 1) r
 plus_one n c s (Ok xs) = ap Ok (omega arith)
 plus_one n c s (Err e) = refl
@@ -214,12 +210,6 @@ passing_stops b p n i e total so_far lt at =
     let one : names_passed (n - i) b p ≡ Err e = rw (k, at) refl in
     sym so_far ∙ one
 
-pub all_passed : (b : List ℕ) (p n i : ℕ) (total : Result (Unit {0}) Error) → names_passed (n - i) b p ≡ total → n ≤ i → total ≡ Ok tt
-all_passed b p n i total so_far le =
-    let k : n - i ≡ 0 = omega arith in
-    let one : names_passed (n - i) b p ≡ Ok tt = rw k refl in
-    sym so_far ∙ one
-
 -- ---- names that are lent
 
 more_names : (n : ℕ) (b : List ℕ) (p : ℕ) (r : Result (List ℕ) Error) → ((q : ℕ) → length (names_from n b q) ≤ n) → length (name_and r (λ s. names_from n b (p + (length s + 1)))) ≤ suc n
@@ -229,15 +219,6 @@ more_names n b p (Ok s) all = let fewer = all (p + (length s + 1)) in omega arit
 pub no_more_names : (n : ℕ) (b : List ℕ) (p : ℕ) → length (names_from n b p) ≤ n
 no_more_names zero b p = omega arith
 no_more_names (suc n) b p = more_names n b p (cstring_at b p) (no_more_names n b)
-
-pub name_given : (n : ℕ) (b : List ℕ) (p : ℕ) (s : List ℕ) → 0 < n → cstring_at b p ≡ Ok s → names_from n b p ≡ s ∷ names_from (n - 1) b (p + (length s + 1))
-name_given n b p s some at =
-    let k : n ≡ suc (n - 1) = omega arith in
-    ap (λ m. names_from m b p) k ∙ rw at refl
-
-pub name_not_given : (n : ℕ) (b : List ℕ) (p : ℕ) (e : Error) → cstring_at b p ≡ Err e → names_from n b p ≡ []
-name_not_given zero b p e at = refl
-name_not_given (suc n) b p e at = rw at refl
 
 -- a count, and behind it the bytes that are left
 pub counted_given : (b : List ℕ) (p n q : ℕ) (c s : List ℕ) → number_at b p 2 ≡ Ok n → c ≡ b → q ≡ p + 2 → ◌≡◌ {A = Result (List ℕ) Error} (Ok (drop q c)) (Ok s) → names_passed n s 0 ≡ Ok tt → counted_names_at b p ≡ Ok (names_from n s 0)

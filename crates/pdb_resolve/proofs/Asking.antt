@@ -1,5 +1,5 @@
 -- What an accessor answered, as if it weren't there where it is refused.
-use Rattle.std.proofs.Common.{◌≡◌, Result, Ok, Err, ◌⊎◌, inl, inr, Bool, false, true, ◌<◌, length, Option, Some, None, Bor, refl, ap, ◌∙◌, arith}
+use Rattle.std.proofs.Common.{◌≡◌, Result, Ok, Err, Bool, false, true, ◌<◌, length, Option, Some, None, Bor, refl, ap, ◌∙◌, arith}
 use Rattle.std.specs.Prelude.{option_copied, IfOk, IfErr, IsErrOf, OnOk}
 use Rattle.pdb.specs.Error.{Error}
 use Rattle.pdb.specs.Error.TheVariants.{IoError, OutOfMemory}
@@ -21,10 +21,6 @@ failed : {X Y : Type 0} (view : X → Y) (io : Type 0) (r : Result X Error) (rea
 failed view io (Ok x) reading h e = absurd cc
 failed view io (Err IoError) reading h e = h
 failed view io (Err d) reading h e = absurd cc
-
-pub only_fails : {X Y : Type 0} (view : X → Y) (io : Type 0) (r : Result X Error) (reading : Result Y Error) (e : Error) → Gives view io r reading → (e ≡ OutOfMemory) ⊎ ((e ≡ IoError) × (r ≡ Err IoError)) → OnlyFails io e
-only_fails view io r reading e h (inl memory) = rw memory tt
-only_fails view io r reading e h (inr same) = rw same.0 (failed view io r reading h same.1)
 
 -- what was read, and what then can't be read
 pub read_is : {A : Type 0} (r : Result A Error) (x : A) → if_read r ≡ Some x → r ≡ Ok x

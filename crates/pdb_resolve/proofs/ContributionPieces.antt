@@ -1,9 +1,8 @@
 -- Contributions as pieces of code, each with its number: what is found among them, and that they don't overlap.
-use Rattle.std.proofs.Common.{◌≡◌, ℕ, zero, suc, ◌+◌, ◌^◌, ◌<◌, ◌≤◌, ◌⊎◌, ◌==◌, inl, inr, Bool, true, false, cond, List, [], ◌∷◌, ◌++◌, length, get_or, map, Option, Some, None, refl, sym, ap, ◌∙◌, append_assoc, length-append, zero-add, arith}
+use Rattle.std.proofs.Common.{◌≡◌, ℕ, zero, suc, ◌+◌, ◌^◌, ◌<◌, ◌≤◌, ◌⊎◌, ◌==◌, inl, inr, Bool, true, false, cond, List, [], ◌∷◌, length, get_or, map, Option, Some, None, refl, sym, ap, ◌∙◌, zero-add, arith}
 use Rattle.std.specs.Prelude.{find}
 use Rattle.std.specs.Option.{option_map}
 use Rattle.std.proofs.lemmas.Bool.{ne_eqb}
-use Rattle.std.proofs.lemmas.List.{length-map}
 use Rattle.pdb.specs.PdbInternalSectionOffset.{PdbInternalSectionOffset}
 use Rattle.pdb.specs.DBISectionContribution.{DBISectionContribution}
 use Rattle.pdb_resolve.specs.declared.range.CodeRange.{CodeRange}
@@ -20,29 +19,6 @@ use Rattle.pdb_resolve.proofs.Pieces.{looks_halved}
 
 abbrev Parts : Type 0
 Parts = ℕ × (PdbInternalSectionOffset × ℕ)
-
-one_longer : (rs ss : List CodeRange) (p : Parts) → map range_parts ss ≡ map range_parts rs ++ p ∷ [] → length ss ≡ length rs + 1
-one_longer rs ss p e =
-    sym (length-map ss range_parts) ∙ (ap (λ (l : List Parts). length l) e ∙ (length-append (map range_parts rs) (p ∷ []) ∙ ap (λ (n : ℕ). n + 1) (length-map rs range_parts)))
-
-pub one_more_piece : (c : DBISectionContribution) (n : ℕ) (old new : List DBISectionContribution) (rs ss : List CodeRange) (all : List Parts)
-    → old ≡ c ∷ new → n ≡ length rs → map range_parts ss ≡ map range_parts rs ++ (n, (c.offset, c.size)) ∷ []
-    → map range_parts rs ++ map code_parts (pieces_from (length rs) old) ≡ all
-    → map range_parts ss ++ map code_parts (pieces_from (length ss) new) ≡ all
-one_more_piece c n old new rs ss all follows number added before =
-    let longer = one_longer rs ss (n, (c.offset, c.size)) added in
-    ap (λ (k : ℕ). map range_parts ss ++ map code_parts (pieces_from k new)) longer
-    ∙ (ap (λ (l : List Parts). l ++ map code_parts (pieces_from (length rs + 1) new)) added
-    ∙ (append_assoc (map range_parts rs) ((n, (c.offset, c.size)) ∷ []) (map code_parts (pieces_from (length rs + 1) new))
-    ∙ (ap (λ (k : ℕ). map range_parts rs ++ (k, (c.offset, c.size)) ∷ map code_parts (pieces_from (length rs + 1) new)) number
-    ∙ (ap (λ (l : List DBISectionContribution). map range_parts rs ++ map code_parts (pieces_from (length rs) l)) (sym follows)
-    ∙ before))))
-
-pub one_more_module : (c : DBISectionContribution) (old new : List DBISectionContribution) (ms ns all : List ℕ) → old ≡ c ∷ new → ns ≡ ms ++ module_of c ∷ [] → ms ++ map module_of old ≡ all → ns ++ map module_of new ≡ all
-one_more_module c old new ms ns all follows added before =
-    ap (λ (l : List ℕ). l ++ map module_of new) added
-    ∙ (append_assoc ms (module_of c ∷ []) (map module_of new)
-    ∙ (ap (λ (l : List DBISectionContribution). ms ++ map module_of l) (sym follows) ∙ before))
 
 -- ---- what is found
 

@@ -127,10 +127,6 @@ procedure_found q i cs ps rise same e = by_found (find (code_covers q) cs) refl 
         ∙ (ap (λ (n : ℕ). find (λ d. d.index == n) cs) (sym number)
         ∙ (first_of_index q cs c rise f ∙ sym f)))
 
-pub none_found : (o : Option Code) → option_map index_of o ≡ None → o ≡ None
-none_found None e = refl
-none_found (Some c) e = absurd cc
-
 -- ---- numbers of listed procedures rise
 
 above_listed : (n : ℕ) (ps : List ListedProcedure) (j : ℕ) (d : ListedProcedure) → AboveCode n (map shown_procedure ps) → j < length ps → n < number_of (get_or ps j d)

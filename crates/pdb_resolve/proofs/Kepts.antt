@@ -5,7 +5,7 @@ use Rattle.pdb.specs.Error.{Error}
 use Rattle.pdb.specs.Error.TheVariants.{OutOfMemory}
 use Rattle.std.specs.Option.{is_some}
 use Rattle.std.specs.declared.alloc.Global.{Global}
-use Rattle.std.proofs.lemmas.List.{map-set, get_or-map, get_or_past, get_or-set_same, get_or-set_other, get_or-replicate, length-map, length-replicate, length-set}
+use Rattle.std.proofs.lemmas.List.{map-set, get_or_past, get_or-set_same, get_or-set_other, get_or-replicate, length-replicate, length-set}
 use Rattle.std.proofs.lemmas.Bool.{cases_eq, cases_lt}
 use Rattle.pdb.specs.Source.{State}
 use Rattle.pdb.specs.Modules.{ModuleEntry}
@@ -18,12 +18,6 @@ use Rattle.pdb_resolve.specs.KeptParts.{boxed, codes_of, code_kept, streams_of, 
 
 pub code_set : (xs : List (Option (Box ModuleBytes Global))) (k : ℕ) (b : Box ModuleBytes Global) (m : ModuleBytes) → b.value ≡ m → map boxed (slice_set xs k (Some b)) ≡ slice_set (map boxed xs) k (Some m)
 code_set xs k b m e = map-set boxed xs k (Some b) ∙ ap (λ (x : ModuleBytes). slice_set (map boxed xs) k (Some x)) e
-
-pub code_at : (xs : List (Option (Box ModuleBytes Global))) (k : ℕ) (d : Option (Box ModuleBytes Global)) → k < length xs → slice_index_or (map boxed xs) k None ≡ boxed (slice_index_or xs k d)
-code_at xs k d h = get_or-map boxed xs k d None h
-
-pub code_past : (xs : List (Option (Box ModuleBytes Global))) (k : ℕ) → length xs ≤ k → slice_index_or (map boxed xs) k None ≡ None
-code_past xs k h = let n = length-map xs boxed in get_or_past (map boxed xs) k None (omega arith)
 
 -- a module's code that says the same is the same module
 pub code_stays : (xs : List (Option (Box ModuleBytes Global))) (k : ℕ) (b c : Box ModuleBytes Global) (d : Option (Box ModuleBytes Global)) → slice_index_or xs k d ≡ Some c → b.value ≡ c.value → map boxed (slice_set xs k (Some b)) ≡ map boxed xs
@@ -136,10 +130,6 @@ module _ (s : State) (ms : Modules) (are : AreModulesOf s ms) (k : ℕ) (new : M
         rooms = let less = ap unkept streams in let room = are.rooms in omega (arith, less, rooms, room);
       }
 
-pub code_then : {U : Type 0} (ms new : Modules) (k : ℕ) (info : ModuleBytes) (r : Result U Error) → OnOk r ((k < length (codes_of ms)) × (codes_of new ≡ slice_set (codes_of ms) k (Some info))) → IfOk r (λ _. code_kept new k ≡ Some info)
-code_then ms new k info (Ok u) kept = there_set (codes_of ms) (codes_of new) k info kept.0 kept.1
-code_then ms new k info (Err e) kept = tt
-
 pub numbered_then : {U : Type 0} (file : List ℕ) (new : Modules) (k : ℕ) (info : ModuleBytes) (r : Result U Error) → IfOk r (λ _. code_kept new k ≡ Some info) → module_numbered file k ≡ Some info → IfOk r (λ _. code_kept new k ≡ module_numbered file k)
 numbered_then file new k info (Ok u) kept is = kept ∙ sym is
 numbered_then file new k info (Err e) kept is = tt
@@ -147,9 +137,6 @@ numbered_then file new k info (Err e) kept is = tt
 pub none_copied : {A : Type 0} (o : Option (Bor A)) → false ≡ is_some o → option_copied o ≡ None
 none_copied None e = refl
 none_copied (Some x) e = absurd cc
-
-pub some_copied : {A : Type 0} (o : Option (Bor A)) (x : Bor A) → o ≡ Some x → option_copied o ≡ Some x.now
-some_copied o x e = ap option_copied e
 
 abbrev unread : Option ModuleBytes
 unread = None

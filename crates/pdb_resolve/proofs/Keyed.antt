@@ -21,15 +21,6 @@ pub record IsKeyed (key : ℕ → ℕ) (n at low high before now : ℕ) : Type 0
   pub above : (k : ℕ) → high ≤ k → k < n → at < key k
   pub probes : (digits : ℕ) → n < 2 ^ digits → (rest : ℕ) × (now + rest ≤ before + digits) × (high - low < 2 ^ rest)
 
-pub not_keyed : (key : ℕ → ℕ) (n at before : ℕ) → IsKeyed key n at 0 n before before
-not_keyed key n at before = record {
-  ordered = omega arith;
-  inside = omega arith;
-  below = λ k h. absurd (omega (arith, h));
-  above = λ k h l. absurd (omega (arith, h, l));
-  probes = λ digits h. (digits, omega arith, omega (arith, h));
-}
-
 module _ (key : ℕ → ℕ) (n at low high middle before now : ℕ) (keyed : IsKeyed key n at low high before now) (order : NeverFalls key n) (goes : low < high) (is : middle ≡ low + (high - low) / 2) where
   middle_inside : middle < high
   middle_inside = omega (arith, is, goes)

@@ -1,6 +1,6 @@
 -- Which kinds of records may be public symbols.
 use Rattle.std.proofs.Common.{◌≡◌, ℕ, Bool, true, false, cond, ◌⊎◌, inl, inr, List, [], ◌∷◌, Option, Some, None, Result, Ok, Err, refl, arith}
-use Rattle.std.specs.Prelude.{◌==◌, ◌||◌, ◌&&◌, nat_lt, IsTrue}
+use Rattle.std.specs.Prelude.{◌==◌, ◌||◌, ◌&&◌, nat_lt}
 use Rattle.std.proofs.lemmas.Bool.Decides.{nat_tests}
 use Rattle.pdb.specs.Error.{Error}
 use Rattle.pdb_symbols.specs.Data.{Data}
@@ -110,11 +110,3 @@ other_kind index b no_kind = by (record_at b) (λ d e h. kind_is_public b d (rec
     by (Err e) h = refl
     by (Ok (Public code function managed msil place name)) h = absurd (differ no_kind (h (Public code function managed msil place name) refl tt))
     by (Ok d) h = refl
-
--- reading one wants no memory
-pub wants_none : (kind : ℕ) → public_kind kind ≡ true → IsTrue (is_in (0x110a ∷ 0x1005 ∷ 0x1117 ∷ 0x1014 ∷ []) kind) → ⊥
-wants_none kind h k =
-    here_or_there kind 0x110e (0x1009 ∷ []) ⊥ (λ e. differ (rw e at k)) (λ r. here_or_there kind 0x1009 [] ⊥ (λ e. differ (rw e at k)) (λ s. absurd cc) r) h
-  where
-    differ : false ≡ true → ⊥
-    differ e = cc

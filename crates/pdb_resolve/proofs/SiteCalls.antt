@@ -49,9 +49,6 @@ at_none m index e f = ap (λ (r : Result (List ℕ) Error). r >>= λ part. Ok (s
 
 -- ---- where no procedure is found
 
-pub no_calls : (q : PdbInternalSectionOffset) (m : ModuleBytes) → procedure_at q m ≡ None → inlined_at q m ≡ []
-no_calls q m e = ap (calls_in q (inlinee_with (inlinees_in m)) (symbols_in m)) e
-
 -- ---- the indices of a module's sites rise
 
 rise_by : (m : ModuleBytes) (r : Result (List ℕ) Error) → symbols_part_of m ≡ r → Rises (symbols_in m)

@@ -15,7 +15,7 @@ use Rattle.pdb_resolve.specs.PublicNames.{NamedPlace, public_at}
 use Rattle.pdb_resolve.specs.Variables.{Variable, variables_at}
 use Rattle.pdb_resolve.specs.FileParts.{module_numbered, names_in}
 use Rattle.pdb_resolve.specs.AcrossModules.{global_id_in}
-use Rattle.pdb_resolve.specs.Frames.{Frame, frames_in, frame_without, no_frame, frames_text}
+use Rattle.pdb_resolve.specs.Frames.{Frame, frames_in, frame_without, no_frame}
 
 -- the place of a relative virtual address
 abbrev pub place_of_file : List ℕ → ℕ → Option PdbInternalSectionOffset
@@ -112,10 +112,6 @@ frames_of_module file q (Some m) = frames_in (names_in file) (global_id_in file 
 unfoldable pub frames_of_file : List ℕ → Option PdbInternalSectionOffset → List Frame
 frames_of_file file None = no_frame ∷ []
 frames_of_file file (Some q) = frames_of_module file q (module_of_place file q)
-
--- the text of an address
-abbrev pub text_of_address : List ℕ → ℕ → List ℕ
-text_of_address file address = frames_text (frames_of_file file (place_of_file file address))
 
 -- ---- variables
 

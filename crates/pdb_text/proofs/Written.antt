@@ -1,9 +1,9 @@
 -- What has been written, piece after piece.
-use Rattle.std.proofs.Common.{◌≡◌, ℕ, min, suc, ◌+◌, ◌-◌, ◌<◌, ◌≤◌, List, ◌++◌, length, get_or, take, drop, Option, Some, None, sym, ap, subst, ◌∙◌, append_assoc, arith, flat_map, length-drop, length-append, Result, Ok, Err, OnOk, OnErr}
+use Rattle.std.proofs.Common.{◌≡◌, ℕ, min, suc, ◌+◌, ◌-◌, ◌<◌, ◌≤◌, List, ◌++◌, length, get_or, take, drop, Option, Some, None, sym, ap, ◌∙◌, append_assoc, arith, flat_map, length-drop, length-append, Result, Ok, Err, OnOk, OnErr}
 use Rattle.std.specs.Io.KnownBytes.{Appends}
 use Rattle.std.proofs.lemmas.List.{take-append-le, take-append-drop, drop-take, take-take}
 use Rattle.std.proofs.lemmas.Grind.{common_steps, flat_map-append}
-use Rattle.std.proofs.Math.Seq.{take-add, take-append-add, drop-cons}
+use Rattle.std.proofs.Math.Seq.{take-append-add, drop-cons}
 use Rattle.pdb_text.specs.Written.{WroteFirst, WroteFront}
 
 pub on_ok : {A E : Type 0} {P Q : Type 0} (r : Result A E) → (P → Q) → OnOk r P → OnOk r Q
@@ -95,23 +95,8 @@ texts_front f a b c xs i d lt h w =
 
 -- ---- a run over the things behind the first i, whose texts were written
 
-pub first_more : {X : Type 0} (f : X → List ℕ) (a b c : Option (List ℕ)) (xs : List X) (i n : ℕ)
-    → Appends a b (flat_map f (take i xs)) → Appends b c (flat_map f (take n (drop i xs))) → Appends a c (flat_map f (take (i + n) xs))
-first_more f a b c xs i n h k =
-    let e : flat_map f (take (i + n) xs) ≡ flat_map f (take i xs) ++ flat_map f (take n (drop i xs)) =
-    ap (flat_map f) (take-add i n xs) ∙ flat_map-append f (take i xs) (take n (drop i xs)) in
-    rw e (appends_then a b c _ _ h k)
-
 both : {X : Type 0} (f : X → List ℕ) (xs : List X) (i : ℕ) → flat_map f xs ≡ flat_map f (take i xs) ++ flat_map f (drop i xs)
 both f xs i = ap (flat_map f) (sym (take-append-drop i xs)) ∙ flat_map-append f (take i xs) (drop i xs)
-
-pub first_all : {X : Type 0} (f : X → List ℕ) (a b c : Option (List ℕ)) (xs : List X) (i : ℕ)
-    → Appends a b (flat_map f (take i xs)) → Appends b c (flat_map f (drop i xs)) → Appends a c (flat_map f xs)
-first_all f a b c xs i h k = rw (both f xs i) (appends_then a b c _ _ h k)
-
-pub first_front : {X : Type 0} (f : X → List ℕ) (a b c : Option (List ℕ)) (xs : List X) (i : ℕ)
-    → Appends a b (flat_map f (take i xs)) → WroteFront b c (flat_map f (drop i xs)) → WroteFront a c (flat_map f xs)
-first_front f a b c xs i h k = rw (both f xs i) (front_then a b c _ _ h k)
 
 -- nothing was written
 pub first_none : {X : Type 0} (text : X → List ℕ) (a : Option (List ℕ)) (xs : List X) → WroteFirst text a a xs

@@ -1,5 +1,5 @@
 -- What a writer took of some bytes.
-use Rattle.std.specs.Prelude.{◌≡◌, ℕ, ◌≤◌, List, length, take, flat_map, Option}
+use Rattle.std.specs.Prelude.{ℕ, ◌≤◌, List, length, take, flat_map, Option}
 use Rattle.std.specs.Io.KnownBytes.{Appends}
 
 -- a beginning of the bytes was written

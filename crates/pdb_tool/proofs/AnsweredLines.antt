@@ -49,10 +49,6 @@ pub appends_none : (a : Option (List ℕ)) → Appends a a []
 appends_none None = tt
 appends_none (Some xs) = sym (append-nil xs)
 
-pub answered_none : (text : List ℕ → List ℕ) (old a : Option (List ℕ)) → Answered text old old a a
-answered_none text None a = tt
-answered_none text (Some xs) a = (xs, [], refl, refl, appends_none a)
-
 more_by : (text : List ℕ → List ℕ) (xs rest : List ℕ) (done : List (List ℕ)) (left a b c : Option (List ℕ)) → lines_of xs ≡ done ++ lines_of rest → Appends a b (flat_map text done)
     → left ≡ Some (drop_through 10 rest) → Appends b c (of_first_line text rest) → Answered text (Some xs) left a c
 more_by text xs [] done left a b c e h r w =

@@ -1,6 +1,5 @@
 -- The first two bytes of a file say whether it is an image.
-use Rattle.std.proofs.Common.{◌≡◌, ℕ, Bool, true, false, List, [], ◌∷◌, Result, Ok, Err, refl, ap, arith}
-use Rattle.std.specs.Prelude.{nat_eq, ◌&&◌}
+use Rattle.std.proofs.Common.{◌≡◌, ℕ, Bool, List, [], ◌∷◌, Result, Ok, ap, arith}
 use Rattle.pdb.specs.Error.{Error}
 use Rattle.pdb.specs.Error.TheVariants.{IoError, OutOfMemory, UnexpectedEof}
 use Rattle.pdb.specs.Refusal.{Fails}
@@ -8,24 +7,10 @@ use Rattle.pdb_base.specs.Source.{viewed}
 use Rattle.pdb_base.proofs.HeadLemmas.{one_ok, one_err}
 use Rattle.pdb_image.specs.Headers.{is_image}
 
-and_false : (b : Bool) → (b && false) ≡ false
-and_false true = refl
-and_false false = refl
-
 pub front_of : (file bytes : List ℕ) → viewed file (record { offset = 0; size = 2 } ∷ []) ≡ Ok bytes → is_image bytes ≡ is_image file
 front_of [] bytes e = absurd (omega (arith, (one_ok [] 0 2 bytes e).0))
 front_of (a ∷ []) bytes e = absurd (omega (arith, (one_ok (a ∷ []) 0 2 bytes e).0))
 front_of (a ∷ b ∷ rest) bytes e = ap is_image (one_ok (a ∷ b ∷ rest) 0 2 bytes e).1
-
-no_front : (file : List ℕ) (e : Error) → viewed file (record { offset = 0; size = 2 } ∷ []) ≡ Err e → is_image file ≡ false
-no_front [] e h = refl
-no_front (a ∷ []) e h = and_false (nat_eq 77 a)
-no_front (a ∷ b ∷ rest) e h = absurd (omega (arith, (one_err (a ∷ b ∷ rest) 0 2 e h).0))
-
--- a file that ends before them is none
-pub ended : (io : Type 0) (file : List ℕ) (e : Error) → e ≡ UnexpectedEof → Fails io e (viewed file (record { offset = 0; size = 2 } ∷ [])) → is_image file ≡ false
-ended io file UnexpectedEof same h = no_front file UnexpectedEof h
-ended io file e same h = absurd cc
 
 -- any other error isn't the file's
 pub fails_still : (io : Type 0) (file : List ℕ) (e : Error) (r : Result Bool Error) → (e ≡ UnexpectedEof → ⊥) → Fails io e (viewed file (record { offset = 0; size = 2 } ∷ [])) → Fails io e r

@@ -1,11 +1,9 @@
 -- Stops that are passed on.
-use Rattle.std.proofs.Common.{◌≡◌, Bool, true, false, true≢false, ◌∙◌, Result, Ok, Err, refl, subst, sym}
+use Rattle.std.proofs.Common.{◌≡◌, Bool, true, false, true≢false, ◌∙◌, Result, Ok, Err, subst, sym}
 use Rattle.std.specs.Prelude.{IfErr, IfOk, IsErrAnd, IsErrOf, MatchResult, is_ok}
 use Rattle.pdb.specs.Source.{State, Continues, MayFail}
 use Rattle.pdb.proofs.Passing.{unsteady_before}
-use Rattle.pdb_file.specs.declared.reading.FetchError.{FetchError}
-use Rattle.pdb_file.specs.declared.reading.FetchError.TheVariants as fetch
-use Rattle.pdb_tool.specs.Stops.{StopsCommand, StopsComposing, StopsOpening, StopsWriting, stop_of_fetch}
+use Rattle.pdb_tool.specs.Stops.{StopsCommand, StopsComposing, StopsOpening, StopsWriting}
 use Rattle.pdb_tool.specs.declared.stop.Stop.{Stop}
 use Rattle.pdb_tool.specs.declared.stop.Stop.TheVariants.{Read, Open, Memory, Write}
 
@@ -56,11 +54,6 @@ composing_passed io io' f r s is h = stopped_as (StopsCommand io') r s is (compo
 -- a source that failed once it was opened isn't steady
 pub unsteady_source : (source opened new : State) → Continues source opened → MayFail opened new → source.steady ≡ false
 unsteady_source source opened new on fails = unsteady_before source opened on fails.unsteady
-
--- a read error is that of a fetch
-pub read_failed : (e : FetchError) → stop_of_fetch e ≡ Read → e ≡ fetch.Read
-read_failed fetch.Read same = refl
-read_failed fetch.Memory same = absurd cc
 
 -- over a source that can't fail there is no read error
 pub unread_command : {T : Type 0} (steady : Bool) (r : Result T Stop) → steady ≡ true → IfErr r (StopsCommand (steady ≡ false)) → IsErrOf r Read → ⊥

@@ -1,5 +1,5 @@
 -- The texts of a list of types.
-use Rattle.std.proofs.Common.{◌≡◌, ℕ, List, [], ◌∷◌, ◌++◌, Some, None, refl, append_assoc, arith, flat_map, length}
+use Rattle.std.proofs.Common.{◌≡◌, ℕ, List, [], ◌∷◌, ◌++◌, Some, refl, append_assoc, arith, flat_map, length}
 use Rattle.std.proofs.lemmas.Grind.{common_steps}
 use Rattle.pdb.specs.Error.{Error}
 use Rattle.pdb.specs.Items.{ItemEntry}
@@ -10,9 +10,6 @@ use Rattle.pdb_tool.specs.TypeTexts.{index_lines, item_lines, types_command, typ
 
 pub next_type : (t : Types) (old new : Left ItemEntry) (x : ItemEntry) → Follows old (x ∷ []) new → types_left t old ≡ item_lines t x ++ types_left t new
 next_type t old new x h = rw (h.0, h.1) (append_assoc (item_lines t x) (flat_map (item_lines t) new.items) (fault_line new.fault))
-
-pub no_type : (t : Types) (old new : Left ItemEntry) → Ends old [] None new → types_left t old ≡ []
-no_type t old new h = rw (h.0, h.1) refl
 
 pub fault_of_types : (t : Types) (old new : Left ItemEntry) (e : Error) → Ends old [] (Some e) new → types_left t old ≡ error_line e
 fault_of_types t old new e h = rw (h.0, h.1) refl

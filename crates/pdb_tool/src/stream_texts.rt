@@ -244,13 +244,22 @@ fn put_all<'a, 's, S: Source<'s>>(
     ensures roles { pdb.new.told ≡ true → OnOk result (map role_view roles.new.items ≡ map role_view roles.old.items ++ roles_by pdb.old.file (option_copied names.entry)) }
     ensures unwritten { IfErr result (StopsComposing (MayFail pdb.old pdb.new)) }
 {
+    // The large streams are read first: a short read takes the front of the next stream too, which is then copied.
+    let mut hashes = Vec::new(*roles.allocator());
+    put_items(
+        pdb,
+        &mut hashes,
+        2,
+        Known::TypeHashes,
+        Known::FurtherTypeHashes,
+    )?;
+    put_items(pdb, &mut hashes, 4, Known::IdHashes, Known::FurtherIdHashes)?;
     put_fixed(roles)?;
     if let Some(names) = names {
         put_names(roles, names)?;
     }
     put_debug(pdb, roles)?;
-    put_items(pdb, roles, 2, Known::TypeHashes, Known::FurtherTypeHashes)?;
-    put_items(pdb, roles, 4, Known::IdHashes, Known::FurtherIdHashes)
+    Ok(roles.append(&mut hashes)?)
 }
 
 /// The names of streams, if they can be read.

@@ -1,6 +1,6 @@
-use Rattle.std.proofs.Common.{sym, ◌∙◌, arith, ap, Ok}
+use Rattle.std.proofs.Common.{sym, ◌∙◌, ap, Ok}
 use Rattle.std.proofs.lemmas.Result.{err_from_is_err_and}
-use Rattle.pdb_base.proofs.OpenLemmas.{get-size_fails, get-pages_fails, get-is, needed-there, limited-le}
+use Rattle.pdb_base.proofs.OpenLemmas.{get-size_fails, get-pages_fails, get-is, needed-there}
 use Rattle.pdb_base.proofs.msf.Msf.get.Goals as goal
 
 pub returns-in_err-size-clause-bytes : goal.returns-in_err-size-clause-bytes
@@ -31,10 +31,6 @@ returns-in_err-view-clause-memory g c told h =
     let size = rw c.as_slice-directory.ensures at c.in_ok-size.ensures.size in
     let pages = rw c.as_slice-directory.ensures at c.in_ok-list.ensures.pages in
     needed-there c.args.self.now.file _ c.args.number c.in_ok-size.size c.limited-size.result c.args.limit _ opened size c.limited-size.ensures pages
-
-pub of-requires : goal.of-requires
-of-requires g c =
-    omega (arith, c.limited-size.ensures, c.in_ok-view.ensures.sized, limited-le c.args.limit c.in_ok-size.size, c.in_ok-size.ensures.there.2)
 
 pub returns-in_err-of-clause-memory : goal.returns-in_err-of-clause-memory
 returns-in_err-of-clause-memory g c told h =

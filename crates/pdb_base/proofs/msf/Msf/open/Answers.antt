@@ -1,4 +1,3 @@
-use Rattle.std.proofs.Common.{arith, ap, refl, length}
 use Rattle.std.proofs.lemmas.Result.{err_from_is_err_and}
 use Rattle.pdb_base.specs.Heads.{head}
 use Rattle.pdb_base.proofs.Passing.{unsteady_before}
@@ -17,11 +16,6 @@ returns-in_err-list-clause-answer g c = λ known.
     let k2 = c.in_err-list.ensures.continues.known k1 in
     let p = err_from_is_err_and c.from_residual-in_err-list.result c.from_residual-in_err-list.ensures.1 in
     rw (p.1, p.2) (open-list_fails _ _ c.in_err-list.field-0.0 (g.S.Meaning.state c.args.source).file (head c.in_ok-head.head) (c.in_ok-head.ensures.head k1.1) (λ m. unsteady_before _ _ c.in_ok-head.ensures.continues m.unsteady) (rw c.in_ok-head.ensures.continues.file at (c.in_err-list.ensures.list k2.1)))
-
-pub view_pages-requires : goal.view_pages-requires
-view_pages-requires g c κs =
-    let n = c.in_ok-list.ensures.sized in
-    ((refl, tt), (omega (arith, c.in_ok-head.ensures.size.0), (omega arith, omega (arith, n, ap length c.as_slice.ensures))))
 
 pub returns-in_err-directory-clause-answer : goal.returns-in_err-directory-clause-answer
 returns-in_err-directory-clause-answer g c = λ known.

@@ -1,5 +1,4 @@
-use Rattle.std.proofs.Common.{◌≡◌, ◌<◌, length, get_or, ap, sym, subst, ◌∙◌, inl, inr, ⊎_elim, arith}
-use Rattle.std.proofs.lemmas.Bool.{cases_lt}
+use Rattle.std.proofs.Common.{◌≡◌, get_or, ap, subst, ◌∙◌, arith}
 use Rattle.pdb_file.specs.declared.run.Run.{Run}
 use Rattle.pdb_file.specs.HeldBytes.{IsKept}
 use Rattle.pdb_file.proofs.Files.{first_behind}
@@ -12,15 +11,3 @@ returns-in-Some-clause-least c =
     first_behind c.args.self.now c.args.at c.min.result c.before-2.result kept c.before-2.ensures.front (λ d.
     let there : c.in-Some.run'.now ≡ get_or c.args.self.now.runs c.before-2.result d = rw same at (c.in-Some.ensures.lookup.3.1 d) in
     omega (arith, c.min.ensures, ap (λ (r : Run). r.at) there))
-
-pub returns-in-Some-clause-begins : goal.returns-in-Some-clause-begins
-returns-in-Some-clause-begins c =
-    let same : c.deref.result.now ≡ c.args.self.now.runs = c.deref.ensures.value ∙ ap (λ k. k.runs) c.self.view_is in
-    let run = c.in-Some.run'.now in
-    let there : run ≡ get_or c.args.self.now.runs c.before-2.result run = rw same at (c.in-Some.ensures.lookup.3.1 run) in
-    let inside : c.before-2.result < length c.args.self.now.runs = rw same at c.in-Some.ensures.lookup.3.0 in
-    let behind : c.args.at < (get_or c.args.self.now.runs c.before-2.result run).at = c.before-2.ensures.back c.before-2.result run (omega arith) inside in
-    ⊎_elim
-    (λ less. inl (omega (arith, c.min.ensures, less)))
-    (λ more. inr (c.before-2.result, run, inside, sym there, (rw (sym there) at behind, omega (arith, c.min.ensures, more))))
-    (cases_lt c.args.end run.at)

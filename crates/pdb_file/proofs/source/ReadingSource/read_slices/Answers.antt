@@ -1,9 +1,8 @@
 use Rattle.std.proofs.Common.{◌≡◌, true, sym, ap, subst, ◌∙◌, true≢false}
 use Rattle.std.specs.List.{All, list_all}
-use Rattle.std.proofs.lemmas.Result.{err_from_is_err_and}
 use Rattle.pdb_file.specs.HeldBytes.{IsAllHeld, IsOf, is_inside_of}
 use Rattle.pdb_file.proofs.Files.{knows_is, wholly}
-use Rattle.pdb_file.proofs.Viewing.{known_in, on_ok, one_held, steady_known}
+use Rattle.pdb_file.proofs.Viewing.{known_in, on_ok, one_held}
 use Rattle.pdb_file.proofs.source.ReadingSource.read_slices.Goals as goal
 use Rattle.pdb_file.proofs.source.ReadingSource.read_slices.Goals.{then-not-are_held+in_ok-fetch, else-not-are_held}
 
@@ -16,13 +15,6 @@ pub returns-in_err-fetch-clause-once : goal.returns-in_err-fetch-clause-once
 returns-in_err-fetch-clause-once g c = λ all.
     let before = subst (λ k. All (IsAllHeld k) c.args.slices.now) (sym (ap (λ s. s.kept) c.self.view_is)) all in
     absurd (true≢false (sym (c.are_held.ensures.1 before) ∙ c.if-not-are_held.true))
-
-pub returns-in_err-fetch-clause-steady : goal.returns-in_err-fetch-clause-steady
-returns-in_err-fetch-clause-steady g c = λ steady.
-    let p = err_from_is_err_and c.from_residual.result c.from_residual.ensures.1 in
-    let sure = c.self.invariant.1 (ap (λ s. s.steady) c.self.view_is ∙ steady) in
-    let known = steady_known (g.R.ReadAt.is_steady c.self.inside.input.now) (g.R.ReadAt.known c.self.inside.input.now) c.self.inside.held.size sure.0 in
-    rw (p.1, p.2) (c.in_err-fetch.ensures.steady known.0 known.1 known.2 (c.self.invariant.0 known.1 known.2 known.3))
 
 pub returns-clause-known : goal.returns-clause-known
 returns-clause-known g c = λ known is.
@@ -60,12 +52,6 @@ returns-clause-steady g c = λ steady.
       | then-not-are_held+in_ok-fetch w ↦ rw w.self-inside-is (wholly w.fetch.new.held c.args.slices.now (rw w.fetch.ensures.size inside) w.in_ok-fetch.ensures.held)
       | else-not-are_held w ↦ rw w.self-inside-is (wholly c.self.inside.held c.args.slices.now inside (c.are_held.ensures.0 w.if-not-are_held.false))
     ])
-
-pub returns-in_err-fetch-clause-lent : goal.returns-in_err-fetch-clause-lent
-returns-in_err-fetch-clause-lent g c = λ s i d one lt some stands.
-    let same = ap (λ s. s.kept) c.self.view_is in
-    let before = subst (λ k. All (IsAllHeld k) c.args.slices.now) (sym same) (one_held c.args.self.now.kept c.args.slices.now s i d one lt stands) in
-    absurd (true≢false (sym (c.are_held.ensures.1 before) ∙ c.if-not-are_held.true))
 
 pub returns-clause-lent : goal.returns-clause-lent
 returns-clause-lent g c = λ s i d one lt some stands.
