@@ -125,9 +125,10 @@ fn zeros<'s>(arena: &'s Bump, size: usize) -> Result<Vec<u8, &'s Bump>, AllocErr
     ensures { IfOk result (λ v. vec_len v ≡ size) }
 {
     let mut bytes = Vec::with_capacity(arena, size)?;
-    while bytes.len() < size {
-        bytes.resize(bytes.len().saturating_add(ROOM).min(size), 0)?;
+    for _ in 0..size / ROOM {
+        bytes.resize(bytes.len().saturating_add(ROOM), 0)?;
     }
+    bytes.resize(size, 0)?;
     Ok(bytes)
 }
 

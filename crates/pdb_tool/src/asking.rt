@@ -82,6 +82,7 @@ impl<'w, 'a> Asking<'w, 'a> {
     }
 
     /// Whether a record of this file has bytes, and is asked for.
+    #[inline(always)]
     pub fn wants(&self, file: Option<RawString<'_>>, line: &LineInfo) -> bool
         ensures { result ≡ (has_bytes_in line.now && asks_for_file self.now.asked (option_map name_bytes file.entry) line.now.line_start) }
     {

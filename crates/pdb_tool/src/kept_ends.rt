@@ -115,6 +115,7 @@ impl<'x, 'a> KeptEnds<'x, 'a> {
     }
 
     /// Where the end of a line behind what has a type is kept from now on.
+    #[inline(always)]
     #[tactic(auto, using(crate::proofs::KeptLemmas::end_by_number))]
     pub fn keep(&mut self, index: Option<TypeIndex>) -> Result<usize, AllocError>
         ensures names { kept_names self.new ≡ kept_names self.old }

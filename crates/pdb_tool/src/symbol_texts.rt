@@ -227,6 +227,7 @@ fn put_record(
 // end
 
 /// The line of a symbol at a depth.
+#[inline(always)]
 #[tactic(auto, unfolding(crate::specs::SymbolTexts::symbol_line))]
 fn put_any_symbol(
     alloc: Global,
