@@ -141,7 +141,8 @@ impl<'s> Held<'s> {
         }
     }
 
-    /// Where the last run ends that begins at or before an offset, or the offset where that comes first.
+    /// Where the last run ends that begins at or before an offset, or the offset where that comes first; 0 where there
+    /// is none.
     fn end_before(&self, at: u64) -> u64
         ensures { result ≤ at }
     {
@@ -152,10 +153,15 @@ impl<'s> Held<'s> {
         }
     }
 
-    /// From which offset to which a part of the file is read. Once a quarter of the file is held, it begins and ends at
-    /// the runs next to the part that are at most `near` bytes away, so that no short gaps are left.
-    pub fn around(&self, from: u64, end: u64, near: u64) -> (u64, u64)
-        ensures { (result.0 ≤ from) × (end ≤ result.1) × (result.1 ≤ max end self.now.size) }
+    /// From which offset to which a part of the file is read. Once a quarter of the file is held, no gap of at most
+    /// `near` bytes is left between the part and what is held beside it, or an end of the file.
+    ///
+    /// The contract bounds what is read more; that it is read, tests alone say.
+    pub(crate) fn around(&self, from: u64, end: u64, near: u64) -> (u64, u64)
+        ensures begins { result.0 ≤ from }
+        ensures ends { end ≤ result.1 }
+        ensures near { (from ≤ result.0 + near) × (result.1 ≤ end + near) }
+        ensures inside { result.1 ≤ max end self.now.size }
     {
         if self.total < self.size / 4 || from >= end {
             return (from, end);

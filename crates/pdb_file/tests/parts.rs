@@ -103,7 +103,7 @@ fn short_gaps_are_read_once_a_quarter_is_held(rt: HostRuntime) -> Result<(), Fai
     let input = Counted::of(&bytes);
     let arena = Bump::new(alloc);
     let mut source = ReadingSource::new(alloc, &arena, &input, &AnyFile, 1_000_000);
-    // Where each view begins, its size, and how many bytes were read behind it in all.
+    // Where each view begins, its size, and how many bytes were read in all once it was made.
     let views = [
         (0, 3, 65_536),
         // A short gap in front stays, since less than a quarter is held.

@@ -78,6 +78,7 @@ fn joined(high: Option<u64>, low: Option<u64>) -> Option<u64>
 
 /// The number that an address is spelled as: `HEX`, `0xHEX`, `0XHEX`, `HEXh`, or `HEX` with a backtick before its last
 /// eight digits, of 1 to 16 digits.
+#[inline(always)]
 #[tactic(auto, unfolding(crate::specs::Asked::address_number))]
 pub fn address_number(word: &[u8]) -> Option<u64>
     ensures { result ≡ address_number word.now }

@@ -76,7 +76,8 @@ pub fn put_refused_record(
     match e {
         Error::OutOfMemory => Err(Stop::Memory),
         Error::IoError => Err(Stop::Read),
-        e => Ok(put_damage_at(alloc, out, subject, word, index.0, e)?),
+        e if is_damage(e) => Ok(put_damage_at(alloc, out, subject, word, index.0, e)?),
+        _ => Ok(()),
     }
 }
 

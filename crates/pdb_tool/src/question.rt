@@ -40,6 +40,7 @@ fn answer_of(options: Options, word: &[u8]) -> Answer<'_>
 }
 
 /// The address that an argument is, and how its code is written; none where it is no address.
+#[inline(always)]
 #[tactic(auto, unfolding(crate::specs::Questions::question_of))]
 pub fn question_of(options: Options, word: &[u8]) -> Option<Question<'_>>
     ensures { option_map question_view result ≡ question_of options word.now }

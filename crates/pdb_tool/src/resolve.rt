@@ -99,6 +99,7 @@ fn put_object<'s, S: Source<'s>>(
 }
 
 /// The text of a question: what asks it, where that is written, and what code stands there.
+#[inline(always)]
 #[tactic(auto, unfolding(crate::specs::Questions::question_text))]
 fn put_question_text<'s, S: Source<'s>>(
     resolver: &mut Resolver<'_, 's, S>,
@@ -117,6 +118,7 @@ fn put_question_text<'s, S: Source<'s>>(
 }
 
 /// Whether what is read of the module at the place of what is asked for has no error.
+#[inline(always)]
 fn is_whole_asked<'s, S: Source<'s>>(
     resolver: &mut Resolver<'_, 's, S>,
     asked: Asked,
@@ -132,6 +134,7 @@ fn is_whole_asked<'s, S: Source<'s>>(
 }
 
 /// The text of a question. The result is whether what is read of the module there has no error.
+#[inline(always)]
 pub fn put_question<'s, S: Source<'s>>(
     resolver: &mut Resolver<'_, 's, S>,
     out: &mut Vec<u8>,
