@@ -9,12 +9,21 @@ use crate::run::Run;
 use std::alloc::{AllocError, Global};
 use std::marker::Model;
 
+/// How much of a file is read at once.
+#[derive(Clone, Copy, Debug)]
+pub(crate) struct Reach {
+    /// How many bytes at least.
+    pub(crate) least: u64,
+    /// How far neighbours are apart at most that are read together.
+    pub(crate) near: u64,
+}
+
 /// A file's size, and the runs of its bytes that are held. No byte is held twice.
 #[derive(Drop)]
 pub struct Held<'s> {
     size: u64,
     runs: Vec<Run<'s>>,
-    // How many bytes are held. It only chooses how much is read at once.
+    // How many bytes are held. It only says how much is read at once.
     total: u64,
 }
 
@@ -151,6 +160,21 @@ impl<'s> Held<'s> {
             Some(run) => run.at.saturating_add(run.bytes.len() as u64).min(at),
             None => 0,
         }
+    }
+
+    /// How much is read at once, by how many of the file's 64 parts are held: the gaps too where a text needs most of the
+    /// file, and only what is asked for where little is left.
+    pub(crate) fn reach(&self) -> Reach
+        ensures least { result.least ≤ 65536 }
+        ensures near { result.near ≤ 262144 }
+    {
+        let (least, near) = match self.total / (self.size / 64 + 1) {
+            0..=41 => (65_536, 49_152),
+            42..=59 => (65_536, 262_144),
+            60..=62 => (65_536, 8_192),
+            _ => (0, 0),
+        };
+        Reach { least, near }
     }
 
     /// From which offset to which a part of the file is read. Once a quarter of the file is held, no gap of at most

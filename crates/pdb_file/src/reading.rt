@@ -90,12 +90,6 @@ impl From<AllocError> for FetchError {
     }
 }
 
-/// How many bytes are read at once at least.
-const LEAST: u64 = 65536;
-
-/// How far apart neighbours are that are read together.
-const NEAR: u64 = 49152;
-
 /// The bytes at an offset, put in a buffer behind its first ones; returns how many.
 fn read_behind<R: ReadAt>(
     input: &R,
@@ -158,13 +152,14 @@ fn read_run<'s, R: ReadAt>(
     Ok(into_bump_slice(bytes))
 }
 
-/// Reads what isn't held from an offset to another, and short gaps beside it.
+/// Reads what isn't held from an offset to another, and gaps beside it of at most `near` bytes.
 fn fill<'s, R: ReadAt>(
     arena: &'s Bump,
     held: &mut Held<'s>,
     input: &R,
     from: u64,
     end: u64,
+    near: u64,
 ) -> Result<(), FetchError>
     ensures told { ForSome (R.known input.now) (λ F. IsOf F held.old → IsOf F held.new) }
     ensures kept { (F : List ℕ) → IsOf F held.new → IsOf F held.old }
@@ -173,7 +168,7 @@ fn fill<'s, R: ReadAt>(
     ensures held { OnOk result (AreHeld held.new from end) }
     ensures steady { R.is_steady input.now ≡ true → ForSome (R.known input.now) (λ F. IsOf F held.old → end ≤ length F → length F < 2 ^ 64 → IfErr result (λ e. e ≡ FetchError.Memory)) }
 {
-    let (mut at, end) = held.around(from, end, NEAR);
+    let (mut at, end) = held.around(from, end, near);
     while at < end {
         if let Some(bytes) = held.from_place(at) {
             at += (bytes.len() as u64).min(end - at);
@@ -228,6 +223,7 @@ pub(crate) fn fetch<'s, R: ReadAt>(
 {
     let sorted = in_order(alloc, slices)?;
     let size = held.size();
+    let reach = held.reach();
     let mut from = 0u64;
     let mut end = 0u64;
     for slice in &sorted {
@@ -235,14 +231,14 @@ pub(crate) fn fetch<'s, R: ReadAt>(
             continue;
         }
         let last = end_of(*slice, size);
-        if slice.offset > end.saturating_add(NEAR) {
-            fill(arena, held, input, from, end)?;
+        if slice.offset > end.saturating_add(reach.near) {
+            fill(arena, held, input, from, end, reach.near)?;
             from = slice.offset;
             end = last;
         }
-        let least = from.saturating_add(LEAST).min(size);
+        let least = from.saturating_add(reach.least).min(size);
         end = end.max(last).max(least);
     }
-    fill(arena, held, input, from, end)?;
+    fill(arena, held, input, from, end, reach.near)?;
     Ok(())
 }

@@ -96,14 +96,29 @@ fn many_far_runs_are_read_once(rt: HostRuntime) -> Result<(), Fail> {
     Ok(())
 }
 
+/// These views of a file of so many bytes read so many bytes in all: each has where it begins, its size, and how many
+/// bytes were read in all once it was made.
+fn read_in_all(
+    rt: &impl Abort,
+    alloc: Global,
+    size: usize,
+    views: &[(u64, usize, u64)],
+) -> Result<(), Fail> {
+    let bytes = file(alloc, size)?;
+    let input = Counted::of(&bytes);
+    let arena = Bump::new(alloc);
+    let mut source = ReadingSource::new(alloc, &arena, &input, &AnyFile, size as u64);
+    for (offset, size, given) in views {
+        gives(rt, "view", alloc, &mut source, &[slice(*offset, *size)]);
+        is(rt, "bytes", &input.given(), given);
+    }
+    is(rt, "reads", &input.reads(), &(views.len() as u32));
+    Ok(())
+}
+
 #[test]
 fn short_gaps_are_read_once_a_quarter_is_held(rt: HostRuntime) -> Result<(), Fail> {
     let alloc = rt.alloc();
-    let bytes = file(alloc, 1_000_000)?;
-    let input = Counted::of(&bytes);
-    let arena = Bump::new(alloc);
-    let mut source = ReadingSource::new(alloc, &arena, &input, &AnyFile, 1_000_000);
-    // Where each view begins, its size, and how many bytes were read in all once it was made.
     let views = [
         (0, 3, 65_536),
         // A short gap in front stays, since less than a quarter is held.
@@ -116,12 +131,35 @@ fn short_gaps_are_read_once_a_quarter_is_held(rt: HostRuntime) -> Result<(), Fai
         // From 65,536 to 100,000, all of the gap.
         (65_536, 10, 565_536),
     ];
-    for (offset, size, given) in views {
-        gives(&rt, "view", alloc, &mut source, &[slice(offset, size)]);
-        is(&rt, "bytes", &input.given(), &given);
-    }
-    is(&rt, "reads", &input.reads(), &6);
-    Ok(())
+    read_in_all(&rt, alloc, 1_000_000, &views)
+}
+
+#[test]
+fn long_gaps_are_read_once_two_thirds_are_held(rt: HostRuntime) -> Result<(), Fail> {
+    let alloc = rt.alloc();
+    let views = [
+        (0, 600_000, 600_000),
+        // A gap of 50,000 bytes is not short.
+        (650_000, 60_000, 665_536),
+        // A gap of 184,464 bytes in front, and all behind.
+        (900_000, 3, 950_000),
+    ];
+    read_in_all(&rt, alloc, 1_000_000, &views)
+}
+
+#[test]
+fn little_is_read_of_the_last_bytes(rt: HostRuntime) -> Result<(), Fail> {
+    let alloc = rt.alloc();
+    let views = [
+        (0, 940_000, 940_000),
+        // A gap of 10,000 bytes in front is left.
+        (950_000, 3, 990_000),
+        // Only what is asked for.
+        (945_000, 3, 990_003),
+        (940_000, 9, 990_012),
+        (940_000, 5_000, 995_003),
+    ];
+    read_in_all(&rt, alloc, 1_000_000, &views)
 }
 
 #[test]

@@ -199,6 +199,9 @@ fn has_failed<'s, S: Source<'s>>(pdb: &PDB<'s, S>, before: u64) -> bool
     failures > before || failures == u64::MAX
 }
 
+/// For how many bytes of a text there is room before it grows.
+const ROOM: usize = 262_144;
+
 /// Writes the commands' texts, one after the other. Each text is composed and then written. Where `stops_unread`, a
 /// view that fails ends the run, and nothing of that text is written.
 fn write_texts<'s, S: Source<'s>, W: Write>(
@@ -214,7 +217,8 @@ fn write_texts<'s, S: Source<'s>, W: Write>(
     ensures read { IsErrOf result RunError.Read → stops_unread ≡ true }
     ensures wrote { IsKnown pdb.old → (stops_unread ≡ false → pdb.old.steady ≡ true) → KeptOf pdb.old.file kept.old → Wrote (command_text pdb.old.file) (W.contents out.old) (W.contents out.new) commands.now result }
 {
-    let mut text = Vec::new(alloc);
+    let room = if commands.is_empty() { 0 } else { ROOM };
+    let mut text = Vec::with_capacity(alloc, room)?;
     for command in commands {
         let failures = pdb.failures();
         text.clear();
