@@ -61,6 +61,7 @@ fn error_of<'s, S: Source<'s>>(pdb: &mut PDB<'s, S>, part: FilePart) -> Option<E
 }
 
 /// The line of a part's error, where it has one.
+#[inline(always)]
 #[tactic(auto, unfolding(crate::specs::CheckTexts::part_text))]
 pub fn put_part<'s, S: Source<'s>>(
     pdb: &mut PDB<'s, S>,

@@ -13,7 +13,7 @@ use Rattle.pdb_list.proofs.engine.write_texts.Goals as goal
 
 pub returns-in_err-put_next-clause-wrote : goal.returns-in_err-put_next-clause-wrote
 returns-in_err-put_next-clause-wrote g c = λ known steady kept.
-    wrote_with (command_text c.args.pdb.now.file) (g.W.Write.contents c.args.out.now) (g.W.Write.contents c.loop-command.out) c.args.commands.now OutOfMemory c.from_residual.result c.from_residual.ensures.1
+    wrote_with (command_text c.args.pdb.now.file) (g.W.Write.contents c.args.out.now) (g.W.Write.contents c.loop-command.out) c.args.commands.now OutOfMemory c.from_residual-in_err-put_next.result c.from_residual-in_err-put_next.ensures.1
     (c.loop-command.command-index, omega (arith, c.loop-command-test.true), c.loop-command.invariant.wrote known steady kept)
 
 pub returns-in_err-write_out-clause-wrote : goal.returns-in_err-write_out-clause-wrote
