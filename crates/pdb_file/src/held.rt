@@ -166,12 +166,12 @@ impl<'s> Held<'s> {
     /// file, and only what is asked for where little is left.
     pub(crate) fn reach(&self) -> Reach
         ensures least { result.least ≤ 65536 }
-        ensures near { result.near ≤ 262144 }
+        ensures near { result.near ≤ 163840 }
     {
         let (least, near) = match self.total / (self.size / 64 + 1) {
-            0..=41 => (65_536, 49_152),
-            42..=59 => (65_536, 262_144),
-            60..=62 => (65_536, 8_192),
+            0..=39 => (65_536, 49_152),
+            40..=59 => (65_536, 163_840),
+            60..=62 => (65_536, 12_288),
             _ => (0, 0),
         };
         Reach { least, near }

@@ -111,16 +111,16 @@ fn read_behind<R: ReadAt>(
     }
 }
 
-/// How many zeros are put at a time.
-const ROOM: usize = 2048;
+/// The zeros that are put at a time.
+static ZEROS: [u8; 2048] = [0; 2048];
 
 /// So many zeros in the arena.
 fn zeros<'s>(arena: &'s Bump, size: usize) -> Result<Vec<u8, &'s Bump>, AllocError>
     ensures { IfOk result (λ v. vec_len v ≡ size) }
 {
     let mut bytes = Vec::with_capacity(arena, size)?;
-    for _ in 0..size / ROOM {
-        bytes.resize(bytes.len().saturating_add(ROOM), 0)?;
+    for _ in 0..size / ZEROS.len() {
+        bytes.extend_from_slice(&ZEROS)?;
     }
     bytes.resize(size, 0)?;
     Ok(bytes)

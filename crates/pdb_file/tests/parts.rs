@@ -135,14 +135,14 @@ fn short_gaps_are_read_once_a_quarter_is_held(rt: HostRuntime) -> Result<(), Fai
 }
 
 #[test]
-fn long_gaps_are_read_once_two_thirds_are_held(rt: HostRuntime) -> Result<(), Fail> {
+fn long_gaps_are_read_once_five_eighths_are_held(rt: HostRuntime) -> Result<(), Fail> {
     let alloc = rt.alloc();
     let views = [
-        (0, 600_000, 600_000),
+        (0, 570_000, 570_000),
         // A gap of 50,000 bytes is not short.
-        (650_000, 60_000, 665_536),
-        // A gap of 184,464 bytes in front, and all behind.
-        (900_000, 3, 950_000),
+        (620_000, 60_000, 635_536),
+        // A gap of 144,464 bytes in front, and all behind.
+        (830_000, 3, 950_000),
     ];
     read_in_all(&rt, alloc, 1_000_000, &views)
 }
@@ -152,12 +152,12 @@ fn little_is_read_of_the_last_bytes(rt: HostRuntime) -> Result<(), Fail> {
     let alloc = rt.alloc();
     let views = [
         (0, 940_000, 940_000),
-        // A gap of 10,000 bytes in front is left.
-        (950_000, 3, 990_000),
+        // A gap of 13,000 bytes in front is left.
+        (953_000, 3, 987_000),
         // Only what is asked for.
-        (945_000, 3, 990_003),
-        (940_000, 9, 990_012),
-        (940_000, 5_000, 995_003),
+        (945_000, 3, 987_003),
+        (940_000, 9, 987_012),
+        (940_000, 5_000, 992_003),
     ];
     read_in_all(&rt, alloc, 1_000_000, &views)
 }

@@ -43,6 +43,7 @@ fn place_of<'s, S: Source<'s>>(
 
 // piece: put_asked
 /// The text of what is asked for.
+#[inline(always)]
 #[tactic(auto, unfolding(crate::specs::Asked::asked_text))]
 pub fn put_asked<'s, S: Source<'s>>(
     resolver: &mut Resolver<'_, 's, S>,

@@ -120,6 +120,7 @@ fn put_size(out: &mut Vec<u8>, size: Option<i128>) -> Result<(), AllocError>
 }
 
 // The size of a type, and its name.
+#[inline(always)]
 fn put_sized_name(
     out: &mut Vec<u8>,
     types: Types<'_, '_>,

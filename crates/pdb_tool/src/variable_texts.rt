@@ -121,6 +121,9 @@ fn put_location(
     }
 }
 
+/// For how many bytes of a line there is room before it grows.
+const LINE: usize = 64;
+
 /// The line of a variable.
 #[tactic(auto, unfolding(crate::specs::VariableTexts::variable_line))]
 pub fn put_variable(
@@ -130,6 +133,7 @@ pub fn put_variable(
 ) -> Result<(), AllocError>
     ensures { OnOk result (out.new.items ≡ out.old.items ++ variable_line machine (shown_variable variable.now)) }
 {
+    out.reserve(LINE)?;
     out.extend_from_slice(b"  ")?;
     out.extend_from_slice(kind_word(variable.kind).as_bytes())?;
     out.push(b' ')?;
@@ -152,7 +156,7 @@ struct OwnedLines {
 fn empty_texts(alloc: Global, count: usize) -> Result<Vec<Vec<u8>>, AllocError>
     ensures { IfOk result (λ texts. map (λ text. text.items) texts.items ≡ replicate count []) }
 {
-    let mut texts = Vec::new(alloc);
+    let mut texts = Vec::with_capacity(alloc, count)?;
     for _ in 0..count {
         texts.push(Vec::new(alloc))?;
     }
