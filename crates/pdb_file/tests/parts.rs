@@ -159,6 +159,9 @@ fn little_is_read_of_the_last_bytes(rt: HostRuntime) -> Result<(), Fail> {
         (940_000, 9, 987_012),
         (940_000, 5_000, 992_003),
     ];
+    read_in_all(&rt, alloc, 1_000_000, &views)?;
+    // A gap of 12,000 bytes is read.
+    let views = [(0, 940_000, 940_000), (952_000, 3, 1_000_000)];
     read_in_all(&rt, alloc, 1_000_000, &views)
 }
 
