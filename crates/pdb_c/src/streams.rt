@@ -30,6 +30,7 @@ pub struct PdbStream {
 }
 
 /// The row of a stream, and its bytes behind those of the streams before it.
+#[inline(always)]
 #[tactic(auto, using(crate::proofs::Putting::put_length))]
 fn put_read(
     number: u16,
@@ -59,6 +60,7 @@ fn put_read(
 }
 
 /// Reads a stream, and puts its row and its bytes.
+#[inline(always)]
 #[tactic(auto, unfolding(crate::specs::Streams::stream_read))]
 fn put_stream<'s>(
     pdb: &mut PDB<'s, MemorySource<'s>>,

@@ -164,6 +164,8 @@ impl<'s> Held<'s> {
 
     /// How much is read at once, by how many of the file's 64 parts are held: the gaps too where a text needs most of the
     /// file, and only what is asked for where little is left.
+    ///
+    /// The contract bounds it; how much it is, tests alone say.
     pub(crate) fn reach(&self) -> Reach
         ensures least { result.least ≤ 65536 }
         ensures near { result.near ≤ 163840 }

@@ -199,8 +199,8 @@ fn has_failed<'s, S: Source<'s>>(pdb: &PDB<'s, S>, before: u64) -> bool
     failures > before || failures == u64::MAX
 }
 
-/// For how many bytes of a text there is room before it grows.
-const ROOM: usize = 262_144;
+/// The capacity for a text before it grows, in bytes.
+const CAPACITY: usize = 262_144;
 
 /// Writes the commands' texts, one after the other. Each text is composed and then written. Where `stops_unread`, a
 /// view that fails ends the run, and nothing of that text is written.
@@ -217,8 +217,8 @@ fn write_texts<'s, S: Source<'s>, W: Write>(
     ensures read { IsErrOf result RunError.Read → stops_unread ≡ true }
     ensures wrote { IsKnown pdb.old → (stops_unread ≡ false → pdb.old.steady ≡ true) → KeptOf pdb.old.file kept.old → Wrote (command_text pdb.old.file) (W.contents out.old) (W.contents out.new) commands.now result }
 {
-    let room = if commands.is_empty() { 0 } else { ROOM };
-    let mut text = Vec::with_capacity(alloc, room)?;
+    let capacity = if commands.is_empty() { 0 } else { CAPACITY };
+    let mut text = Vec::with_capacity(alloc, capacity)?;
     for command in commands {
         let failures = pdb.failures();
         text.clear();

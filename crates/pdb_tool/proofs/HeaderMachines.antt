@@ -1,5 +1,5 @@
 -- The machine of the header of a DBI stream that was read, and of one that wasn't.
-use Rattle.std.proofs.Common.{◌≡◌, ℕ, List, Option, Some, None, Result, Ok, Err, refl, sym, ap, ◌∙◌}
+use Rattle.std.proofs.Common.{◌≡◌, ℕ, List, Some, None, Result, Ok, Err, refl, sym, ap, ◌∙◌}
 use Rattle.pdb.specs.Answers.{debug_information_in}
 use Rattle.pdb.specs.DBIHeader.{DBIHeader}
 use Rattle.pdb.specs.Error.{Error}

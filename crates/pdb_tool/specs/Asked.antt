@@ -1,5 +1,5 @@
 -- What code a word asks for, and the text that answers it.
-use Rattle.std.specs.Prelude.{◌≡◌, ℕ, ◌+◌, ◌-◌, ◌*◌, List, [], ◌∷◌, ◌++◌, length, take, drop, get_or, codes, Bool, true, false, ◌&&◌, ◌||◌, ◌==◌, nat_lt, nat_le, if◌then◌else◌, Option, Some, None, option_and_then, flat_map}
+use Rattle.std.specs.Prelude.{◌≡◌, ℕ, ◌+◌, ◌-◌, ◌*◌, List, [], ◌∷◌, ◌++◌, length, take, drop, get_or, codes, Bool, true, ◌&&◌, ◌||◌, ◌==◌, nat_lt, nat_le, if◌then◌else◌, Option, Some, None, option_and_then, flat_map}
 use Rattle.std.specs.Char.{is_ascii_hexdigit, is_ascii_whitespace}
 use Rattle.std.specs.List.{list_all, position, prefix_len, suffix_len}
 use Rattle.std.specs.Io.BufRead.{first_piece}
@@ -102,13 +102,10 @@ abbrev pub is_whole_asked : List ℕ → Asked → Bool
 is_whole_asked file asked = is_whole_where file (asked_place file asked)
 
 -- the frames of a place, with displacements or variables, or neither
-abbrev pub text_with : List ℕ → Detail → Option PdbInternalSectionOffset → List ℕ
-text_with file Plain place = frames_text (frames_of_file file place)
-text_with file Offsets place = displaced_frames (frames_of_file file place)
-text_with file Variables place = variables_text file place
-
-unfoldable pub asked_text : List ℕ → Detail → Asked → List ℕ
-asked_text file detail asked = text_with file detail (asked_place file asked)
+abbrev pub code_text : List ℕ → Detail → Option PdbInternalSectionOffset → List ℕ
+code_text file Plain place = frames_text (frames_of_file file place)
+code_text file Offsets place = displaced_frames (frames_of_file file place)
+code_text file Variables place = variables_text file place
 
 -- ---- lines
 

@@ -1,7 +1,8 @@
 -- The addresses that arguments and lines are, and the texts of their code.
 use Rattle.std.specs.Prelude.{ℕ, List, ◌++◌, codes, Bool, Option, Some, None, option_map, if◌then◌else◌}
+use Rattle.pdb.specs.PdbInternalSectionOffset.{PdbInternalSectionOffset}
 use Rattle.pdb_resolve.specs.Resolved.{frames_of_file}
-use Rattle.pdb_tool.specs.Asked.{asked_in, asked_place, asked_text, without_blanks}
+use Rattle.pdb_tool.specs.Asked.{asked_in, asked_place, code_text, without_blanks}
 use Rattle.pdb_tool.specs.FrameObjects.{asked_value, unasked_value}
 use Rattle.pdb_tool.specs.Objects.{json_line}
 use Rattle.pdb_tool.specs.declared.asked.Asked.{Asked}
@@ -42,18 +43,18 @@ style_of Json addresses word = object_of word
 unfoldable pub question_of : Options → List ℕ → Option Ask
 question_of options word = option_map (λ a. record { style = style_of options.form options.addresses word; detail = options.detail; asked = a }) (asked_in options.base word)
 
--- the object of an argument, and of the frames of its address
-unfoldable pub asked_line : List ℕ → List ℕ → Asked → List ℕ
-asked_line file word asked = json_line (asked_value word (frames_of_file file (asked_place file asked)))
+-- the object of an argument, and of the frames of its place
+unfoldable pub asked_line : List ℕ → List ℕ → Option PdbInternalSectionOffset → List ℕ
+asked_line file word place = json_line (asked_value word (frames_of_file file place))
 
 -- the argument is a line
-abbrev pub styled_text : List ℕ → Detail → Style → Asked → List ℕ
-styled_text file detail frames asked = asked_text file detail asked
-styled_text file detail (headed word) asked = word ++ codes "\n" ++ asked_text file detail asked
-styled_text file detail (object_of word) asked = asked_line file word asked
+abbrev pub styled_text : List ℕ → Detail → Style → Option PdbInternalSectionOffset → List ℕ
+styled_text file detail frames place = code_text file detail place
+styled_text file detail (headed word) place = word ++ codes "\n" ++ code_text file detail place
+styled_text file detail (object_of word) place = asked_line file word place
 
 unfoldable pub question_text : List ℕ → Ask → List ℕ
-question_text file q = styled_text file q.detail q.style q.asked
+question_text file q = styled_text file q.detail q.style (asked_place file q.asked)
 
 abbrev pub asks_text : List ℕ → Question → List ℕ
 asks_text file q = question_text file (question_view q)

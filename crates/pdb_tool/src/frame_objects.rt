@@ -121,14 +121,14 @@ fn begin_asked(alloc: Global, writer: &mut Writer, word: &[u8]) -> Result<(), Al
     put_text(alloc, writer, word)
 }
 
-/// For how many bytes of a name there is room before it grows.
-const ROOM: usize = 64;
+/// The capacity for a name before it grows, in bytes.
+const CAPACITY: usize = 64;
 
 /// The array of frames.
 fn put_array(alloc: Global, writer: &mut Writer, frames: &[Frame<'_>]) -> Result<(), AllocError>
     ensures { Adds result writer.old writer.new (json_tokens (array (frame_items (map shown_frame frames.now)))) }
 {
-    let mut room = Vec::with_capacity(alloc, ROOM)?;
+    let mut room = Vec::with_capacity(alloc, CAPACITY)?;
     writer.begin_array()?;
     put_frames(writer, &mut room, frames)?;
     writer.end_array()?;

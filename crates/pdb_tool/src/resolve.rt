@@ -7,8 +7,8 @@ ghost use Rattle.pdb.specs.Container.{opens};
 ghost use Rattle.pdb.specs.Error.{Error};
 ghost use Rattle.pdb.specs.Source.{Continues, MayFail, IsKnown};
 ghost use Rattle.pdb_text.specs.Written.{WroteFirst, WroteFront};
-ghost use Rattle.pdb_tool.specs.Questions.{asked_line, asks_text, line_text, question_text, question_view, unasked_text};
-ghost use Rattle.pdb_tool.specs.Asked.{AnsweredUpTo, asked_place, asked_text, is_whole_asked, lines_of, of_first_line, without_blanks};
+ghost use Rattle.pdb_tool.specs.Questions.{answer_view, asked_line, asks_text, line_text, question_text, question_view, styled_text, unasked_text};
+ghost use Rattle.pdb_tool.specs.Asked.{AnsweredUpTo, asked_place, code_text, is_whole_asked, is_whole_where, lines_of, of_first_line, without_blanks};
 ghost use Rattle.pdb_tool.specs.Stops.{StopsCommand, StopsComposing, StopsOpening, StopsWriting};
 ghost use Rattle.pdb_tool.specs.WriteFailures.{failures_after};
 ghost use Rattle.pdb_tool.specs.declared.stop.Stop.{Stop};
@@ -41,21 +41,18 @@ fn place_of<'s, S: Source<'s>>(
     }
 }
 
-// piece: put_asked
-/// The text of what is asked for.
-#[inline(always)]
-#[tactic(auto, unfolding(crate::specs::Asked::asked_text))]
-pub fn put_asked<'s, S: Source<'s>>(
+// piece: put_code
+/// The text of the code at a place.
+pub fn put_code<'s, S: Source<'s>>(
     resolver: &mut Resolver<'_, 's, S>,
     out: &mut Vec<u8>,
     detail: Detail,
-    asked: Asked,
+    place: Option<PdbInternalSectionOffset>,
 ) -> Result<(), Stop>
     ensures continues { Continues resolver.old resolver.new }
-    ensures text { resolver.new.told ≡ true → OnOk result (out.new.items ≡ out.old.items ++ asked_text resolver.old.file detail asked) }
+    ensures text { resolver.new.told ≡ true → OnOk result (out.new.items ≡ out.old.items ++ code_text resolver.old.file detail place) }
     ensures unwritten { IfErr result (StopsComposing (MayFail resolver.old resolver.new)) }
 {
-    let place = place_of(resolver, asked);
     match detail {
         Detail::Plain => resolver.put_text(out, place).map_err(stop_of),
         Detail::Offsets => resolver.put_displaced_text(out, place).map_err(stop_of),
@@ -64,71 +61,70 @@ pub fn put_asked<'s, S: Source<'s>>(
 }
 // end
 
-/// The text of what is asked for, behind a line with the argument.
+/// The text of the code at a place, behind a line with the argument.
 fn put_headed<'s, S: Source<'s>>(
     resolver: &mut Resolver<'_, 's, S>,
     out: &mut Vec<u8>,
     word: &[u8],
     detail: Detail,
-    asked: Asked,
+    place: Option<PdbInternalSectionOffset>,
 ) -> Result<(), Stop>
     ensures continues { Continues resolver.old resolver.new }
-    ensures text { resolver.new.told ≡ true → OnOk result (out.new.items ≡ out.old.items ++ (word.now ++ codes "\n" ++ asked_text resolver.old.file detail asked)) }
+    ensures text { resolver.new.told ≡ true → OnOk result (out.new.items ≡ out.old.items ++ (word.now ++ codes "\n" ++ code_text resolver.old.file detail place)) }
     ensures unwritten { IfErr result (StopsComposing (MayFail resolver.old resolver.new)) }
 {
     out.extend_from_slice(word)?;
     put_line_end(out)?;
-    put_asked(resolver, out, detail, asked)
+    put_code(resolver, out, detail, place)
 }
 
-/// The JSON object of an argument, and of the frames of what it asks for.
+/// The JSON object of an argument, and of the frames of its place.
 #[tactic(auto, unfolding(crate::specs::Questions::asked_line))]
 fn put_object<'s, S: Source<'s>>(
     resolver: &mut Resolver<'_, 's, S>,
     out: &mut Vec<u8>,
     word: &[u8],
-    asked: Asked,
+    place: Option<PdbInternalSectionOffset>,
 ) -> Result<(), Stop>
     ensures continues { Continues resolver.old resolver.new }
-    ensures text { resolver.new.told ≡ true → OnOk result (out.new.items ≡ out.old.items ++ asked_line resolver.old.file word.now asked) }
+    ensures text { resolver.new.told ≡ true → OnOk result (out.new.items ≡ out.old.items ++ asked_line resolver.old.file word.now place) }
     ensures unwritten { IfErr result (StopsComposing (MayFail resolver.old resolver.new)) }
 {
-    let place = place_of(resolver, asked);
     let frames = resolver.frames(place).map_err(stop_of)?;
     let alloc = *out.allocator();
     Ok(put_asked_line(alloc, out, word, &frames)?)
 }
 
-/// The text of a question: what asks it, where that is written, and what code stands there.
+/// The text of a question of which this is the place: what asks it, where that is written, and what code stands there.
 #[inline(always)]
-#[tactic(auto, unfolding(crate::specs::Questions::question_text))]
 fn put_question_text<'s, S: Source<'s>>(
     resolver: &mut Resolver<'_, 's, S>,
     out: &mut Vec<u8>,
     question: &Question<'_>,
+    place: Option<PdbInternalSectionOffset>,
 ) -> Result<(), Stop>
     ensures continues { Continues resolver.old resolver.new }
-    ensures text { resolver.new.told ≡ true → OnOk result (out.new.items ≡ out.old.items ++ asks_text resolver.old.file question.now) }
+    ensures text { resolver.new.told ≡ true → OnOk result (out.new.items ≡ out.old.items ++ styled_text resolver.old.file question.now.detail (answer_view question.now.answer) place) }
     ensures unwritten { IfErr result (StopsComposing (MayFail resolver.old resolver.new)) }
 {
     match question.answer {
-        Answer::Frames => put_asked(resolver, out, question.detail, question.asked),
-        Answer::Headed(word) => put_headed(resolver, out, word, question.detail, question.asked),
-        Answer::Object(word) => put_object(resolver, out, word, question.asked),
+        Answer::Frames => put_code(resolver, out, question.detail, place),
+        Answer::Headed(word) => put_headed(resolver, out, word, question.detail, place),
+        Answer::Object(word) => put_object(resolver, out, word, place),
     }
 }
 
-/// Whether what is read of the module at the place of what is asked for has no error.
+/// Whether what is read of the module at a place has no error.
 #[inline(always)]
-fn is_whole_asked<'s, S: Source<'s>>(
+fn is_whole_where<'s, S: Source<'s>>(
     resolver: &mut Resolver<'_, 's, S>,
-    asked: Asked,
+    place: Option<PdbInternalSectionOffset>,
 ) -> Result<bool, Stop>
     ensures continues { Continues resolver.old resolver.new }
-    ensures whole { resolver.new.told ≡ true → IfOk result (λ b. b ≡ is_whole_asked resolver.old.file asked) }
+    ensures whole { resolver.new.told ≡ true → IfOk result (λ b. b ≡ is_whole_where resolver.old.file place) }
     ensures unwritten { IfErr result (StopsComposing (MayFail resolver.old resolver.new)) }
 {
-    match place_of(resolver, asked) {
+    match place {
         Some(place) => resolver.is_whole_at(place).map_err(stop_of),
         None => Ok(true),
     }
@@ -136,6 +132,7 @@ fn is_whole_asked<'s, S: Source<'s>>(
 
 /// The text of a question. The result is whether what is read of the module there has no error.
 #[inline(always)]
+#[tactic(auto, unfolding(crate::specs::Questions::question_text))]
 pub fn put_question<'s, S: Source<'s>>(
     resolver: &mut Resolver<'_, 's, S>,
     out: &mut Vec<u8>,
@@ -146,8 +143,9 @@ pub fn put_question<'s, S: Source<'s>>(
     ensures whole { resolver.new.told ≡ true → IfOk result (λ b. b ≡ is_whole_asked resolver.old.file question.now.asked) }
     ensures unwritten { IfErr result (StopsComposing (MayFail resolver.old resolver.new)) }
 {
-    put_question_text(resolver, out, question)?;
-    is_whole_asked(resolver, question.asked)
+    let place = place_of(resolver, question.asked);
+    put_question_text(resolver, out, question, place)?;
+    is_whole_where(resolver, place)
 }
 
 // piece: write_asked

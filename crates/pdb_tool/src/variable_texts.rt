@@ -121,7 +121,7 @@ fn put_location(
     }
 }
 
-/// For how many bytes of a line there is room before it grows.
+/// The capacity for a line before it grows, in bytes.
 const LINE: usize = 64;
 
 /// The line of a variable.

@@ -1,4 +1,4 @@
-use Rattle.std.proofs.Common.{◌+◌, ◌-◌, length, map, drop}
+use Rattle.std.proofs.Common.{◌+◌, ◌-◌, length, map}
 use Rattle.pdb_resolve.specs.KeptFrames.{shown_frame}
 use Rattle.pdb_resolve.specs.VariableViews.{shown_variable}
 use Rattle.pdb_tool.proofs.OwnedLines.{frame_put, kept_fewer, kept_last, next_frame}
