@@ -1,6 +1,6 @@
 //! The bytes of streams, many at once.
 
-ghost use Rattle.std.specs.Prelude.{◌≡◌, ◌+◌, [], ◌∷◌, ◌⊎◌, ℕ, length, true, map, Ok, Err, OnOk, IfErr};
+ghost use Rattle.std.specs.Prelude.{◌≡◌, ◌+◌, [], ◌∷◌, ◌⊎◌, ℕ, length, true, map, Ok, Err, OnOk, IfOk, IfErr};
 ghost use Rattle.pdb.specs.Error.{Error};
 ghost use Rattle.pdb.specs.Source.{Continues, IsKnown};
 ghost use Rattle.pdb.specs.Container.{opens};
@@ -29,82 +29,79 @@ pub struct PdbStream {
     pub code: u32,
 }
 
-/// The row of a stream, and its bytes behind those of the streams before it.
-#[inline(always)]
+/// The row of a stream, and its bytes from a place on; returns where those of the next stream begin.
 #[tactic(auto, using(crate::proofs::Putting::put_length))]
 fn put_read(
     number: u16,
     bytes: &[u8],
     code: u32,
     place: usize,
+    at: usize,
     rows: &mut [PdbStream],
     room: &mut [u8],
-    size: &mut usize,
-) -> Result<()>
-    ensures rows { OnOk result (rows.new ≡ put place (record { at = size.old; size = length bytes.now; number = number; code = code } ∷ []) rows.old) }
-    ensures room { OnOk result (room.new ≡ put size.old bytes.now room.old) }
-    ensures size { OnOk result (size.new ≡ size.old + length bytes.now) }
+) -> Result<usize>
+    ensures rows { OnOk result (rows.new ≡ put place (record { at = at; size = length bytes.now; number = number; code = code } ∷ []) rows.old) }
+    ensures room { OnOk result (room.new ≡ put at bytes.now room.old) }
+    ensures end { IfOk result (λ end. end ≡ at + length bytes.now) }
     ensures refused { IfErr result (λ e. e ≡ Error.OutOfMemory) }
 {
-    let end = behind(*size, bytes.len())?;
+    let end = behind(at, bytes.len())?;
     let row = PdbStream {
-        at: *size,
+        at,
         size: bytes.len(),
         number: u32::from(number),
         code,
     };
     put_row(rows, place, row);
-    put_bytes(room, *size, bytes);
-    *size = end;
-    Ok(())
+    put_bytes(room, at, bytes);
+    Ok(end)
 }
 
-/// Reads a stream, and puts its row and its bytes.
-#[inline(always)]
+/// Reads a stream, and puts its row, and its bytes from a place on; returns where those of the next stream begin.
 #[tactic(auto, unfolding(crate::specs::Streams::stream_read))]
 fn put_stream<'s>(
     pdb: &mut PDB<'s, MemorySource<'s>>,
     number: u16,
     place: usize,
+    at: usize,
     rows: &mut [PdbStream],
     room: &mut [u8],
-    size: &mut usize,
-) -> Result<()>
+) -> Result<usize>
     requires steady { pdb.old.steady ≡ true }
     requires known { IsKnown pdb.old }
     ensures continues { Continues pdb.old pdb.new }
-    ensures rows { OnOk result (rows.new ≡ put place (stream_row size.old number (stream_read pdb.old.file number) ∷ []) rows.old) }
-    ensures room { OnOk result (room.new ≡ put size.old (bytes_of_stream pdb.old.file number) room.old) }
-    ensures size { OnOk result (size.new ≡ size.old + length (bytes_of_stream pdb.old.file number)) }
+    ensures rows { OnOk result (rows.new ≡ put place (stream_row at number (stream_read pdb.old.file number) ∷ []) rows.old) }
+    ensures room { OnOk result (room.new ≡ put at (bytes_of_stream pdb.old.file number) room.old) }
+    ensures end { IfOk result (λ end. end ≡ at + length (bytes_of_stream pdb.old.file number)) }
     ensures refused { IfErr result (λ e. e ≡ Error.OutOfMemory) }
 {
     match pdb.raw_stream(StreamIndex(number)) {
-        Ok(Some(stream)) => put_read(number, stream.as_slice(), 0, place, rows, room, size),
-        Ok(None) => put_read(number, &[], 0, place, rows, room, size),
+        Ok(Some(stream)) => put_read(number, stream.as_slice(), 0, place, at, rows, room),
+        Ok(None) => put_read(number, &[], 0, place, at, rows, room),
         Err(Error::OutOfMemory) => Err(Error::OutOfMemory),
-        Err(e) => put_read(number, &[], code_of(e), place, rows, room, size),
+        Err(e) => put_read(number, &[], code_of(e), place, at, rows, room),
     }
 }
 
-/// Reads streams one after another.
+/// Reads streams one after another; returns how many bytes they have.
 fn put_streams<'s>(
     pdb: &mut PDB<'s, MemorySource<'s>>,
     numbers: &[u16],
     rows: &mut [PdbStream],
     room: &mut [u8],
-    size: &mut usize,
-) -> Result<()>
+) -> Result<usize>
     requires steady { pdb.old.steady ≡ true }
     requires known { IsKnown pdb.old }
-    ensures rows { OnOk result (rows.new ≡ put 0 (stream_rows pdb.old.file size.old numbers.now) rows.old) }
-    ensures room { OnOk result (room.new ≡ put size.old (all_bytes pdb.old.file numbers.now) room.old) }
-    ensures size { OnOk result (size.new ≡ size.old + length (all_bytes pdb.old.file numbers.now)) }
+    ensures rows { OnOk result (rows.new ≡ put 0 (stream_rows pdb.old.file 0 numbers.now) rows.old) }
+    ensures room { OnOk result (room.new ≡ put 0 (all_bytes pdb.old.file numbers.now) room.old) }
+    ensures size { IfOk result (λ size. size ≡ length (all_bytes pdb.old.file numbers.now)) }
     ensures refused { IfErr result (λ e. e ≡ Error.OutOfMemory) }
 {
+    let mut end = 0usize;
     for (place, number) in numbers.iter().enumerate() {
-        put_stream(pdb, *number, place, rows, room, size)?;
+        end = put_stream(pdb, *number, place, end, rows, room)?;
     }
-    Ok(())
+    Ok(end)
 }
 
 /// The streams of these numbers: the row of each, and their bytes one after the other, each as far as its buffer
@@ -126,15 +123,15 @@ pub extern "C" fn pdb_streams(
         Ok(pdb) => pdb,
         Err(e) => return code_of(e),
     };
-    match put_streams(&mut pdb, numbers, rows, room, size) {
-        Ok(()) => both_code(
-            room_code(rows.len(), numbers.len()),
-            room_code(room.len(), *size),
-        ),
-        Err(_) => {
-            *size = 0;
-            OUT_OF_MEMORY
+    match put_streams(&mut pdb, numbers, rows, room) {
+        Ok(end) => {
+            *size = end;
+            both_code(
+                room_code(rows.len(), numbers.len()),
+                room_code(room.len(), end),
+            )
         }
+        Err(_) => OUT_OF_MEMORY,
     }
 }
 

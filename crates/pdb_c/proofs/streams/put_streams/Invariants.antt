@@ -10,7 +10,7 @@ invariant-loop-place l = record {
   continues : Continues l.fn.pdb l.pdb;
   steady : l.pdb.steady ≡ true;
   known : IsKnown l.pdb;
-  rows : put l.place (stream_rows l.fn.pdb.file l.size (drop l.place l.numbers)) l.rows ≡ put 0 (stream_rows l.fn.pdb.file l.fn.size l.numbers) l.fn.rows;
-  room : put l.size (all_bytes l.fn.pdb.file (drop l.place l.numbers)) l.room ≡ put l.fn.size (all_bytes l.fn.pdb.file l.numbers) l.fn.room;
-  size : l.size + length (all_bytes l.fn.pdb.file (drop l.place l.numbers)) ≡ l.fn.size + length (all_bytes l.fn.pdb.file l.numbers);
+  rows : put l.place (stream_rows l.fn.pdb.file l.end (drop l.place l.numbers)) l.rows ≡ put 0 (stream_rows l.fn.pdb.file 0 l.numbers) l.fn.rows;
+  room : put l.end (all_bytes l.fn.pdb.file (drop l.place l.numbers)) l.room ≡ put 0 (all_bytes l.fn.pdb.file l.numbers) l.fn.room;
+  size : l.end + length (all_bytes l.fn.pdb.file (drop l.place l.numbers)) ≡ length (all_bytes l.fn.pdb.file l.numbers);
 }
