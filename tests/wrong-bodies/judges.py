@@ -1,64 +1,37 @@
-"""What decides whether a contract rejects a mutant, beside the mutant itself: the code of the file that it changes, the
-definitions that this file cites and those that they cite, the contracts of the functions that it calls, the types and
-constants that it names, and the traits that any of these name; all from files and crates that it brings in, or that those
-bring in.
-Comments decide nothing. Nor do private fields of another crate's type that contracts see as a value, nor how the value
-comes from them: outside of its crate the value alone is seen."""
+"""What decides whether a contract rejects a mutant, beside the mutant itself: the function that it changes, with its
+contract; the contracts of what that calls; the types, constants and traits that it or these contracts name; and two levels
+of definitions: those that any of this cites, and those that these cite. Where a mutant changes a constant, these of every
+function of the crate that names it.
+
+Nothing else counts: not the rest of the file, not what a callee's body does, not a definition three levels down (that of its
+own crate has mutants and tests too), not the prover's version. Comments decide nothing. Nor do private fields of another
+crate's type that contracts see as a value, nor how the value comes from them: outside of its crate the value alone is seen.
+"""
+import functools
 import os
 import re
 
-# The head of a function with its contract, up to its body; what stands before it on the line doesn't matter.
-FUNCTION = re.compile(r"(?m)^[ \t]*(pub(?:\([a-z]+\))? )?(?:final )?(?:const )?(?:extern \"C\" )?fn (\w+)[^{;]*(?:\{[^{}]*(?:\{[^{}]*\}[^{}]*)*\}\n[^{;]*?)*?(?=^[ \t]*\{$|\{\n|;)")
-CONSTANT = re.compile(r"(?m)^[ \t]*(pub(?:\([a-z]+\))? )?(?:const|static) ([A-Z_0-9]+):[^;]*;")
-TYPE = re.compile(r"(?m)^(pub(?:\([a-z]+\))? )?(?:struct|enum) (\w+)")
-TRAIT = re.compile(r"(?m)^(?:pub(?:\([a-z]+\))? )?trait \w+")
-MODEL = re.compile(r"(?m)^(impl)\b[^\n{]*\bModel for (\w+)")
-VALUE = re.compile(r"(?m)^    ghost Value = ")
-# What another crate doesn't see of a type that has a value: private fields, how the value comes from them, what they keep.
-UNSEEN_FIELD = re.compile(r"(?m)^[ \t]+(?!pub |[ \t])[^\n]*\n")
-UNSEEN_MEMBER = re.compile(r"(?ms)^    ghost (?:use [^;]*;|(?:view|invariant) = \{.*?\};)\n+")
-# Where a block ends: at a brace at the line's begin; that of a type perhaps at a semicolon, since it may have no fields.
-BRACE = re.compile(r"(?m)^\}")
-BRACE_OR_SEMICOLON = re.compile(r"(?m);$|^\}")
+from sources import seen_from_outside, sources_in, text_of, words_in
+
+# How many levels of definitions count.
+LEVELS = 2
 # What a file brings from specs/: names in braces, or a module under another name.
 NAMES = re.compile(r"\buse Rattle\.(\w+)\.specs\.(\w+)[\w.]*\.\{([^}]*)\}")
 MODULE = re.compile(r"\buse Rattle\.(\w+)\.specs\.(\w+)[\w.]* as (\w+)")
 # A module of another crate that a crate's specs/Lib.antt passes on.
 PASSED_ON = re.compile(r"(?m)^pub use Rattle\.(\w+)\.specs\.(\w+)$")
-# What a tactic unfolds: a definition, by the crate and the module.
-UNFOLDED = re.compile(r"\b(\w+)::specs::(\w+)::(\w+)")
 # A signature, or the head of a type: with it a definition begins. An equation goes on with one.
 SIGNATURE = re.compile(r"(?:(?:pub|abbrev|unfoldable|opaque) )*(?:(data|record) )?([^\s:(){},]+)\s*(?:\{[^}]*\}\s*)*:(?=\s)")
 ANY = "*"
-# A string, a character, or a comment with what separates it from the code before it.
-COMMENT = re.compile(r"""r(#+)"(?:.|\n)*?"\1|r"[^"]*"|"(?:\\(?:.|\n)|[^"\\])*"|'(?:\\.|[^'\\\n])'|(\n?[ \t]*//[^\n]*)""")
-
-
-def text_of(path):
-    with open(path, encoding="utf-8") as it:
-        return it.read()
-
-
-def without_comments(text):
-    """A source without its comments, which decide nothing; those that stand alone go with their lines."""
-    return COMMENT.sub(lambda it: "" if it[2] else it[0], f"\n{text}")
+# What brings names into clauses; what they stand for counts, and not the line.
+BRINGS = re.compile(r"(?m)^[ \t]*ghost use [^;]*;\n*")
+# A name that is called: behind a dot, behind colons, or alone.
+METHOD = re.compile(r"\.(\w+)(?=\(|::<)")
+PATH = re.compile(r"(?<=::)\w+")
 
 
 def words_of(text):
     return set(re.split(r"[\s(){};,.:\[\]]+", text))
-
-
-def named_in(text):
-    """The functions that a text calls, names behind `::` or brings in, and each word that begins as types and constants do."""
-    brought = " ".join(re.findall(r"(?m)^use [^;]*;", text))
-    return set(re.findall(r"\b[A-Z]\w*|\b\w+(?=\(|::<)|(?<=::)\w+", text)) | set(re.findall(r"\w+", brought))
-
-
-def brought_from_outside(text):
-    """The words that a text brings in from other crates, and those behind `::`: what is called by another word is no free
-    function of another crate."""
-    brought = re.findall(r"(?m)^(?:pub )?use (?!crate\b|self\b|super\b)[^;]*;", text)
-    return set(re.findall(r"\w+", " ".join(brought))) | set(re.findall(r"(?<=::)\w+", text))
 
 
 class Definition:
@@ -80,12 +53,6 @@ def brought_in(text):
                 yield word, (crate, module, name)
     for crate, module, other in MODULE.findall(text):
         yield other, (crate, module, ANY)
-
-
-def cited_in(text, origins, own):
-    """The crates, modules and names of the definitions that a text of a crate names, or unfolds."""
-    named = {origins[it] for it in words_of(text) if it in origins}
-    return named | {(own if crate == "crate" else crate, *it) for crate, *it in UNFOLDED.findall(text)}
 
 
 def definitions_in(folder):
@@ -119,142 +86,103 @@ def passed_on_by(folder):
     return {(os.path.basename(folder), module): crate for crate, module in found}
 
 
-def block_at(text, start, end=BRACE_OR_SEMICOLON):
-    """A text from here to the end of its block."""
-    end = end.search(text, start)
-    return text[start : end.end() if end else len(text)]
+class Said:
+    """A text that counts, and where the words come from that its file brings in from specs/."""
 
+    def __init__(self, text, origins):
+        self.text, self.origins = text, origins
 
-class Source:
-    """What a file of src/ says to others: contracts, constants, types with their ghost fields, and how contracts see them;
-    to other crates only what is public."""
-
-    def __init__(self, text, is_own):
-        self.origins = dict(brought_in(text))
-        found = [(it, it[0]) for kind in (FUNCTION, CONSTANT) for it in kind.finditer(text)]
-        self.free = {it[0] for it in FUNCTION.finditer(text) if not it[0][0].isspace()}
-        models = [(it, block_at(text, it.start(), BRACE)) for it in MODEL.finditer(text)]
-        types = [(it, block_at(text, it.start())) for it in TYPE.finditer(text)]
-        if not is_own:
-            values = {it[2] for it, block in models if VALUE.search(block)}
-            models = [(it, UNSEEN_MEMBER.sub("", block) if it[2] in values else block) for it, block in models]
-            types = [(it, UNSEEN_FIELD.sub("", block) if it[2] in values else block) for it, block in types]
-        found += types + models
-        seen = ("pub ", "impl", "pub(crate) ", "pub(super) ") if is_own else ("pub ", "impl")
-        self.items = [(it[2], item) for it, item in found if it[1] in seen]
-
-
-def sources_in(folder):
-    """The sources of a crate without their comments, by their paths."""
-    return {path: without_comments(text_of(path)) for at, _, names in os.walk(folder) for name in names for path in [f"{at}/{name}"] if name.endswith(".rt")}
-
-
-def words_in(texts):
-    return {word for it in texts for word in re.findall(r"\w+", it)}
-
-
-def name_of_trait(block):
-    return re.search(r"\btrait (\w+)", block)[1]
-
-
-def code_of(text):
-    """A source without its attributes."""
-    return re.sub(r"#\[[^\]]*\]", "", text)
-
-
-def home_of(folder, path, own):
-    """The crate of a source; of the crate that is judged also the file."""
-    crate = os.path.basename(folder)
-    return f"{crate}/{os.path.basename(path).removesuffix('.rt')}" if crate == own else crate
-
-
-def heads_in(text):
-    """The first words of the paths that a source takes from its crate: a file's name, or what the root has."""
-    for found in re.finditer(r"\b(?:crate|super)::(\w+|\{)", text):
-        if found[1] != "{":
-            yield found[1]
-            continue
-        depth, at, is_first = 1, found.end(), True
-        for word in re.finditer(r"\w+|[{},]", text[at:]):
-            depth += {"{": 1, "}": -1}.get(word[0], 0)
-            if depth == 0:
-                break
-            if is_first and word[0].isidentifier():
-                yield word[0]
-            is_first = depth == 1 and word[0] == ","
-
-
-def implemented_in(text):
-    """The words in the heads of a source's blocks `impl`: types whose methods stand there, among others."""
-    return set(re.findall(r"\w+", " ".join(re.findall(r"(?m)^impl\b[^{]*", text))))
+    def cited(self):
+        return {self.origins[it] for it in words_of(self.text) if it in self.origins}
 
 
 class Judges:
-    """The definitions and sources of a crate and of those below it, by which its mutants are judged. `below` has the crates
-    below each; without it every crate counts as one that every file reaches."""
+    """The definitions and sources of a crate and of those below it, by which its mutants are judged."""
 
-    def __init__(self, folders, below=None):
-        self.own, self.below = os.path.basename(folders[-1]), below
-        self.files = {os.path.basename(path).removesuffix(".rt"): code_of(it) for path, it in sources_in(f"{folders[-1]}/src").items()}
-        self.implemented = {file: implemented_in(it) for file, it in self.files.items()}
+    def __init__(self, folders):
+        self.own = os.path.basename(folders[-1])
         self.definitions = {key: it for folder in folders for key, it in definitions_in(folder)}
         self.passed_on = {key: it for folder in folders for key, it in passed_on_by(folder).items()}
-        texts = [(text, home_of(folder, path, self.own)) for folder in folders for path, text in sorted(sources_in(f"{folder}/src").items())]
-        self.traits = [(block_at(it, found.start(), BRACE), home) for it, home in texts for found in TRAIT.finditer(it)]
-        self.items, self.outside = {}, {}
-        for text, home in texts:
-            crate = home.partition("/")[0]
-            source = Source(text, crate == self.own)
-            for name, item in source.items:
-                is_outside = crate != self.own and item in source.free
-                kind = self.outside if is_outside else self.items
-                kind.setdefault(name, []).append((item, source.origins, crate, home))
+        self.files, self.types, self.traits, self.constants, self.functions, self.blocks = {}, {}, {}, {}, {}, {}
+        kinds = {"type": self.types, "model": self.types, "trait": self.traits, "constant": self.constants, "function": self.functions, "method": self.functions}
+        for folder in folders:
+            for path, source in sources_in(folder).items():
+                source.origins = dict(brought_in(source.text))
+                is_own = source.crate == self.own
+                if is_own:
+                    self.files[path] = source
+                for it in source.items if is_own else seen_from_outside(source.items):
+                    kinds[it.kind].setdefault(it.name, []).append((it, source))
+                    if it.owner and it.around:
+                        self.blocks.setdefault(it.owner, set()).add(it.around)
 
-    def of(self, texts):
-        """The texts that decide over mutants of these files, these among them; all of them without comments."""
-        texts = [without_comments(it) for it in texts]
-        words, reached = set().union(*(named_in(it) for it in texts)), self.reached_by(texts)
-        items = [it for name in sorted(words & self.items.keys()) for it in self.items[name] if it[3] in reached]
-        outside = words & set().union(*(brought_from_outside(it) for it in texts))
-        items += [it for name in sorted(outside & self.outside.keys()) for it in self.outside[name]]
-        left = set().union(*(cited_in(it, dict(brought_in(it)), self.own) for it in texts), *(cited_in(*it[:3]) for it in items))
-        found = set()
-        while left := self.known(left) - found:
-            found |= left
-            left = set().union(*(self.definitions[it].cited() for it in left))
-        said = [*texts, *(it for it, *_ in items), *(self.definitions[it].text for it in sorted(found))]
-        return [*said, *self.traits_of(said, reached)]
+    def of(self, file, turned):
+        """The texts that decide over mutants of these functions of a file, each a name and the type or trait in whose block
+        it stands; all of them without comments, and in an order that doesn't depend on the files in which they stand."""
+        said, found = self.said(file, turned)
+        return sorted({*(BRINGS.sub("", it.text) for it in said), *(self.definitions[it].text for it in found)})
 
-    def traits_of(self, said, reached):
-        """The traits that decide where these texts do: those of the crate's own files, and of other crates those whose name
-        stands in one of the texts, or in such a trait. A trait's methods are brought in by its name, and a clause that says
-        what the trait knows of a type names it too, as a bound or by the type."""
-        left = [(it, home) for it, home in self.traits if home in reached]
-        words, found = words_in(said), set()
-        while more := {it for it, home in left if it not in found and ("/" in home or name_of_trait(it) in words)}:
-            found |= more
-            words |= words_in(more)
-        return [it for it, _ in left if it in found]
+    def definitions_of(self, file, turned):
+        """The definitions among what decides."""
+        return self.said(file, turned)[1]
 
-    def reached_by(self, texts):
-        """The crates whose types and traits these files can meet, and the files of this crate: those that they name, or that
-        a file names which they bring in, what has methods of the types there, and the crates below. A value of any other
-        type has no way into them."""
-        if self.below is None:
-            return {home for items in self.items.values() for *_, home in items} | {it for _, it in self.traits}
-        found, seen, left = set(), set(), [code_of(it) for it in texts]
-        while left:
-            text = left.pop()
-            named = set(re.findall(r"\b(\w+)::", text)) | set(re.findall(r"(?m)^(?:pub )?use (\w+)", text))
-            found |= {it for crate in named & self.below.keys() for it in (crate, *self.below[crate])}
-            heads = set(heads_in(text))
-            types = set(re.findall(r"\b(?:struct|enum|trait) (\w+)", text))
-            files = {it for it in self.files if it in heads or types & self.implemented[it]}
-            # What is no file of the crate comes from its root.
-            files |= {"lib", "main"} & self.files.keys() if heads - self.files.keys() else set()
-            left += [self.files[it] for it in files - seen]
-            seen |= files
-        return found | {f"{self.own}/{it}" for it in seen}
+    @functools.lru_cache(maxsize=None)
+    def said(self, file, turned):
+        """The texts of sources that count, and the definitions."""
+        own = self.turned_in(file, turned)
+        called, named = self.called_by(own)
+        level = self.known({it for said in [*own, *called] for it in said.cited()})
+        found = level | self.known({it for said in named for it in said.cited()})
+        for _ in range(LEVELS - 1):
+            level = self.known({it for key in level for it in self.definitions[key].cited()}) - found
+            found |= level
+        return [*own, *called, *named], found
+
+    def turned_in(self, file, turned):
+        """The functions that are turned, each with the first lines of the block that it stands in; where a constant is, this
+        one and all functions of the crate that name it."""
+        source, found = self.files[file], []
+        for name, owner in sorted(turned):
+            items = [it for it in source.items if it.name == name and it.kind in ("function", "method") and owner in ("", it.owner, it.trait)]
+            found += [Turned(it, source, self.promised(it)) for it in items]
+            if not items:
+                found += self.constant_in(source, name)
+        return found or [Turned(None, source, "")]
+
+    def constant_in(self, source, name):
+        constants = [it for it in source.items if it.kind in ("constant", "type") and it.name == name]
+        users = [(it, other) for other in self.files.values() for it in other.items if it.kind in ("function", "method") and name in words_in(it.text)]
+        return [Turned(it, source, "") for it in constants] + [Turned(it, other, self.promised(it)) for it, other in users]
+
+    def promised(self, item):
+        """What the trait says of a method, whose block it stands in."""
+        traits = self.traits.get(item.trait, ()) if item.owner else ()
+        heads = [it.head for _, source in traits for it in source.items if it.kind == "method" and it.trait == item.trait and not it.owner and it.name == item.name]
+        return "\n".join(heads)
+
+    def called_by(self, own):
+        """The contracts of what these functions call; and the types, constants and traits that they or those name."""
+        # The names of types and traits whose values may come in; a value of any other type has no way to.
+        known, called, new = set(), {}, set()
+        for it in own:
+            new |= it.words() | {word for word in it.source.brought if word in self.traits}
+        while new := new - known:
+            known |= new
+            new = {word for name in new for it, _ in [*self.types.get(name, ()), *self.traits.get(name, ())] for word in self.reached_from(it)}
+            new |= {word for name in known & self.types.keys() for block in self.blocks.get(name, ()) for line in re.findall(r"(?m)^type [^;]*;", block) for word in words_in(line)}
+            for turned in own:
+                for key, item in turned.calls(self, known):
+                    called[key] = item
+            new |= {word for item, _ in called.values() for word in words_in(item.head)}
+        heads = [Said(item.head, source.origins) for _, (item, source) in sorted(called.items())]
+        words = set().union(*(it.words() for it in own), *(words_in(it.text) for it in heads))
+        named = [(it, source) for kind in (self.types, self.constants, self.traits) for name in sorted(words & kind.keys()) for it, source in kind[name]]
+        return heads, [Said(it.text, source.origins) for it, source in named]
+
+    @staticmethod
+    def reached_from(item):
+        """The words of a type's fields, and of what a trait is built on."""
+        return words_in(item.text.partition("{")[0] if item.kind == "trait" else item.text) if item.kind != "model" else ()
 
     def known(self, keys):
         """Those of these names that are definitions, each in the crate that has it; of a module under another name, all of
@@ -268,3 +196,31 @@ class Judges:
         while (crate, module) in self.passed_on:
             crate = self.passed_on[crate, module]
         return crate
+
+
+class Turned(Said):
+    """A function that is turned, or a constant; without one it is the whole file."""
+
+    def __init__(self, item, source, promised):
+        self.item, self.source = item, source
+        super().__init__("\n".join([item.around, promised, item.text]) if item else source.text, source.origins)
+
+    def words(self):
+        words = words_in(self.text)
+        return words | {self.source.other_names[it] for it in words & self.source.other_names.keys()}
+
+    def calls(self, judges, known):
+        """What it calls, among functions that it can name, and methods of types and traits that are known."""
+        text, words = self.item.text if self.item else self.source.text, self.words()
+        behind = {*METHOD.findall(text), *PATH.findall(text)}
+        in_scope = self.source.brought | set(PATH.findall(text))
+        for name in words & judges.functions.keys():
+            for item, source in judges.functions[name]:
+                if item is self.item:
+                    continue
+                if item.kind == "method":
+                    is_called = name in behind and (item.owner or item.trait) in known
+                else:
+                    is_called = name in in_scope or source is self.source
+                if is_called:
+                    yield (source.crate, source.path, item.owner, item.trait, name), (item, source)

@@ -1,12 +1,14 @@
 //! A file that is read where it is needed: `ReadingSource` keeps what it read, and views borrow from it.
 #![tactic(auto)]
 
+mod counted;
 mod held;
 mod reading;
 mod run;
 mod source;
 mod whole;
 
+pub use counted::{CountedRead, CountedReader, ReadFailed};
 pub use held::Held;
 pub use reading::{FetchError, ReadAt};
 pub use run::Run;

@@ -1,5 +1,6 @@
 //! Values from outside.
 
+mod counted;
 mod fakes;
 mod parts;
 mod whole;

@@ -24,7 +24,7 @@ use command::{Command, asks_for_sample, parse_commands};
 use engine::run;
 use from_reader::list_from;
 use pdb::MemorySource;
-use pdb_file::{read_all, size_of};
+use pdb_file::{CountedReader, read_all, size_of};
 use pdb_text::words_of;
 use report::{Fault, report};
 use std::alloc::Global;
@@ -80,11 +80,11 @@ fn list(rt: &(impl Env + Files<File = File> + Print + AllocGlobal)) -> Result<()
         return Err(Fault::Usage);
     }
     let commands = parse_commands(rt.alloc(), spelled)?;
-    let mut file = fs::open(rt, name.as_str()).map_err(|_| Fault::Read)?;
+    let file = fs::open(rt, name.as_str()).map_err(|_| Fault::Read)?;
     if let Some(size) = size_of(&file) {
         return list_from(rt.alloc(), &file, size, &commands, &mut out);
     }
-    let bytes = read_all(rt.alloc(), &mut file)?;
+    let bytes = read_all(rt.alloc(), &mut CountedReader::counting(file))?;
     run(rt.alloc(), MemorySource::new(&bytes), &commands, &mut out)?;
     Ok(())
 }

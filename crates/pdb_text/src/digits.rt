@@ -1,8 +1,9 @@
 //! Digits of numbers, put behind what is there already.
 
-ghost use Rattle.std.specs.Prelude.{◌≡◌, ◌+◌, ◌*◌, ◌/◌, ◌%◌, ◌^◌, ◌<◌, ◌≤◌, [], ◌∷◌, ◌++◌, codes, flat_map, OnOk};
+ghost use Rattle.std.specs.Prelude.{◌≡◌, ◌+◌, ◌*◌, ◌/◌, ◌%◌, ◌^◌, ◌<◌, ◌≤◌, [], ◌∷◌, ◌++◌, codes, flat_map, length, vec_capacity, IsOk, OnErr, OnOk};
 ghost use Rattle.std.specs.Fmt.{decimal};
 ghost use Rattle.pdb_text.specs.Digits.{hex, hex_length, short_hex, four_digits};
+ghost use Rattle.pdb_text.specs.Written.{PutFront};
 
 use std::alloc::AllocError;
 
@@ -80,21 +81,26 @@ pub fn hex8(n: u32) -> [u8; 8]
 
 /// The byte in two lower hex digits.
 pub fn put_hex2(out: &mut Vec<u8>, n: u8) -> Result<(), AllocError>
-    ensures { OnOk result (out.new.items ≡ out.old.items ++ hex 2 n) }
+    ensures ok { OnOk result (out.new.items ≡ out.old.items ++ hex 2 n) }
+    ensures err { OnErr result (out.new.items ≡ out.old.items) }
+    ensures capacity { vec_capacity out.old ≤ vec_capacity out.new }
+    ensures fits { length out.old.items + 2 ≤ vec_capacity out.old → IsOk result }
 {
     out.extend_from_slice(&hex2(u32::from(n)))
 }
 
 /// The number in four lower hex digits.
 pub fn put_hex4(out: &mut Vec<u8>, n: u16) -> Result<(), AllocError>
-    ensures { OnOk result (out.new.items ≡ out.old.items ++ hex 4 n) }
+    ensures ok { OnOk result (out.new.items ≡ out.old.items ++ hex 4 n) }
+    ensures err { OnErr result (out.new.items ≡ out.old.items) }
 {
     out.extend_from_slice(&hex4(n))
 }
 
 /// The number in eight lower hex digits.
 pub fn put_hex8(out: &mut Vec<u8>, n: u32) -> Result<(), AllocError>
-    ensures { OnOk result (out.new.items ≡ out.old.items ++ hex 8 n) }
+    ensures ok { OnOk result (out.new.items ≡ out.old.items ++ hex 8 n) }
+    ensures err { OnErr result (out.new.items ≡ out.old.items) }
 {
     out.extend_from_slice(&hex8(n))
 }
@@ -119,7 +125,8 @@ fn hex_length(n: u32) -> usize
 /// The number in lower hex digits, without zeros in front.
 #[tactic(auto, using(crate::proofs::Pairs::last_digits))]
 pub fn put_short_hex(out: &mut Vec<u8>, n: u32) -> Result<(), AllocError>
-    ensures { OnOk result (out.new.items ≡ out.old.items ++ short_hex n) }
+    ensures ok { OnOk result (out.new.items ≡ out.old.items ++ short_hex n) }
+    ensures err { OnErr result (out.new.items ≡ out.old.items) }
 {
     let digits = hex8(n);
     out.extend_from_slice(&digits[8 - hex_length(n)..])
@@ -158,7 +165,8 @@ fn decimal4(n: u64) -> [u8; 4]
 #[tactic(auto, using(std::proofs::lemmas::Fmt::decimal_digit, crate::proofs::Pairs::decimal_two, crate::proofs::Pairs::decimal_three, crate::proofs::Pairs::decimal_of_four))]
 fn put_short_decimal(out: &mut Vec<u8>, n: u64) -> Result<(), AllocError>
     requires { n < 10000 }
-    ensures { OnOk result (out.new.items ≡ out.old.items ++ decimal n) }
+    ensures ok { OnOk result (out.new.items ≡ out.old.items ++ decimal n) }
+    ensures err { OnErr result (out.new.items ≡ out.old.items) }
 {
     if n < 10 {
         out.push(b'0' + n as u8)?;
@@ -175,8 +183,10 @@ fn put_short_decimal(out: &mut Vec<u8>, n: u64) -> Result<(), AllocError>
 }
 
 /// A number in decimal digits, its last four apart.
+#[tactic(auto, using(crate::proofs::Fronts::number_whole, crate::proofs::Fronts::number_first, crate::proofs::Fronts::number_piece))]
 fn put_long_decimal(out: &mut Vec<u8>, n: u64) -> Result<(), AllocError>
-    ensures { OnOk result (out.new.items ≡ out.old.items ++ decimal n) }
+    ensures ok { OnOk result (out.new.items ≡ out.old.items ++ decimal n) }
+    ensures err { OnErr result (PutFront out.old.items out.new.items (decimal n)) }
 {
     if n < 10000 {
         return put_short_decimal(out, n);
@@ -189,7 +199,8 @@ fn put_long_decimal(out: &mut Vec<u8>, n: u64) -> Result<(), AllocError>
 /// The number in decimal digits.
 #[inline]
 pub fn put_decimal(out: &mut Vec<u8>, n: u64) -> Result<(), AllocError>
-    ensures { OnOk result (out.new.items ≡ out.old.items ++ decimal n) }
+    ensures ok { OnOk result (out.new.items ≡ out.old.items ++ decimal n) }
+    ensures err { OnErr result (PutFront out.old.items out.new.items (decimal n)) }
 {
     if n < 10000 {
         return put_short_decimal(out, n);
@@ -202,7 +213,8 @@ pub fn put_decimal(out: &mut Vec<u8>, n: u64) -> Result<(), AllocError>
 #[tactic(auto, using(std::proofs::lemmas::Fmt::decimal_digit, crate::proofs::Pairs::decimal_two, crate::proofs::Pairs::decimal_three, crate::proofs::Pairs::decimal_of_four))]
 fn put_short_field(out: &mut Vec<u8>, n: u64) -> Result<(), AllocError>
     requires { n < 10000 }
-    ensures { OnOk result (out.new.items ≡ out.old.items ++ (codes " " ++ decimal n)) }
+    ensures ok { OnOk result (out.new.items ≡ out.old.items ++ (codes " " ++ decimal n)) }
+    ensures err { OnErr result (out.new.items ≡ out.old.items) }
 {
     if n < 10 {
         return out.extend_from_slice(&[b' ', b'0' + n as u8]);
@@ -221,8 +233,10 @@ fn put_short_field(out: &mut Vec<u8>, n: u64) -> Result<(), AllocError>
 
 /// A space, and the number in decimal digits.
 #[inline]
+#[tactic(auto, using(crate::proofs::Fronts::field_whole, crate::proofs::Fronts::field_piece, crate::proofs::Fronts::field_next))]
 pub fn put_field(out: &mut Vec<u8>, n: u64) -> Result<(), AllocError>
-    ensures { OnOk result (out.new.items ≡ out.old.items ++ (codes " " ++ decimal n)) }
+    ensures ok { OnOk result (out.new.items ≡ out.old.items ++ (codes " " ++ decimal n)) }
+    ensures err { OnErr result (PutFront out.old.items out.new.items (codes " " ++ decimal n)) }
 {
     if n < 10000 {
         return put_short_field(out, n);
@@ -238,15 +252,19 @@ pub fn put_field(out: &mut Vec<u8>, n: u64) -> Result<(), AllocError>
 
 /// The end of a line.
 pub fn put_line_end(out: &mut Vec<u8>) -> Result<(), AllocError>
-    ensures { OnOk result (out.new.items ≡ out.old.items ++ codes "\n") }
+    ensures ok { OnOk result (out.new.items ≡ out.old.items ++ codes "\n") }
+    ensures err { OnErr result (out.new.items ≡ out.old.items) }
 {
     out.push(b'\n')?;
     Ok(())
 }
 
 /// The bytes in two hex digits each.
+#[tactic(auto, unfolding(crate::specs::Digits::hex), using(crate::proofs::Fronts::front_digits))]
 pub fn put_hex_bytes(out: &mut Vec<u8>, bytes: &[u8]) -> Result<(), AllocError>
-    ensures { OnOk result (out.new.items ≡ out.old.items ++ flat_map (hex 2) bytes.now) }
+    ensures ok { OnOk result (out.new.items ≡ out.old.items ++ flat_map (hex 2) bytes.now) }
+    ensures err { OnErr result (PutFront out.old.items out.new.items (flat_map (hex 2) bytes.now)) }
+    ensures fits { length out.old.items + 2 * length bytes.now ≤ vec_capacity out.old → IsOk result }
 {
     for byte in bytes {
         put_hex2(out, *byte)?;

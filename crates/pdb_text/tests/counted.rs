@@ -2,8 +2,10 @@
 
 use crate::counted::*;
 use crate::output::WriteFailed;
-use crate::tests::fakes::{FailsOnce, Slow, is};
+use crate::tests::fakes::{FailsOnce, Flushed, Slow, is};
+use std::io::Write;
 use std::mem::size_of;
+use std::test::Fail;
 
 #[test]
 fn writes_all_or_a_beginning(rt: HostRuntime) {
@@ -33,6 +35,34 @@ fn no_bytes_need_no_writer(rt: HostRuntime) {
     is(&rt, "no bytes", &write_counted(&mut out, b""), &Ok(()));
     is(&rt, "no part", &out.write_part(b""), &Ok(0));
     is(&rt, "a byte", &out.write_part(b"x"), &Err(WriteFailed));
+}
+
+#[test]
+fn a_write_takes_what_the_writer_takes(rt: HostRuntime) -> Result<(), Fail> {
+    let mut text = Vec::new(rt.alloc());
+    text.resize(300_000, b'x')?;
+    for (step, count) in [
+        (1, 1),
+        (65_536, 65_536),
+        (65_537, 65_537),
+        (300_000, 300_000),
+    ] {
+        let mut out = CountedWriter::counting(Slow::new(rt.alloc(), step, 2));
+        is(&rt, "write", &out.write(&text)?, &count);
+        is(&rt, "write_part", &out.write_part(&text), &Ok(count));
+        is(&rt, "taken()", &out.inner().taken().len(), &(2 * count));
+        is(&rt, "a third write", &out.write(&text).is_ok(), &false);
+    }
+    Ok(())
+}
+
+#[test]
+fn a_flush_flushes_the_writer(rt: HostRuntime) {
+    let mut out = CountedWriter::counting(Flushed::new());
+    is(&rt, "the first flush", &out.flush().is_ok(), &true);
+    is(&rt, "flushes()", &out.inner().flushes(), &1);
+    is(&rt, "the second flush", &out.flush().is_ok(), &false);
+    is(&rt, "flushes()", &out.inner().flushes(), &2);
 }
 
 #[test]

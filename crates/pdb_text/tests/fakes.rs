@@ -92,3 +92,33 @@ impl Write for FailsOnce {
         Ok(())
     }
 }
+
+/// A writer that counts how often it is flushed. Each flush behind the first fails.
+#[derive(Drop)]
+pub struct Flushed {
+    flushes: u32,
+}
+
+impl Flushed {
+    pub fn new() -> Self {
+        Flushed { flushes: 0 }
+    }
+
+    pub fn flushes(&self) -> u32 {
+        self.flushes
+    }
+}
+
+impl Write for Flushed {
+    fn write(&mut self, buf: &[u8]) -> io::Result<usize> {
+        Ok(buf.len())
+    }
+
+    fn flush(&mut self) -> io::Result<()> {
+        self.flushes += 1;
+        if self.flushes > 1 {
+            return Err(io::Error::from(ErrorKind::Other));
+        }
+        Ok(())
+    }
+}

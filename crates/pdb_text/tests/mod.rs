@@ -5,3 +5,4 @@ mod digits;
 mod fakes;
 mod one_line;
 mod output;
+mod words;

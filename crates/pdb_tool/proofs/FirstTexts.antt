@@ -3,8 +3,8 @@ use Rattle.std.proofs.Common.{ℕ, List, Option, Result, Ok, Err, OnErr, refl, f
 use Rattle.std.specs.Prelude.{◌≢◌, IsErrAnd, IsErrOf}
 use Rattle.pdb_text.specs.Written.{WroteFirst, WroteFront}
 use Rattle.pdb_text.proofs.Written.{so_far_front}
-use Rattle.pdb_tool.specs.declared.stop.Stop.{Stop}
-use Rattle.pdb_tool.specs.declared.stop.Stop.TheVariants.{Unopened, Read, Open, Image, NoPdb, Memory, Write}
+use Rattle.tool_output.specs.declared.stop.Stop.{Stop}
+use Rattle.tool_output.specs.declared.stop.Stop.TheVariants.{Unopened, Read, Open, Image, NoPdb, Memory, Write}
 
 -- the texts of some first things are a beginning of all
 front_of_first : {X : Type 0} (f : X → List ℕ) (a b : Option (List ℕ)) (xs : List X) → WroteFirst f a b xs → WroteFront a b (flat_map f xs)

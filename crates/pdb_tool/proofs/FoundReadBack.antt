@@ -12,10 +12,10 @@ use Rattle.pdb.specs.PdbInternalSectionOffset.{PdbInternalSectionOffset}
 use Rattle.pdb.specs.Qualified.{Qualified}
 use Rattle.pdb.specs.Tables.{Addresses}
 use Rattle.pdb_resolve.specs.PlaceAddresses.{address_for}
-use Rattle.pdb_tool.specs.Findings.{finding_value, sound_value}
-use Rattle.pdb_tool.specs.FoundObjects.{HasRecord, address_value, found_value, where_value}
-use Rattle.pdb_tool.specs.Objects.{optional_value}
-use Rattle.pdb_tool.specs.SourceTexts.{digest_value, source_value}
+use Rattle.tool_check.specs.Findings.{finding_value, sound_value}
+use Rattle.tool_search.specs.FoundObjects.{HasRecord, address_value, found_value, where_value}
+use Rattle.tool_output.specs.Objects.{optional_value}
+use Rattle.tool_search.specs.SourceTexts.{digest_value, source_value}
 use Rattle.pdb_tool.proofs.ReadBack.{file_depth, file_numbers, name_depth, name_numbers, number_below}
 
 -- ---- numbers

@@ -15,13 +15,13 @@ use Rattle.pdb.specs.Modules.{ModuleEntry}
 use Rattle.pdb.specs.Refusal.{number_of}
 use Rattle.pdb_image.specs.Images.{Said}
 use Rattle.pdb_image.specs.Debug.{Reference}
-use Rattle.pdb_tool.specs.ErrorObjects.{error_value, none_value}
+use Rattle.tool_output.specs.ErrorObjects.{error_value, none_value}
 use Rattle.pdb_tool.specs.KeyLines.{image_value, pdb_value}
-use Rattle.pdb_tool.specs.ModuleLists.{listed_value, object_value}
-use Rattle.pdb_tool.specs.Objects.{number_value, text_value}
-use Rattle.pdb_tool.specs.SectionTexts.{section_value}
-use Rattle.pdb_tool.specs.StreamRoles.{StreamRole}
-use Rattle.pdb_tool.specs.StreamTexts.{size_value, stream_value, what_items}
+use Rattle.tool_lists.specs.ModuleLists.{listed_value, object_value}
+use Rattle.tool_output.specs.Objects.{number_value, text_value}
+use Rattle.tool_lists.specs.SectionTexts.{section_value}
+use Rattle.tool_lists.specs.StreamRoles.{StreamRole}
+use Rattle.tool_lists.specs.StreamTexts.{size_value, stream_value, what_items}
 use Rattle.pdb_tool.proofs.ReadBack.{number_below}
 
 -- ---- errors

@@ -8,8 +8,8 @@ use Rattle.json.proofs.Printed.Decimals.{IsNumber-decimal}
 use Rattle.json.proofs.Printed.Trees.{document-print}
 use Rattle.pdb.specs.Qualified.{Qualified}
 use Rattle.pdb_resolve.specs.Frames.{Frame, qualified_text}
-use Rattle.pdb_tool.specs.FrameObjects.{HasLine, asked_value, file_value, frame_items, frame_value, name_value, unasked_value}
-use Rattle.pdb_tool.specs.Objects.{known_value}
+use Rattle.tool_search.specs.FrameObjects.{HasLine, asked_value, file_value, frame_items, frame_value, name_value, unasked_value}
+use Rattle.tool_output.specs.Objects.{known_value}
 
 -- ---- numbers
 

@@ -1,15 +1,16 @@
 -- What a command writes of a file.
 use Rattle.std.specs.Prelude.{ℕ, List, flat_map, map}
-use Rattle.pdb_tool.specs.Questions.{asks_text}
-use Rattle.pdb_tool.specs.ModuleTexts.{all_symbols_command, find_command, lines_command, scopes_command, sources_command, symbols_command, where_command}
-use Rattle.pdb_tool.specs.SourceViews.{source_view}
-use Rattle.pdb_tool.specs.ModuleLists.{modules_command}
-use Rattle.pdb_tool.specs.Operands.{word_of}
-use Rattle.pdb_tool.specs.SectionTexts.{sections_command}
-use Rattle.pdb_tool.specs.StreamTexts.{streams_command}
-use Rattle.pdb_tool.specs.TypeTexts.{types_command}
-use Rattle.pdb_tool.specs.declared.options.Form.{Form}
-use Rattle.pdb_tool.specs.declared.options.Form.TheVariants.{Text}
+use Rattle.tool_addresses.specs.QuestionTexts.{asks_text}
+use Rattle.tool_search.specs.LookupCommands.{find_command, sources_command, where_command}
+use Rattle.tool_symbols.specs.SymbolCommands.{all_symbols_command, lines_command, scopes_command, symbols_command}
+use Rattle.tool_arguments.specs.SourceViews.{source_view}
+use Rattle.tool_lists.specs.ModuleLists.{modules_command}
+use Rattle.tool_arguments.specs.Operands.{word_of}
+use Rattle.tool_lists.specs.SectionTexts.{sections_command}
+use Rattle.tool_lists.specs.StreamTexts.{streams_command}
+use Rattle.tool_types.specs.TypeTexts.{types_command}
+use Rattle.tool_arguments.specs.declared.options.Form.{Form}
+use Rattle.tool_arguments.specs.declared.options.Form.TheVariants.{Text}
 use Rattle.pdb_tool.specs.declared.file_texts.FileText.{FileText}
 use Rattle.pdb_tool.specs.declared.file_texts.FileText.TheVariants.{AllSymbols, Code, Find, Lines, Modules, Scopes, Sections, Sources, Streams, Symbols, Types, Where}
 

@@ -9,12 +9,12 @@ use Rattle.pdb_image.specs.Headers.{is_image}
 use Rattle.pdb_image.specs.Images.{Said, image_of}
 use Rattle.pdb_text.specs.OneLine.{one_line}
 use Rattle.pdb.specs.Keys.{byte_text, key_of_file, key_text}
-use Rattle.pdb_tool.specs.Objects.{json_line, text_value}
-use Rattle.pdb_tool.specs.Stops.{stop_of_opening}
-use Rattle.pdb_tool.specs.declared.options.Form.{Form}
-use Rattle.pdb_tool.specs.declared.options.Form.TheVariants.{Text, Json as Objects}
-use Rattle.pdb_tool.specs.declared.stop.Stop.{Stop}
-use Rattle.pdb_tool.specs.declared.stop.Stop.TheVariants.{Image}
+use Rattle.tool_output.specs.Objects.{json_line, text_value}
+use Rattle.tool_output.specs.Stops.{stop_of_opening}
+use Rattle.tool_arguments.specs.declared.options.Form.{Form}
+use Rattle.tool_arguments.specs.declared.options.Form.TheVariants.{Text, Json as Objects}
+use Rattle.tool_output.specs.declared.stop.Stop.{Stop}
+use Rattle.tool_output.specs.declared.stop.Stop.TheVariants.{Image}
 
 -- an image's own key: its time stamp in eight upper hex digits, and its size in lower ones
 unfoldable pub own_key : ℕ → ℕ → List ℕ

@@ -10,8 +10,8 @@ use Rattle.pdb_image.specs.Debug.{Reference}
 use Rattle.pdb_image.specs.Images.{Said, image_of}
 use Rattle.pdb_text.specs.Written.{WroteFront}
 use Rattle.pdb.specs.Keys.{key_of_file, key_text}
-use Rattle.pdb_tool.specs.declared.stop.Stop.{Stop}
-use Rattle.pdb_tool.specs.declared.stop.Stop.TheVariants.{Image, NoPdb}
+use Rattle.tool_output.specs.declared.stop.Stop.{Stop}
+use Rattle.tool_output.specs.declared.stop.Stop.TheVariants.{Image, NoPdb}
 
 -- the key behind `--key=`, its letters as upper ones
 abbrev pub key_in_word : List ℕ → List ℕ

@@ -7,25 +7,25 @@ ghost use Rattle.pdb.specs.Container.{opens};
 ghost use Rattle.pdb.specs.Error.{Error};
 ghost use Rattle.pdb_text.specs.Written.{WroteFront};
 ghost use Rattle.pdb_tool.specs.FileTexts.{file_text, form_of};
-ghost use Rattle.pdb_tool.specs.Stops.{StopsCommand};
-ghost use Rattle.pdb_tool.specs.WriteFailures.{failures_after};
-ghost use Rattle.pdb_tool.specs.declared.stop.Stop.{Stop};
+ghost use Rattle.tool_output.specs.Stops.{StopsCommand};
+ghost use Rattle.tool_output.specs.WriteFailures.{failures_after};
+ghost use Rattle.tool_output.specs.declared.stop.Stop.{Stop};
 
-use crate::commands::{write_all_symbols, write_lines, write_scopes, write_symbols};
-use crate::lookups::{write_find, write_sources, write_where};
-use crate::module_lists::write_modules;
-use crate::notes::NotesDamage;
-use crate::operands::Operand;
-use crate::options::Form;
-use crate::question::Question;
-use crate::resolve::resolve_words;
-use crate::section_texts::write_sections;
-use crate::sources_asked::SourceAsked;
-use crate::stop::Stop;
-use crate::stream_texts::write_streams;
-use crate::type_texts::write_types;
 use pdb::Source;
 use std::alloc::Global;
+use tool_addresses::resolve::resolve_words;
+use tool_arguments::operands::Operand;
+use tool_arguments::options::Form;
+use tool_arguments::question::Question;
+use tool_arguments::sources_asked::SourceAsked;
+use tool_lists::module_lists::write_modules;
+use tool_lists::section_texts::write_sections;
+use tool_lists::stream_texts::write_streams;
+use tool_output::notes::NotesDamage;
+use tool_output::stop::Stop;
+use tool_search::lookups::{write_find, write_sources, write_where};
+use tool_symbols::commands::{write_all_symbols, write_lines, write_scopes, write_symbols};
+use tool_types::type_texts::write_types;
 
 /// What a command writes of one file. Of no number of a module it is that of all modules, and of symbols the global
 /// ones.

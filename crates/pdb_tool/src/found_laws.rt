@@ -10,9 +10,9 @@ ghost use Rattle.pdb.specs.LineInfo.{LineInfo};
 ghost use Rattle.pdb.specs.PdbInternalSectionOffset.{PdbInternalSectionOffset};
 ghost use Rattle.pdb.specs.Qualified.{Qualified};
 ghost use Rattle.pdb.specs.Tables.{Addresses};
-ghost use Rattle.pdb_tool.specs.Findings.{finding_value, sound_value};
-ghost use Rattle.pdb_tool.specs.FoundObjects.{HasRecord, found_value, where_value};
-ghost use Rattle.pdb_tool.specs.SourceTexts.{source_value};
+ghost use Rattle.tool_check.specs.Findings.{finding_value, sound_value};
+ghost use Rattle.tool_search.specs.FoundObjects.{HasRecord, found_value, where_value};
+ghost use Rattle.tool_search.specs.SourceTexts.{source_value};
 
 /// The object of what a name was found by is one JSON value, which is read back as it was written.
 pub fn a_found_name_reads_back()

@@ -6,22 +6,22 @@ ghost use Rattle.std.specs.Io.KnownBytes.{Appends};
 ghost use Rattle.pdb.specs.Container.{opens};
 ghost use Rattle.pdb.specs.Error.{Error};
 ghost use Rattle.pdb_text.specs.Written.{WroteFront};
-ghost use Rattle.pdb_tool.specs.Asked.{lines_of};
+ghost use Rattle.tool_addresses.specs.AnsweredLines.{lines_of};
 ghost use Rattle.pdb_tool.specs.FileTexts.{file_text};
-ghost use Rattle.pdb_tool.specs.Questions.{line_text};
-ghost use Rattle.pdb_tool.specs.Stops.{StopsCommand};
-ghost use Rattle.pdb_tool.specs.WriteFailures.{failures_after};
-ghost use Rattle.pdb_tool.specs.declared.stop.Stop.{Stop};
+ghost use Rattle.tool_addresses.specs.QuestionTexts.{line_text};
+ghost use Rattle.tool_output.specs.Stops.{StopsCommand};
+ghost use Rattle.tool_output.specs.WriteFailures.{failures_after};
+ghost use Rattle.tool_output.specs.declared.stop.Stop.{Stop};
 
 use crate::file_texts::{FileText, write_text};
-use crate::notes::NotesDamage;
-use crate::options::Options;
-use crate::resolve::resolve_lines;
-use crate::stop::Stop;
 use bumpalo::Bump;
 use pdb_file::{KnownFile, ReadAt, ReadingSource};
 use std::alloc::Global;
 use std::io::BufRead;
+use tool_addresses::resolve::resolve_lines;
+use tool_arguments::options::Options;
+use tool_output::notes::NotesDamage;
+use tool_output::stop::Stop;
 
 /// Writes the text of a file of this size, of which it reads what it is made of.
 pub fn write_from<R: ReadAt, W: NotesDamage>(

@@ -1,15 +1,16 @@
 //! The files that operands name.
 
 use crate::file_kind::{FRONT_SIZE, file_kind};
-use crate::operands::Operand;
-use crate::report::{Fault, Kind, file_in_word, write_stop};
-use crate::stop::{Stop, Unopened};
+use crate::report::{Kind, file_in_word, write_stop};
 use crate::wanted::{ImageWants, wants_in};
-use pdb_file::{ReadAt, read_all, size_of};
+use pdb_file::{CountedReader, ReadAt, read_all, size_of};
 use std::alloc::Global;
 use std::fs::{self, File};
 use std::io::{self, ErrorKind, Write};
 use std::rt::Files;
+use tool_arguments::operands::Operand;
+use tool_output::fault::Fault;
+use tool_output::stop::{Stop, Unopened};
 
 /// What opens files, and which arguments aren't UTF-8.
 #[derive(Drop)]
@@ -125,8 +126,8 @@ pub fn image_wants<R: Files<File = File> + AllocGlobal>(
         argument,
         word: file_in_word(word),
     };
-    let mut file = host.open(name)?;
-    let wants = match read_all(host.alloc(), &mut file) {
+    let file = host.open(name)?;
+    let wants = match read_all(host.alloc(), &mut CountedReader::counting(file)) {
         Ok(bytes) => wants_in(host.alloc(), &bytes),
         Err(e) => Err(Stop::from(e)),
     };

@@ -6,7 +6,7 @@ ghost use Rattle.json.specs.Json.{document};
 ghost use Rattle.json.specs.Print.{print};
 ghost use Rattle.json.specs.Tree.{json_tokens};
 ghost use Rattle.pdb_resolve.specs.Frames.{Frame};
-ghost use Rattle.pdb_tool.specs.FrameObjects.{HasLine, asked_value, unasked_value};
+ghost use Rattle.tool_search.specs.FrameObjects.{HasLine, asked_value, unasked_value};
 
 /// The object of an address is one JSON value: a reader of JSON gets back the argument and the frames.
 pub fn an_address_reads_back()

@@ -4,13 +4,13 @@ ghost use Rattle.std.specs.Prelude.{◌≡◌, Ok, Err, IfOk, IfErr, IsErrOf, Li
 ghost use Rattle.std.specs.Option.{ForSome};
 ghost use Rattle.pdb.specs.Error.{Error};
 ghost use Rattle.pdb.specs.Keys.{key_of_file};
-ghost use Rattle.pdb_tool.specs.Stops.{StopsOpening};
+ghost use Rattle.tool_output.specs.Stops.{StopsOpening};
 
-use crate::stop::{Stop, stop_of_opening};
 use bumpalo::Bump;
 use pdb::key_of;
 use pdb_file::{KnownFile, ReadAt, ReadingSource};
 use std::alloc::Global;
+use tool_output::stop::{Stop, stop_of_opening};
 
 /// The key of a file of this size, of which no more is read than that asks for.
 pub fn key_from<R: ReadAt>(alloc: Global, input: &R, size: u64) -> Result<Vec<u8>, Stop>

@@ -9,18 +9,18 @@ ghost use Rattle.pdb_image.specs.Headers.{is_image};
 ghost use Rattle.pdb_image.specs.Images.{image_of, reference, said};
 ghost use Rattle.pdb_tool.specs.KeyLines.{IsLine, image_in as line_of_image, image_line as image_line_of, image_text as text_of_image, key_line as key_line_of, own_key, pdb_in as line_of_pdb, pdb_named, pdb_text as text_of_pdb};
 ghost use Rattle.pdb.specs.Keys.{key_of_file};
-ghost use Rattle.pdb_tool.specs.Stops.{StopsOpening};
-ghost use Rattle.pdb_tool.specs.declared.stop.Stop.{Stop};
+ghost use Rattle.tool_output.specs.Stops.{StopsOpening};
+ghost use Rattle.tool_output.specs.declared.stop.Stop.{Stop};
 
 use crate::key_objects::{image_object, pdb_object};
-use crate::options::Form;
-use crate::stop::{Stop, stop_of_opening};
 use bumpalo::Bump;
 use pdb::{Error, MemorySource, Source, SourceSlice, key_of, key_text, put_hex_bytes};
 use pdb_file::{KnownFile, ReadAt, ReadingSource};
 use pdb_image::{Image, PdbReference, is_image};
 use pdb_text::put_one_line;
 use std::alloc::{AllocError, Global};
+use tool_arguments::options::Form;
+use tool_output::stop::{Stop, stop_of_opening};
 
 /// An image's own key: its time stamp in eight upper hex digits, and its size in lower ones.
 #[tactic(auto, unfolding(crate::specs::KeyLines::own_key))]

@@ -7,14 +7,14 @@ ghost use Rattle.json.specs.Token.{begin_object, key};
 ghost use Rattle.json.specs.Tree.{json_tokens, members_tokens};
 ghost use Rattle.pdb_image.specs.Images.{reference, said};
 ghost use Rattle.pdb_tool.specs.KeyLines.{image_value, own_key, pdb_members, pdb_value};
-ghost use Rattle.pdb_tool.specs.Objects.{Adds, json_line, text_value};
+ghost use Rattle.tool_output.specs.Objects.{Adds, json_line, text_value};
 
 use crate::key_line::put_own_key;
-use crate::objects::{end_line, put_last, put_member, put_null, value_behind};
 use json::Writer;
 use pdb::key_text;
 use pdb_image::{Image, PdbReference};
 use std::alloc::{AllocError, Global};
+use tool_output::objects::{end_line, put_last, put_member, put_null, value_behind};
 
 /// An object that has a key so far.
 fn begin_key(alloc: Global, writer: &mut Writer, bytes: &[u8]) -> Result<(), AllocError>
@@ -67,7 +67,7 @@ fn put_image(
 }
 
 /// Its line.
-#[tactic(auto, unfolding(crate::specs::Objects::json_line))]
+#[tactic(auto, unfolding(tool_output::specs::Objects::json_line))]
 pub fn image_object(alloc: Global, image: Image<'_>, name: &[u8]) -> Result<Vec<u8>, AllocError>
     ensures { IfOk result (λ v. v.items ≡ json_line (image_value name.now (said image.entry))) }
 {
@@ -92,7 +92,7 @@ fn put_pdb_value(
 }
 
 /// Its line.
-#[tactic(auto, unfolding(crate::specs::Objects::json_line))]
+#[tactic(auto, unfolding(tool_output::specs::Objects::json_line))]
 pub fn pdb_object(alloc: Global, key: &[u8], name: &[u8]) -> Result<Vec<u8>, AllocError>
     ensures { IfOk result (λ v. v.items ≡ json_line (pdb_value name.now key.now)) }
 {

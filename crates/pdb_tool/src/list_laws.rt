@@ -9,13 +9,13 @@ ghost use Rattle.pdb.specs.Error.{Error};
 ghost use Rattle.pdb.specs.ImageSectionHeader.{ImageSectionHeader};
 ghost use Rattle.pdb.specs.Modules.{ModuleEntry};
 ghost use Rattle.pdb_image.specs.Images.{Said};
-ghost use Rattle.pdb_tool.specs.ErrorObjects.{error_value, none_value};
+ghost use Rattle.tool_output.specs.ErrorObjects.{error_value, none_value};
 ghost use Rattle.pdb_tool.specs.KeyLines.{image_value, pdb_value};
-ghost use Rattle.pdb_tool.specs.ModuleLists.{listed_value};
-ghost use Rattle.pdb_tool.specs.Objects.{number_value};
-ghost use Rattle.pdb_tool.specs.SectionTexts.{section_value};
-ghost use Rattle.pdb_tool.specs.StreamRoles.{StreamRole};
-ghost use Rattle.pdb_tool.specs.StreamTexts.{stream_value};
+ghost use Rattle.tool_lists.specs.ModuleLists.{listed_value};
+ghost use Rattle.tool_output.specs.Objects.{number_value};
+ghost use Rattle.tool_lists.specs.SectionTexts.{section_value};
+ghost use Rattle.tool_lists.specs.StreamRoles.{StreamRole};
+ghost use Rattle.tool_lists.specs.StreamTexts.{stream_value};
 
 /// The object of an error outside modules is one JSON value, which is read back as it was written.
 pub fn an_error_reads_back()

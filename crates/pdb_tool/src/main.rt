@@ -1,130 +1,44 @@
 //! Texts of symbol files for people: `pdb_tool COMMAND [OPTION..] FILE [ARGUMENT..]`.
 #![tactic(auto)]
 
-mod arguments;
-mod asked;
-mod asking;
-mod call_lines;
-mod check_file;
-mod check_module;
-mod check_streams;
-mod check_types;
-mod checks;
-mod commands;
-mod depth;
-mod each_file;
-mod error_line;
-mod error_objects;
-mod fields;
-mod fields_code;
-mod fields_data;
-mod fields_references;
 mod file_kind;
-mod file_parts;
 mod file_texts;
-mod find_texts;
-mod finder;
-mod findings;
-mod flags;
 mod found_laws;
-mod found_objects;
-mod frame_objects;
 mod from_reader;
-mod help;
 mod host;
 mod json_laws;
-mod kept_ends;
 mod key;
 mod key_line;
 mod key_objects;
-mod kind_names;
-mod line_names;
-mod line_texts;
-mod list_help;
 mod list_laws;
-mod local_lines;
-mod lookups;
-mod member_texts;
-mod mistakes;
-mod module_errors;
-mod module_lists;
-mod module_machine;
-mod module_sizes;
-mod module_texts;
-mod notes;
-mod objects;
-mod opening;
-mod operands;
-mod options;
-mod output;
-mod placed_records;
-mod public_texts;
-mod qualified_texts;
-mod question;
-mod record_code;
-mod record_fields;
-mod record_flags;
-mod record_image;
-mod record_lists;
-mod record_managed;
-mod record_ranges;
-mod record_texts;
-mod record_values;
-mod record_variables;
-mod register_lines;
-mod register_names;
 mod report;
-mod resolve;
-mod scope_frames;
-mod scope_texts;
-mod section_texts;
-mod source_objects;
-mod source_texts;
-mod sources_asked;
-mod stop;
-mod stream_objects;
-mod stream_roles;
-mod stream_texts;
-mod subject;
-mod symbol_texts;
-mod type_kinds;
-mod type_lines;
-mod type_names;
-mod type_texts;
-mod values;
-mod values_forms;
-mod variable_places;
-mod variable_texts;
 mod wanted;
-mod where_texts;
-mod wildcards;
-mod words;
-mod work;
 
-use arguments::arguments_of;
-use checks::{check_from, check_of};
-use each_file::{EachFile, Printed as PrintedFile, write_each_file};
 use file_texts::FileText;
-use help::{VERSION, help_of};
 use host::{Host, image_wants};
 use key_line::{key_line, line_from};
-use list_help::LIST;
-use notes::{Noted, NotesDamage};
-use operands::{Operand, all_questions};
-use options::{Form, Options, Wanted};
-use output::{Noticed, Output};
-use pdb_file::{read_all, size_of};
+use pdb_file::{CountedReader, read_all, size_of};
 use pdb_text::{CountedWrite, CountedWriter, WordsError, write_out};
-use report::{Fault, report, status_of, word_at, write_damage, write_notice, write_other_key};
+use report::{report, word_at, write_damage, write_notice, write_other_key};
 use std::alloc::Global;
 use std::fs::File;
 use std::io::{self, BufRead, Input, IsTerminal, Write};
 use std::os::fd::AsRawFd;
 use std::process::ExitCode;
 use std::rt::Files;
-use stop::Stop;
+use tool_arguments::arguments::arguments_of;
+use tool_arguments::help::{VERSION, help_of};
+use tool_arguments::list_help::LIST;
+use tool_arguments::operands::{Operand, all_questions};
+use tool_arguments::options::{Form, Options, Wanted};
+use tool_arguments::work::{Work, work_in};
+use tool_check::checks::{check_from, check_of};
+use tool_output::each_file::{EachFile, Printed as PrintedFile, write_each_file};
+use tool_output::fault::{Fault, status_of};
+use tool_output::notes::{Noted, NotesDamage};
+use tool_output::output::{Noticed, Output};
+use tool_output::stop::Stop;
 use wanted::{answer_wanted, answer_wanted_from, key_in_word, write_wanted, write_wanted_from};
-use work::{Work, work_in};
 
 /// Whether all was printed and nothing was wrong: else a file among several couldn't be read, or is damaged, and that
 /// was printed.
@@ -155,11 +69,10 @@ fn write_text_of<W: NotesDamage>(
     text: FileText<'_>,
     out: &mut W,
 ) -> Result<Option<Vec<u8>>, Stop> {
-    let mut file = file;
     if let Some(size) = size_of(&file) {
         return write_wanted_from(alloc, &file, size, wanted, text, out);
     }
-    let bytes = read_all(alloc, &mut file)?;
+    let bytes = read_all(alloc, &mut CountedReader::counting(file))?;
     write_wanted(alloc, &bytes, wanted, text, out)
 }
 
@@ -207,11 +120,10 @@ fn write_lines_read<I: BufRead, W: NotesDamage>(
     input: &mut I,
     out: &mut W,
 ) -> Result<Option<Vec<u8>>, Stop> {
-    let mut file = file;
     if let Some(size) = size_of(&file) {
         return answer_wanted_from(alloc, &file, size, wanted, options, input, out);
     }
-    let bytes = read_all(alloc, &mut file)?;
+    let bytes = read_all(alloc, &mut CountedReader::counting(file))?;
     answer_wanted(alloc, &bytes, wanted, options, input, out)
 }
 
@@ -313,13 +225,13 @@ fn key_line_of<R: Files<File = File> + AllocGlobal>(
     form: Form,
     name: Operand<'_>,
 ) -> Result<Vec<u8>, Stop> {
-    let mut file = host.opened(name)?;
+    let file = host.opened(name)?;
     if let Some(size) = size_of(&file) {
         if let Some(line) = line_from(host.alloc(), form, &file, size, name.word.as_bytes())? {
             return Ok(line);
         }
     }
-    let bytes = read_all(host.alloc(), &mut file)?;
+    let bytes = read_all(host.alloc(), &mut CountedReader::counting(file))?;
     key_line(host.alloc(), form, &bytes, name.word.as_bytes())
 }
 
@@ -332,7 +244,7 @@ struct KeyedFiles<'h, 'a, R> {
 
 impl<'h, 'a, R: Files<File = File> + AllocGlobal> EachFile for KeyedFiles<'h, 'a, R> {
     ghost use Rattle.std.specs.Prelude.{false, Err};
-    ghost use Rattle.pdb_tool.specs.declared.stop.Stop.TheVariants.{Read};
+    ghost use Rattle.tool_output.specs.declared.stop.Stop.TheVariants.{Read};
 
     ghost is_known = { λ _. false };
 
@@ -360,19 +272,19 @@ struct CheckedFiles<'h, 'a, R> {
 
 impl<'h, 'a, R: Files<File = File> + AllocGlobal> EachFile for CheckedFiles<'h, 'a, R> {
     ghost use Rattle.std.specs.Prelude.{false, Err};
-    ghost use Rattle.pdb_tool.specs.declared.stop.Stop.TheVariants.{Read};
+    ghost use Rattle.tool_output.specs.declared.stop.Stop.TheVariants.{Read};
 
     ghost is_known = { λ _. false };
 
     ghost printed = { λ _ _. Err Read };
 
     fn text_of(&self, name: Operand<'_>) -> Result<PrintedFile, Stop> {
-        let mut file = self.host.opened(name)?;
+        let file = self.host.opened(name)?;
         let alloc = self.host.alloc();
         if let Some(size) = size_of(&file) {
             return check_from(alloc, &file, size, self.form, name.word.as_bytes());
         }
-        let bytes = read_all(alloc, &mut file)?;
+        let bytes = read_all(alloc, &mut CountedReader::counting(file))?;
         check_of(alloc, &bytes, self.form, name.word.as_bytes())
     }
 

@@ -3,26 +3,26 @@
 ghost use Rattle.std.specs.Prelude.{◌≡◌, ◌≢◌, ◌++◌, List, ℕ, drop, flat_map, length, map, true, Ok, Err, IfOk, IfErr, IfSome, IsErrOf, OnErr, OnOk, option_copied, ⊤};
 ghost use Rattle.std.specs.Char.{to_ascii_uppercase};
 ghost use Rattle.std.specs.Option.{ForSome, option_map};
-ghost use Rattle.pdb_tool.specs.Asked.{lines_of};
+ghost use Rattle.tool_addresses.specs.AnsweredLines.{lines_of};
 ghost use Rattle.pdb_tool.specs.FileTexts.{file_text};
-ghost use Rattle.pdb_tool.specs.Questions.{line_text};
+ghost use Rattle.tool_addresses.specs.QuestionTexts.{line_text};
 ghost use Rattle.pdb_tool.specs.Wanted.{IsStopped, IsTold, other_key as other_key_of, other_than, Wants, key_in_word as key_there, wants_in as wants_there};
-ghost use Rattle.pdb_tool.specs.Stops.{StopsCommand, StopsOpening};
-ghost use Rattle.pdb_tool.specs.WriteFailures.{failures_after};
-ghost use Rattle.pdb_tool.specs.declared.stop.Stop.{Stop};
+ghost use Rattle.tool_output.specs.Stops.{StopsCommand, StopsOpening};
+ghost use Rattle.tool_output.specs.WriteFailures.{failures_after};
+ghost use Rattle.tool_output.specs.declared.stop.Stop.{Stop};
 
 use crate::file_texts::{FileText, write_text};
 use crate::from_reader::{answer_from, write_from};
 use crate::key::key_from;
-use crate::notes::NotesDamage;
-use crate::options::Options;
-use crate::resolve::resolve_lines;
-use crate::stop::{Stop, stop_of_opening};
 use pdb::{MemorySource, key_of, key_text};
 use pdb_file::ReadAt;
 use pdb_image::Image;
 use std::alloc::{AllocError, Global};
 use std::io::BufRead;
+use tool_addresses::resolve::resolve_lines;
+use tool_arguments::options::Options;
+use tool_output::notes::NotesDamage;
+use tool_output::stop::{Stop, stop_of_opening};
 
 /// The key of the PDB that an image names, and the image's load address.
 #[derive(Drop)]

@@ -1,7 +1,7 @@
 //! Tests of `asked`.
 
-use crate::asked::{Asked, asked_in};
 use pdb::PdbInternalSectionOffset;
+use tool_arguments::asked::{Asked, asked_in};
 
 fn place(section: u16, offset: u32) -> Option<Asked> {
     Some(Asked::Place(PdbInternalSectionOffset { section, offset }))

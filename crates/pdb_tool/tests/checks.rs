@@ -1,14 +1,14 @@
 //! What is wrong with files that are made by hand.
 
 use super::files::{debug_stream, file_of, module_record};
-use crate::checks::check_of;
-use crate::options::Form;
-use crate::stop::Stop;
 use crate::tests::fakes::is;
 use pdb::Error;
 use std::alloc::{AllocError, Global};
 use std::process::Abort;
 use std::test::Fail;
+use tool_arguments::options::Form;
+use tool_check::checks::check_of;
+use tool_output::stop::Stop;
 
 /// An information stream without names.
 static INFORMATION: [u8; 48] = [0; 48];

@@ -1,15 +1,15 @@
 //! Commands over several files.
 
-use crate::each_file::{EachFile, Printed, write_each_file};
-use crate::operands::Operand;
-use crate::report::Fault;
-use crate::stop::{Stop, Unopened};
 use crate::tests::fakes::{Narrow, is};
 use pdb::Error;
 use pdb_text::CountedWriter;
 use std::alloc::Global;
 use std::io::Write;
 use std::test::Fail;
+use tool_arguments::operands::Operand;
+use tool_output::each_file::{EachFile, Printed, write_each_file};
+use tool_output::fault::Fault;
+use tool_output::stop::{Stop, Unopened};
 
 /// The files `good`, `bad` and `none`, and the file `memory`, for which there is none.
 #[derive(Drop)]
@@ -19,7 +19,7 @@ struct Fake {
 
 impl EachFile for Fake {
     ghost use Rattle.std.specs.Prelude.{false, Err};
-    ghost use Rattle.pdb_tool.specs.declared.stop.Stop.TheVariants.{Read};
+    ghost use Rattle.tool_output.specs.declared.stop.Stop.TheVariants.{Read};
 
     ghost is_known = { λ _. false };
 

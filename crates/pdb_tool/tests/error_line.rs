@@ -1,9 +1,9 @@
 //! Tests of `error_line`.
 
-use crate::error_line::{put_error_line, put_message, put_refusal_line};
 use crate::tests::fakes::is;
 use pdb::{Error, Feature, Part};
 use std::test::Fail;
+use tool_output::error_line::{put_error_line, put_refusal_line};
 
 // Each refusal, with a number that has leading zeros in hex digits where it tells one.
 const REFUSALS: [Error; 26] = [

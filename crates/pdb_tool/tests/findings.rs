@@ -1,15 +1,14 @@
 //! Tests of `findings`.
 
-use crate::findings::{
-    put_answer, put_damage, put_damage_at, put_end, put_list, put_refusal, put_refused_record,
-};
-use crate::options::Form;
-use crate::stop::Stop;
-use crate::subject::Subject;
 use crate::tests::fakes::is;
 use pdb::{BinaryAnnotations, BinaryAnnotationsIter, Error, FallibleIterator, SymbolIndex};
-use std::alloc::{AllocError, Global};
 use std::test::Fail;
+use tool_arguments::options::Form;
+use tool_check::findings::{
+    put_answer, put_damage, put_damage_at, put_end, put_list, put_refusal, put_refused_record,
+};
+use tool_check::subject::Subject;
+use tool_output::stop::Stop;
 
 #[test]
 fn what_is_not_there_has_no_line(rt: HostRuntime) -> Result<(), Fail> {

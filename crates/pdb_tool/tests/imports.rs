@@ -2,16 +2,16 @@
 
 use super::files::{debug_stream, file_of};
 use super::parts::both;
-use crate::asked::Asked;
 use crate::file_texts::FileText;
-use crate::operands::Operand;
-use crate::options::{Detail, Form};
-use crate::question::{Answer, Question};
-use crate::sources_asked::source_of;
 use pdb::PdbInternalSectionOffset;
 use std::alloc::{AllocError, Global};
 use std::process::Abort;
 use std::test::Fail;
+use tool_arguments::asked::Asked;
+use tool_arguments::operands::Operand;
+use tool_arguments::options::{Detail, Form};
+use tool_arguments::question::{Answer, Question};
+use tool_arguments::sources_asked::source_of;
 
 /// Information: stream 7 has the name `/names`.
 static INFORMATION: &[u8] =

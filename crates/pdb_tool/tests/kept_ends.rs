@@ -2,12 +2,12 @@
 
 use super::fakes::is;
 use super::modules::{IDS, TYPES};
-use crate::kept_ends::KeptEnds;
-use crate::line_names::LineNames;
 use pdb::{ItemFinder, TypeIndex};
 use pdb_resolve::GlobalIds;
 use pdb_types::TypeDefinitions;
 use std::test::Fail;
+use tool_types::kept_ends::KeptEnds;
+use tool_types::line_names::LineNames;
 
 /// `int`, `int*`, no type, `unsigned`; then two types of one place, which the second takes from the first.
 const ASKED: [(Option<TypeIndex>, &[u8]); 9] = [

@@ -1,7 +1,7 @@
 //! The names of kinds in `cvinfo.h`.
 
-use crate::kind_names::kind_name;
 use crate::tests::fakes::is;
+use tool_fields::kind_names::kind_name;
 
 #[test]
 fn older_kinds(rt: HostRuntime) {

@@ -2,28 +2,28 @@
 
 use super::files::{debug_stream, file_of, module_record};
 use super::streams::{Sizes, module_of, put_record, symbols_of};
-use crate::asking::Asking;
-use crate::error_objects::put_error_in;
-use crate::find_texts::{put_found_globals, put_found_symbols};
-use crate::finder::Finder;
-use crate::lookups::{write_find, write_sources, write_where};
-use crate::module_lists::write_modules;
-use crate::operands::{Operand, all_sources, first_empty};
-use crate::options::Form;
-use crate::section_texts::write_sections;
-use crate::source_texts::put_sources;
-use crate::sources_asked::{asks_for, source_of};
-use crate::stop::Stop;
-use crate::stream_texts::write_streams;
 use crate::tests::fakes::is;
-use crate::where_texts::put_where;
-use crate::wildcards::matches;
 use pdb::{Error, ItemFinder, MemorySource, Stream, StringTable, SymbolTable};
 use pdb_resolve::{CallNames, GlobalIds, PlaceAddresses};
 use pdb_text::{CountedWriter, WordsError};
 use std::alloc::{AllocError, Global};
 use std::process::Abort;
 use std::test::Fail;
+use tool_arguments::operands::{Operand, all_sources, first_empty};
+use tool_arguments::options::Form;
+use tool_arguments::sources_asked::{asks_for, source_of};
+use tool_arguments::wildcards::matches;
+use tool_lists::module_lists::write_modules;
+use tool_lists::section_texts::write_sections;
+use tool_lists::stream_texts::write_streams;
+use tool_output::error_objects::put_error_in;
+use tool_output::stop::Stop;
+use tool_search::asking::Asking;
+use tool_search::find_texts::{put_found_globals, put_found_symbols};
+use tool_search::finder::Finder;
+use tool_search::lookups::{write_find, write_sources, write_where};
+use tool_search::source_texts::put_sources;
+use tool_search::where_texts::put_where;
 
 /// The names `a.c` at offset 1 and `Src\bc.h` at offset 5.
 pub static STRINGS: &[u8] =

@@ -1,10 +1,6 @@
 //! The texts of modules whose streams are made by hand.
 
 use super::streams::{Sizes, module_of, symbols_of};
-use crate::line_names::LineNames;
-use crate::line_texts::put_lines;
-use crate::scope_texts::put_scopes;
-use crate::symbol_texts::put_symbols_of;
 use crate::tests::fakes::is;
 use pdb::{ItemFinder, Stream, StringTable};
 use pdb_records::Machine;
@@ -13,6 +9,10 @@ use pdb_types::TypeDefinitions;
 use std::alloc::Global;
 use std::process::Abort;
 use std::test::Fail;
+use tool_symbols::line_texts::put_lines;
+use tool_symbols::scope_texts::put_scopes;
+use tool_symbols::symbol_texts::put_symbols_of;
+use tool_types::line_names::LineNames;
 
 /// Two files, four records with columns, and one without.
 static LINES: &[u8] =

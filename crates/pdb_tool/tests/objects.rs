@@ -1,18 +1,18 @@
 //! JSON objects of a file that is made by hand.
 
 use super::parts::{both, small};
-use crate::asked::Asked;
 use crate::file_texts::FileText;
-use crate::frame_objects::{put_asked_line, put_unasked_line};
-use crate::options::{Detail, Form, Options};
-use crate::question::{Answer, Question};
-use crate::resolve::resolve_lines;
 use crate::tests::fakes::{Narrow, is};
 use pdb::{MemorySource, PdbInternalSectionOffset, QualifiedName, RawString};
 use pdb_resolve::{Frame, FunctionName};
 use pdb_text::CountedWriter;
 use std::alloc::AllocError;
 use std::test::Fail;
+use tool_addresses::resolve::resolve_lines;
+use tool_arguments::asked::Asked;
+use tool_arguments::options::{Detail, Form, Options};
+use tool_arguments::question::{Answer, Question};
+use tool_search::frame_objects::{put_asked_line, put_unasked_line};
 
 #[test]
 fn objects_of_addresses(rt: HostRuntime) -> Result<(), Fail> {

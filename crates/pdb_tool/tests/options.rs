@@ -1,15 +1,15 @@
 //! Options and operands of a command line.
 
-use crate::asked::Asked;
-use crate::operands::{Operand, all_numbers, all_questions, operands_in};
-use crate::options::{Detail, Form, Options, Wanted};
-use crate::question::Answer;
 use crate::tests::fakes::is;
-use crate::words::{Request, Topic, request_in};
 use pdb_text::WordsError;
 use std::alloc::{AllocError, Global};
 use std::process::Abort;
 use std::test::Fail;
+use tool_arguments::asked::Asked;
+use tool_arguments::operands::{Operand, all_numbers, all_questions, operands_in};
+use tool_arguments::options::{Detail, Form, Options, Wanted};
+use tool_arguments::question::Answer;
+use tool_arguments::words::{Request, Topic, request_in};
 
 /// The words of a line.
 fn words(alloc: Global, line: &str) -> Result<Vec<String>, AllocError> {

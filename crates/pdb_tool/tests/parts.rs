@@ -1,18 +1,18 @@
 //! Texts of a file that is made by hand, read in parts and whole.
 
 use super::files::{debug_stream, file_of, module_record};
-use crate::asked::Asked;
 use crate::file_texts::{FileText, write_text};
 use crate::from_reader::write_from;
-use crate::options::Detail;
-use crate::question::{Answer, Question};
-use crate::stop::Stop;
 use crate::tests::fakes::{Narrow, is};
 use pdb::{Error, MemorySource, PdbInternalSectionOffset};
 use pdb_text::CountedWriter;
 use std::alloc::{AllocError, Global};
 use std::process::Abort;
 use std::test::Fail;
+use tool_arguments::asked::Asked;
+use tool_arguments::options::Detail;
+use tool_arguments::question::{Answer, Question};
+use tool_output::stop::Stop;
 
 /// The public symbol `p` at 1:10.
 static GLOBALS: &[u8] = b"\x0e\x00\x0e\x11\x02\x00\x00\x00\x10\x00\x00\x00\x01\x00p\x00";

@@ -1,7 +1,5 @@
 //! Small streams, and their texts.
 
-use crate::line_names::LineNames;
-use crate::symbol_texts::put_global_symbols;
 use crate::tests::fakes::is;
 use pdb::{DebugInformation, FallibleIterator, ItemFinder, ModuleInfo, Stream, SymbolTable};
 use pdb_records::Machine;
@@ -10,6 +8,8 @@ use pdb_types::TypeDefinitions;
 use std::alloc::{AllocError, Global};
 use std::process::Abort;
 use std::test::Fail;
+use tool_symbols::symbol_texts::put_global_symbols;
+use tool_types::line_names::LineNames;
 
 /// The sizes of a module's symbols and of its older lines; the rest are its newer ones.
 #[derive(Drop)]

@@ -4,9 +4,9 @@ use super::files::file_of;
 use super::parts::both;
 use crate::file_texts::FileText;
 use crate::tests::fakes::is;
-use crate::type_kinds::type_kind_name;
 use std::alloc::{AllocError, Global};
 use std::test::Fail;
+use tool_fields::type_kinds::type_kind_name;
 
 /// A function, a list of two functions, a bit field, members of each kind, the class `C` that has them, and `B`, which is
 /// only declared.

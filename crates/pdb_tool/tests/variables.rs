@@ -1,13 +1,13 @@
 //! The lines of variables, and the frames behind which they stand.
 
 use crate::tests::fakes::is;
-use crate::variable_texts::{put_framed, put_variable};
 use pdb::{PdbInternalSectionOffset, QualifiedName, RawString, Register, TypeIndex, Variant};
 use pdb_records::Machine;
 use pdb_resolve::{Frame, FunctionName, Location, Storage, VariableAt, VariableKind, VariablePart};
 use std::alloc::{AllocError, Global};
 use std::process::Abort;
 use std::test::Fail;
+use tool_addresses::variable_texts::{put_framed, put_variable};
 
 /// A variable of the function itself.
 fn variable<'a>(kind: VariableKind, location: Location, name: &'a str) -> VariableAt<'a> {

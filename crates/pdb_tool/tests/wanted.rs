@@ -1,12 +1,8 @@
 //! Lines of keys of images, and texts of a file that is wanted or isn't.
 
 use super::files::{debug_stream, file_of};
-use crate::asked::Asked;
 use crate::file_texts::FileText;
 use crate::key_line::{key_line, line_from};
-use crate::options::{Detail, Form, Options};
-use crate::question::{Answer, Question};
-use crate::stop::Stop;
 use crate::tests::fakes::{Narrow, is};
 use crate::wanted::{answer_wanted, key_in_word, wants_in, write_wanted, write_wanted_from};
 use pdb::Error;
@@ -14,6 +10,10 @@ use pdb_image::ImageError;
 use pdb_text::CountedWriter;
 use std::alloc::{AllocError, Global};
 use std::test::Fail;
+use tool_arguments::asked::Asked;
+use tool_arguments::options::{Detail, Form, Options};
+use tool_arguments::question::{Answer, Question};
+use tool_output::stop::Stop;
 
 /// Puts a number of four bytes at an offset, least byte first.
 fn put(bytes: &mut Vec<u8>, at: usize, number: u32) {

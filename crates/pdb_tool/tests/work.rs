@@ -1,15 +1,14 @@
 //! What the program has to do, by its arguments; wrong commands; kinds of files.
 
 use crate::file_kind::{FileKind, file_kind, put_kind};
-use crate::mistakes::closest;
-use crate::operands::Operand;
-use crate::options::Wanted;
 use crate::tests::fakes::is;
-use crate::work::{Work, work_in};
 use pdb_text::WordsError;
 use std::alloc::{AllocError, Global};
-use std::process::Abort;
 use std::test::Fail;
+use tool_arguments::mistakes::closest;
+use tool_arguments::operands::Operand;
+use tool_arguments::options::Wanted;
+use tool_arguments::work::{Work, work_in};
 
 /// The words of a line.
 fn words(alloc: Global, line: &str) -> Result<Vec<String>, AllocError> {

@@ -1,4 +1,4 @@
-use Rattle.pdb_tool.specs.Questions.{asks_text}
+use Rattle.tool_addresses.specs.QuestionTexts.{asks_text}
 use Rattle.pdb_tool.proofs.FirstTexts.{front_of_stops}
 use Rattle.pdb_tool.proofs.file_texts.write_text.Goals as goal
 

@@ -1,5 +1,5 @@
 use Rattle.pdb_file.proofs.Known.{known_at_first, steady_at_first}
-use Rattle.pdb_tool.proofs.Stops.{unread_command}
+use Rattle.tool_output.proofs.Stops.{unread_command}
 use Rattle.pdb_tool.proofs.from_reader.write_from.Goals as goal
 
 pub returns-clause-opened : goal.returns-clause-opened

@@ -1,6 +1,6 @@
 use Rattle.std.proofs.Common.{◌≡◌}
 use Rattle.pdb_file.proofs.Known.{known_at_first}
-use Rattle.pdb_tool.specs.declared.stop.Stop.TheVariants.{Open}
+use Rattle.tool_output.specs.declared.stop.Stop.TheVariants.{Open}
 use Rattle.pdb_tool.proofs.RefusalIs.{refusal_but}
 use Rattle.pdb_tool.proofs.key.key_from.Goals as goal
 

@@ -1,5 +1,5 @@
 use Rattle.pdb_file.proofs.Known.{known_at_first, steady_at_first}
-use Rattle.pdb_tool.proofs.Stops.{unread_opening}
+use Rattle.tool_output.proofs.Stops.{unread_opening}
 use Rattle.pdb_tool.proofs.key_line.line_from.Goals as goal
 
 pub returns-clause-line : goal.returns-clause-line

@@ -1,9 +1,0 @@
-use Rattle.pdb_tool.specs.FieldTexts.{typed_fields}
-use Rattle.pdb_tool.proofs.Results.{joined, more}
-use Rattle.pdb_tool.proofs.fields_code.put_typed.Goals as goal
-
-pub returns : goal.returns
-unfolding typed_fields
-returns c =
-    more c.put_procedure_flags.result _ _ _ _ _ c.put_procedure_flags.ensures
-    (joined _ _ _ _ _ c.in_ok-put_place_field.ensures c.in_ok-put_type.ensures)

@@ -1,5 +1,0 @@
-use Rattle.std.proofs.Common.{length}
-use Rattle.pdb_tool.proofs.flags.+put_more_flags.Given as goal
-
-abbrev pub decreases-put_more_flags : goal.decreases-put_more_flags
-decreases-put_more_flags l = length l.flags.now

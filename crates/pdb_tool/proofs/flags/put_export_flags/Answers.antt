@@ -1,8 +1,0 @@
-use Rattle.pdb_tool.specs.FieldTexts.{field}
-use Rattle.pdb_tool.specs.Flags.{export_flags}
-use Rattle.pdb_tool.proofs.Results.{more}
-use Rattle.pdb_tool.proofs.flags.put_export_flags.Goals as goal
-
-pub returns : goal.returns
-unfolding field export_flags
-returns c = more c.put_flags.result _ _ _ _ _ c.put_flags.ensures c.in_ok-put_label.ensures

@@ -1,9 +1,0 @@
-use Rattle.pdb_tool.specs.FieldTexts.{field}
-use Rattle.pdb_tool.proofs.Results.{more}
-use Rattle.pdb_tool.proofs.record_code.put_invocations.Goals as goal
-
-pub returns : goal.returns
-unfolding field
-returns c =
-    more c.put_counts.result _ _ _ _ _ c.put_counts.ensures
-    c.in_ok-put_label.ensures

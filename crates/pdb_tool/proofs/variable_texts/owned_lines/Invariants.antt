@@ -1,8 +1,0 @@
-use Rattle.std.proofs.Common.{map, take}
-use Rattle.pdb_resolve.specs.VariableViews.{shown_variable}
-use Rattle.pdb_tool.specs.OwnedLines.{Keeps}
-use Rattle.pdb_tool.proofs.variable_texts.owned_lines.Given as goal
-
--- the lines of the variables so far are kept
-abbrev pub invariant-loop-variable : goal.invariant-loop-variable
-invariant-loop-variable l = Keeps l.machine (map shown_variable (take l.variable-index l.variables)) l.calls l.lines

@@ -1,7 +1,0 @@
-use Rattle.std.proofs.Common.{◌≡◌, ◌++◌, take}
-use Rattle.pdb_tool.specs.VariableTexts.{further_parts}
-use Rattle.pdb_tool.proofs.variable_texts.put_further_parts.Given as goal
-
--- the parts so far were put
-abbrev pub invariant-loop-part : goal.invariant-loop-part
-invariant-loop-part l = l.out.items ≡ l.fn.out.items ++ further_parts l.machine (take l.part-index l.parts)

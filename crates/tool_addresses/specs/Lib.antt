@@ -1,0 +1,5 @@
+pub mod AnsweredLines
+pub mod QuestionTexts
+pub mod VariableTexts
+pub mod CodeTexts
+pub mod OwnedLines

@@ -1,0 +1,5 @@
+//! `resolve` and `variables`.
+#![tactic(auto)]
+
+pub mod resolve;
+pub mod variable_texts;

@@ -1,0 +1,10 @@
+use Rattle.std.proofs.Common.{◌≡◌, map, drop}
+use Rattle.tool_arguments.specs.Operands.{all_in, operand_view, type_index_in}
+use Rattle.tool_arguments.proofs.AllWords.{behind}
+use Rattle.tool_arguments.proofs.operands.all_indices.Given as goal
+
+-- what the words are is what those so far are, and then the others
+abbrev pub invariant-loop-operand : goal.invariant-loop-operand
+invariant-loop-operand l = record {
+  told : all_in type_index_in (map operand_view l.words) ≡ behind l.all.items (all_in type_index_in (map operand_view (drop l.operand-index l.words)));
+}

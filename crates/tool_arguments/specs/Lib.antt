@@ -1,0 +1,9 @@
+pub mod Asked
+pub mod Options
+pub mod Operands
+pub mod Questions
+pub mod Words
+pub mod Work
+pub mod Wildcards
+pub mod SourcesAsked
+pub mod SourceViews

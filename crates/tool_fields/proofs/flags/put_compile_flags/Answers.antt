@@ -1,0 +1,8 @@
+use Rattle.tool_fields.specs.FieldTexts.{field}
+use Rattle.tool_fields.specs.Flags.{compile_flags}
+use Rattle.tool_fields.proofs.Results.{more}
+use Rattle.tool_fields.proofs.flags.put_compile_flags.Goals as goal
+
+pub returns : goal.returns
+unfolding field compile_flags
+returns c = more c.put_flags.result _ _ _ _ _ c.put_flags.ensures c.in_ok-put_label.ensures

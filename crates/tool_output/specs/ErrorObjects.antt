@@ -1,0 +1,59 @@
+-- The lines of errors, in the form of the output.
+use Rattle.std.specs.Prelude.{List, ℕ, [], codes, Option, Some, None, Result, Ok, Err}
+use Rattle.json.specs.Json.{Json, null, object, string, Members, no_members, member}
+use Rattle.pdb.specs.Error.{Error}
+use Rattle.pdb.specs.Refusal.{number_of}
+use Rattle.tool_output.specs.ErrorLine.{error_line, message_of}
+use Rattle.tool_output.specs.Objects.{json_line, number_value, text_value}
+use Rattle.tool_arguments.specs.declared.options.Form.{Form}
+use Rattle.tool_arguments.specs.declared.options.Form.TheVariants.{Text, Json as Objects}
+
+-- the error's number, and what its Display writes
+abbrev pub error_members : Error → Members
+error_members e = member (codes "error") (number_value (number_of e)) (member (codes "text") (text_value (message_of e)) no_members)
+
+-- of a part of a module, by the module's index; `null` outside modules
+abbrev pub error_value : Json → Error → Json
+error_value «module» e = object (member (codes "module") «module» (error_members e))
+
+-- of what isn't there
+abbrev pub none_value : Json → Json
+none_value «module» = object (member (codes "module") «module» (member (codes "error") null (member (codes "text") (string (codes "none")) no_members)))
+
+-- ---- outside modules
+
+abbrev pub error_in : Form → Error → List ℕ
+error_in Text e = error_line e
+error_in Objects e = json_line (error_value null e)
+
+abbrev pub none_in : Form → List ℕ
+none_in Text = codes "none\n"
+none_in Objects = json_line (none_value null)
+
+-- the line of a fault, where there is one
+abbrev pub fault_in : Form → Option Error → List ℕ
+fault_in form None = []
+fault_in form (Some e) = error_in form e
+
+-- the text of what was read, or the line of its error
+abbrev pub told_in : {A : Type 0} → Form → Result A Error → (A → List ℕ) → List ℕ
+told_in form (Ok x) text = text x
+told_in form (Err e) text = error_in form e
+
+-- ---- of module k
+
+abbrev pub error_of : Form → ℕ → Error → List ℕ
+error_of Text k e = error_line e
+error_of Objects k e = json_line (error_value (number_value k) e)
+
+abbrev pub none_of : Form → ℕ → List ℕ
+none_of Text k = codes "none\n"
+none_of Objects k = json_line (none_value (number_value k))
+
+abbrev pub fault_of : Form → ℕ → Option Error → List ℕ
+fault_of form k None = []
+fault_of form k (Some e) = error_of form k e
+
+abbrev pub told_of : {A : Type 0} → Form → ℕ → Result A Error → (A → List ℕ) → List ℕ
+told_of form k (Ok x) text = text x
+told_of form k (Err e) text = error_of form k e

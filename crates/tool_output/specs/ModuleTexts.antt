@@ -1,0 +1,99 @@
+-- Texts of the modules of a file, one after another.
+use Rattle.std.specs.Prelude.{ℕ, ◌+◌, nat_lt, Bool, false, not, ◌==◌, count_by, if◌then◌else◌, List, [], ◌∷◌, ◌++◌, length, codes, flat_map, Option, Some, None, Result, Ok, Err}
+use Rattle.std.specs.Fmt.{decimal}
+use Rattle.pdb.specs.Error.{Error}
+use Rattle.pdb.specs.Refusal.{◌>>=◌}
+use Rattle.pdb.specs.Left.{Left}
+use Rattle.pdb.specs.Modules.{ModuleEntry, modules_in}
+use Rattle.pdb.specs.ModuleStream.{ModuleBytes}
+use Rattle.pdb.specs.Answers.{debug_information_in, item_at, module_info_in}
+use Rattle.pdb_resolve.specs.AcrossModules.{global_id_in}
+use Rattle.tool_output.specs.ErrorObjects.{error_of, fault_in, none_of, told_in, told_of}
+use Rattle.tool_fields.specs.Values.{behind_blank}
+use Rattle.tool_arguments.specs.declared.options.Form.{Form}
+use Rattle.tool_arguments.specs.declared.options.Form.TheVariants.{Text, Json as Objects}
+
+-- the text of a module; another where none is there
+abbrev pub there_text : (ModuleBytes → List ℕ) → List ℕ → Option ModuleBytes → List ℕ
+there_text text missing None = missing
+there_text text missing (Some m) = text m
+
+-- a text that is by the ids that the whole file knows, of module k of a file
+abbrev pub in_file : ((ℕ → Option ℕ) → ℕ → ModuleBytes → List ℕ) → List ℕ → ℕ → ModuleBytes → List ℕ
+in_file text file k m = text (global_id_in file m) k m
+
+-- the line that names a module, by its index in the list
+unfoldable pub module_line : ℕ → ModuleEntry → List ℕ
+module_line k m = codes "module " ++ decimal k ++ behind_blank m.module_name ++ codes "\n"
+
+-- it stands in a text, where more than one module is told: an object says itself of which module it is
+abbrev pub line_if : Form → Bool → ℕ → ModuleEntry → List ℕ
+line_if Text several k m = if several then module_line k m else []
+line_if Objects several k m = []
+
+-- of a module that the list has, or hasn't: `none` where it hasn't, or the module has no stream
+abbrev pub entry_text : Form → Bool → (ℕ → ModuleBytes → List ℕ) → List ℕ → ℕ → Option ModuleEntry → List ℕ
+entry_text form several text file k None = none_of form k
+entry_text form several text file k (Some m) = line_if form several k m ++ told_of form k (module_info_in file m) (there_text (text k) (none_of form k))
+
+-- of the module of this index in a list
+abbrev pub module_in : Form → Bool → (ℕ → ModuleBytes → List ℕ) → List ℕ → Left ModuleEntry → ℕ → List ℕ
+module_in form several text file left k = told_of form k (item_at k left) (entry_text form several text file k)
+
+-- and in that of the file
+abbrev pub place_text : Form → Bool → (ℕ → ModuleBytes → List ℕ) → List ℕ → ℕ → List ℕ
+place_text form several text file k = told_of form k (debug_information_in file >>= modules_in) (λ left. module_in form several text file left k)
+
+-- of module k behind the line that names it; nothing where it has no stream
+abbrev pub headed_text : Form → List ℕ → (ℕ → ModuleBytes → List ℕ) → ℕ → Result (Option ModuleBytes) Error → List ℕ
+headed_text form line text k (Ok None) = []
+headed_text form line text k (Ok (Some m)) = line ++ text k m
+headed_text form line text k (Err e) = line ++ error_of form k e
+
+-- of a module of the list
+unfoldable pub listed_text : Form → Bool → (ℕ → ModuleBytes → List ℕ) → List ℕ → ℕ → ModuleEntry → List ℕ
+listed_text form several text file k m = headed_text form (line_if form several k m) text k (module_info_in file m)
+
+-- of modules of which the first has this index
+abbrev pub listed_texts : Form → Bool → (ℕ → ModuleBytes → List ℕ) → List ℕ → ℕ → List ModuleEntry → List ℕ
+listed_texts form several text file k [] = []
+listed_texts form several text file k (m ∷ ms) = listed_text form several text file k m ++ listed_texts form several text file (k + 1) ms
+
+-- of all modules of the list from this index on, and then the line of its fault
+abbrev pub list_text : Form → Bool → (ℕ → ModuleBytes → List ℕ) → List ℕ → ℕ → Left ModuleEntry → List ℕ
+list_text form several text file k left = listed_texts form several text file k left.items ++ fault_in form left.fault
+
+-- a module has a stream, and so is told
+abbrev pub has_stream : ModuleEntry → Bool
+has_stream m = not (m.stream == 65535)
+
+-- more than one of these modules is told
+abbrev pub tell_several : List ModuleEntry → Bool
+tell_several ms = nat_lt 1 (count_by has_stream ms)
+
+abbrev pub several_in : Result (Left ModuleEntry) Error → Bool
+several_in (Ok left) = tell_several left.items
+several_in (Err e) = false
+
+abbrev pub whole_text : Form → (ℕ → ModuleBytes → List ℕ) → List ℕ → Left ModuleEntry → List ℕ
+whole_text form text file left = list_text form (tell_several left.items) text file 0 left
+
+unfoldable pub all_text : Form → (ℕ → ModuleBytes → List ℕ) → List ℕ → List ℕ
+all_text form text file = told_in form (debug_information_in file >>= modules_in) (whole_text form text file)
+
+-- the same without lines that name modules
+unfoldable pub plain_text : Form → (ℕ → ModuleBytes → List ℕ) → List ℕ → List ℕ
+plain_text form text file = told_in form (debug_information_in file >>= modules_in) (list_text form false text file 0)
+
+-- more than one number
+abbrev pub are_several : List ℕ → Bool
+are_several ks = nat_lt 1 (length ks)
+
+-- of the modules of these numbers
+abbrev pub indexed_text : Form → (ℕ → ModuleBytes → List ℕ) → List ℕ → List ℕ → List ℕ
+indexed_text form text file ks = flat_map (place_text form (are_several ks) text file) ks
+
+-- of all where there is no number
+abbrev pub modules_text : Form → (ℕ → ModuleBytes → List ℕ) → List ℕ → List ℕ → List ℕ
+modules_text form text file [] = all_text form text file
+modules_text form text file (k ∷ ks) = indexed_text form text file (k ∷ ks)

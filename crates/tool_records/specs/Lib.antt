@@ -1,0 +1,2 @@
+pub mod RecordFlagTexts
+pub mod RecordTexts

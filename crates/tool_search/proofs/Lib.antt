@@ -1,0 +1,4 @@
+pub mod PublicNames
+pub mod PlacedRecords
+pub mod JsonValues
+pub mod GlobalKinds

@@ -1,0 +1,11 @@
+pub mod Depth
+pub mod LineTexts
+pub mod SymbolTexts
+pub mod ScopeFrames
+pub mod VariablePlaces
+pub mod VariableViews
+pub mod ScopeTexts
+pub mod LocalLines
+pub mod RegisterLines
+pub mod CallLines
+pub mod SymbolCommands

@@ -1,0 +1,9 @@
+pub mod LineNames
+pub mod LineViews
+pub mod KeptEnds
+pub mod KeptViews
+pub mod QualifiedTexts
+pub mod TypeLines
+pub mod TypeViews
+pub mod MemberTexts
+pub mod TypeTexts
