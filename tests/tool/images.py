@@ -139,7 +139,7 @@ def line_of(data, name):
     whole(0, 24)
     guid = b"%08X%04X%04X" % (field(4, 4), field(8, 2), field(10, 2)) + record[12:20].hex().upper().encode()
     path = record[24:].split(b"\0")[0].replace(b"\n", b" ").replace(b"\r", b" ")
-    return front + guid + b"%X " % field(20, 4) + path + b"\n"
+    return front + guid + b"%X" % field(20, 4) + (b" " + path if path else b"") + b"\n"
 
 
 def damaged(image, chance):

@@ -1,4 +1,5 @@
 """pdb_tool over many arguments, many lines and names of every kind."""
+import json
 import os
 import shutil
 import subprocess
@@ -51,6 +52,19 @@ def names_of_every_kind(sample, room):
         compare(f"the key of {name!r}", (0, key + b" " + file.encode() + b"\n", b""), "key", file)
         done = subprocess.run([TOOL, "check", name], cwd=room, capture_output=True, check=False)
         tell((done.returncode, done.stdout) == (0, f"{name}: ok\n".encode()), f"check of {name!r}", done)
+
+
+def names_with_line_ends(sample, room):
+    """The name of a file ends no line, and JSON has it as it is."""
+    file, shown = f"{room}/a\r\nb.pdb", f"{room}/a  b.pdb".encode()
+    shutil.copyfile(sample, file)
+    compare("a key behind a line end", (0, b"00112233445566778899AABBCCDDEEFF2 " + shown + b"\n", b""), "key", file)
+    compare("a check behind a line end", (0, shown + b": ok\n", b""), "check", file)
+    tell(json.loads(ran("key", "--json", file)[1])["file"] == file, "the object of a name with a line end")
+    other = shown + b": has the key 00112233445566778899AABBCCDDEEFF2, and 00000000000000000000000000000000A is wanted\n"
+    compare("another key behind a line end", (7, b"", b"pdb_tool: " + other), "resolve", f"--key={31 * '0'}0A", file, "1:0")
+    os.remove(file)
+    compare("no file behind a line end", (3, b"", b"pdb_tool: " + shown + b": cannot read file: no such file\n"), "lines", file)
 
 
 def files_that_are_no_pdb(sample, room):

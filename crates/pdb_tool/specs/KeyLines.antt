@@ -9,6 +9,7 @@ use Rattle.pdb_image.specs.Headers.{is_image}
 use Rattle.pdb_image.specs.Images.{Said, image_of}
 use Rattle.pdb_text.specs.OneLine.{one_line}
 use Rattle.pdb.specs.Keys.{byte_text, key_of_file, key_text}
+use Rattle.tool_fields.specs.Values.{behind_blank}
 use Rattle.tool_output.specs.Objects.{json_line, text_value}
 use Rattle.tool_output.specs.Stops.{stop_of_opening}
 use Rattle.tool_arguments.specs.declared.options.Form.{Form}
@@ -23,15 +24,15 @@ own_key stamp size = flat_map byte_text (stamp / 16777216 ∷ stamp / 65536 % 25
 -- the key and the path of the PDB that an image names
 abbrev pub pdb_named : Option Reference → List ℕ
 pdb_named None = codes "- -"
-pdb_named (Some r) = key_text r.guid r.age ++ codes " " ++ one_line r.path
+pdb_named (Some r) = key_text r.guid r.age ++ behind_blank r.path
 
 -- of an image that says this
 unfoldable pub image_text : List ℕ → Said → List ℕ
-image_text name i = own_key i.time_stamp i.size ++ codes " " ++ name ++ codes " " ++ pdb_named i.pdb ++ codes "\n"
+image_text name i = own_key i.time_stamp i.size ++ codes " " ++ one_line name ++ codes " " ++ pdb_named i.pdb ++ codes "\n"
 
 -- of a PDB with this key
 abbrev pub pdb_text : List ℕ → List ℕ → List ℕ
-pdb_text name key = key ++ codes " " ++ name ++ codes "\n"
+pdb_text name key = key ++ codes " " ++ one_line name ++ codes "\n"
 
 -- ---- as JSON objects
 

@@ -20,6 +20,7 @@ use pdb_image::{Image, PdbReference, is_image};
 use pdb_text::put_one_line;
 use std::alloc::{AllocError, Global};
 use tool_arguments::options::Form;
+use tool_fields::values::put_behind_blank;
 use tool_output::stop::{Stop, stop_of_opening};
 
 /// An image's own key: its time stamp in eight upper hex digits, and its size in lower ones.
@@ -55,8 +56,7 @@ fn put_pdb(
         return out.extend_from_slice(b"- -");
     };
     out.extend_from_slice(&key_text(alloc, &pdb.guid, pdb.age)?)?;
-    out.push(b' ')?;
-    put_one_line(out, pdb.path)
+    put_behind_blank(out, pdb.path)
 }
 
 /// The line of an image.
@@ -67,7 +67,7 @@ fn image_text(alloc: Global, image: Image<'_>, name: &[u8]) -> Result<Vec<u8>, A
     let mut out = Vec::new(alloc);
     put_own_key(alloc, &mut out, image.time_stamp, image.size)?;
     out.push(b' ')?;
-    out.extend_from_slice(name)?;
+    put_one_line(&mut out, name)?;
     out.push(b' ')?;
     put_pdb(alloc, &mut out, image.pdb)?;
     out.push(b'\n')?;
@@ -102,7 +102,7 @@ fn pdb_text(alloc: Global, key: &[u8], name: &[u8]) -> Result<Vec<u8>, AllocErro
     let mut out = Vec::new(alloc);
     out.extend_from_slice(key)?;
     out.push(b' ')?;
-    out.extend_from_slice(name)?;
+    put_one_line(&mut out, name)?;
     out.push(b'\n')?;
     Ok(out)
 }

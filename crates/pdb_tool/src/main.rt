@@ -88,13 +88,14 @@ fn print_text<R: Files<File = File> + AllocGlobal, W: CountedWrite, E: Write>(
     let mut out = Noted::new(streams.out);
     let written = write_text_of(host.alloc(), file, wanted, text, &mut out);
     if out.has_damage() {
-        let _ = write_damage(name.word, streams.err);
+        let _ = write_damage(host.alloc(), name.word, streams.err);
     }
-    printed_or_other(written, name, wanted, streams.err)
+    printed_or_other(host.alloc(), written, name, wanted, streams.err)
 }
 
 /// Whether a text was printed; that the file isn't the wanted one is printed.
 fn printed_or_other<E: Write>(
+    alloc: Global,
     written: Result<Option<Vec<u8>>, Stop>,
     name: Operand<'_>,
     wanted: Option<&[u8]>,
@@ -103,7 +104,7 @@ fn printed_or_other<E: Write>(
     match written {
         Ok(None) => Ok(true),
         Ok(Some(key)) => {
-            let _ = write_other_key(name.word, &key, wanted.unwrap_or(&[]), err);
+            let _ = write_other_key(alloc, name.word, &key, wanted.unwrap_or(&[]), err);
             Err(Fault::OtherKey)
         }
         Err(stop) => Err(Fault::Stopped(stop, name.argument)),
@@ -148,9 +149,9 @@ fn print_lines_read<R: Files<File = File> + Input + AllocGlobal, W: CountedWrite
     let mut out = Noted::new(streams.out);
     let written = write_lines_read(alloc, file, wanted, options, input, &mut out);
     if out.has_damage() {
-        let _ = write_damage(name.word, streams.err);
+        let _ = write_damage(host.alloc(), name.word, streams.err);
     }
-    printed_or_other(written, name, wanted, streams.err)
+    printed_or_other(host.alloc(), written, name, wanted, streams.err)
 }
 
 /// The wanted key, where one is wanted; and the options, with an image's load address where no other base is given.
@@ -203,9 +204,10 @@ fn print_listed<R: Files<File = File> + AllocGlobal, W: CountedWrite, E: Write>(
     let written = write_text_of(host.alloc(), file, None, text, &mut out);
     let has_written = out.inner().has_written();
     if out.inner().has_error() {
-        let _ = write_damage(name.word, streams.err);
+        let _ = write_damage(host.alloc(), name.word, streams.err);
     }
-    Ok(printed_or_other(written, name, None, streams.err)? && has_written)
+    let is_printed = printed_or_other(host.alloc(), written, name, None, streams.err)?;
+    Ok(is_printed && has_written)
 }
 
 /// The same, where it is well if nothing is printed.

@@ -1,12 +1,13 @@
 //! What is printed on standard error.
 
-ghost use Rattle.std.specs.Prelude.{◌≡◌, [], map, slice_index_or, string_bytes};
+ghost use Rattle.std.specs.Prelude.{◌≡◌, ◌++◌, [], IfOk, codes, map, slice_index_or, string_bytes};
+ghost use Rattle.pdb_text.specs.OneLine.{one_line};
 ghost use Rattle.tool_output.specs.Stops.{status_of};
 ghost use Rattle.tool_arguments.specs.Words.{file_in_word};
 
 use crate::file_kind::{FileKind, put_kind};
 use pdb::Error;
-use pdb_text::{WriteFailed, write_out};
+use pdb_text::{WriteFailed, put_one_line, write_out};
 use std::alloc::{AllocError, Global};
 use std::io::Write;
 use tool_arguments::mistakes::write_mistake;
@@ -27,13 +28,35 @@ fn reason_of(why: Unopened) -> &'static str {
     }
 }
 
+/// A line on a file.
+fn line_about(alloc: Global, name: &str, text: &[u8]) -> Result<Vec<u8>, AllocError>
+    ensures { IfOk result (λ v. v.items ≡ codes "pdb_tool: " ++ one_line name.now ++ codes ": " ++ text.now ++ codes "\n") }
+{
+    let mut line = Vec::new(alloc);
+    line.extend_from_slice(b"pdb_tool: ")?;
+    put_one_line(&mut line, name.as_bytes())?;
+    line.extend_from_slice(b": ")?;
+    line.extend_from_slice(text)?;
+    line.push(b'\n')?;
+    Ok(line)
+}
+
+/// Writes that there is no memory.
+fn write_out_of_memory<W: Write>(err: &mut W) -> Result<(), WriteFailed> {
+    write_out(err, b"pdb_tool: out of memory\n")
+}
+
 /// Writes a line on a file.
-fn write_about<W: Write>(name: &str, text: &[u8], err: &mut W) -> Result<(), WriteFailed> {
-    write_out(err, b"pdb_tool: ")?;
-    write_out(err, name.as_bytes())?;
-    write_out(err, b": ")?;
-    write_out(err, text)?;
-    write_out(err, b"\n")
+fn write_about<W: Write>(
+    alloc: Global,
+    name: &str,
+    text: &[u8],
+    err: &mut W,
+) -> Result<(), WriteFailed> {
+    match line_about(alloc, name, text) {
+        Ok(line) => write_out(err, &line),
+        Err(_) => write_out_of_memory(err),
+    }
 }
 
 /// The error of a file that can't be opened as a PDB, and what it is instead.
@@ -55,18 +78,18 @@ pub fn write_stop<W: Write>(
     err: &mut W,
 ) -> Result<(), WriteFailed> {
     match stop {
-        Stop::Unopened(why) => write_about(name, reason_of(why).as_bytes(), err),
-        Stop::Read => write_about(name, b"cannot read file", err),
+        Stop::Unopened(why) => write_about(alloc, name, reason_of(why).as_bytes(), err),
+        Stop::Read => write_about(alloc, name, b"cannot read file", err),
         Stop::Open(e) => match opening_text(alloc, e, kind) {
-            Ok(text) => write_about(name, &text, err),
-            Err(_) => write_about(name, b"", err),
+            Ok(text) => write_about(alloc, name, &text, err),
+            Err(_) => write_out_of_memory(err),
         },
         Stop::Image(e) => match format!(in alloc; "{e}") {
-            Ok(text) => write_about(name, text.as_bytes(), err),
-            Err(_) => write_about(name, b"", err),
+            Ok(text) => write_about(alloc, name, text.as_bytes(), err),
+            Err(_) => write_out_of_memory(err),
         },
-        Stop::NoPdb => write_about(name, b"names no PDB", err),
-        Stop::Memory => write_out(err, b"pdb_tool: out of memory\n"),
+        Stop::NoPdb => write_about(alloc, name, b"names no PDB", err),
+        Stop::Memory => write_out_of_memory(err),
         Stop::Write => write_out(err, b"pdb_tool: cannot write\n"),
     }
 }
@@ -80,8 +103,9 @@ pub fn write_notice<W: Write>(err: &mut W) -> Result<(), WriteFailed> {
 }
 
 /// Writes that a text has the line of an error, and where to look.
-pub fn write_damage<W: Write>(name: &str, err: &mut W) -> Result<(), WriteFailed> {
+pub fn write_damage<W: Write>(alloc: Global, name: &str, err: &mut W) -> Result<(), WriteFailed> {
     write_about(
+        alloc,
         name,
         b"a part of the file is damaged: see pdb_tool check",
         err,
@@ -98,20 +122,31 @@ pub fn file_in_word(word: &str) -> &str
     }
 }
 
+/// That a file has this key, and another is wanted.
+fn other_key(alloc: Global, key: &[u8], wanted: &[u8]) -> Result<Vec<u8>, AllocError>
+    ensures { IfOk result (λ v. v.items ≡ codes "has the key " ++ key.now ++ codes ", and " ++ wanted.now ++ codes " is wanted") }
+{
+    let mut text = Vec::new(alloc);
+    text.extend_from_slice(b"has the key ")?;
+    text.extend_from_slice(key)?;
+    text.extend_from_slice(b", and ")?;
+    text.extend_from_slice(wanted)?;
+    text.extend_from_slice(b" is wanted")?;
+    Ok(text)
+}
+
 /// Writes that a file has this key, and another is wanted.
 pub fn write_other_key<W: Write>(
+    alloc: Global,
     name: &str,
     key: &[u8],
     wanted: &[u8],
     err: &mut W,
 ) -> Result<(), WriteFailed> {
-    write_out(err, b"pdb_tool: ")?;
-    write_out(err, name.as_bytes())?;
-    write_out(err, b": has the key ")?;
-    write_out(err, key)?;
-    write_out(err, b", and ")?;
-    write_out(err, wanted)?;
-    write_out(err, b" is wanted\n")
+    match other_key(alloc, key, wanted) {
+        Ok(text) => write_about(alloc, name, &text, err),
+        Err(_) => write_out_of_memory(err),
+    }
 }
 
 /// Writes a fault's lines.
@@ -125,7 +160,8 @@ fn write_fault<W: Write>(
     match fault {
         Fault::BadWord(argument) => write_mistake(words, argument, err),
         Fault::NotText(argument) => {
-            write_about(word_at(words, argument), b"the argument is not UTF-8", err)
+            let word = word_at(words, argument);
+            write_about(alloc, word, b"the argument is not UTF-8", err)
         }
         Fault::NoInput => write_out(
             err,

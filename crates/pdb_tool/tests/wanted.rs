@@ -145,6 +145,23 @@ fn a_line_end_in_a_path_is_a_blank(rt: HostRuntime) -> Result<(), Fail> {
         .ok()
         .expect(&rt, "line");
     is(&rt, "line", &given.as_slice(), &line);
+    let line = b"112233443000 x y 030201000504070608090A0B0C0D0E0F1 a  db\n".as_slice();
+    let given = key_line(alloc, Form::Text, &bytes, b"x\ny")
+        .ok()
+        .expect(&rt, "line");
+    is(&rt, "a name's", &given.as_slice(), &line);
+    put_bytes(&mut bytes, 348, b"\0");
+    let line = b"112233443000 x 030201000504070608090A0B0C0D0E0F1\n".as_slice();
+    let given = key_line(alloc, Form::Text, &bytes, b"x")
+        .ok()
+        .expect(&rt, "line");
+    is(&rt, "no path", &given.as_slice(), &line);
+    let bytes = pdb(alloc, 1)?;
+    let line = b"030201000504070608090A0B0C0D0E0F1 a  .pdb\n".as_slice();
+    let given = key_line(alloc, Form::Text, &bytes, b"a\r\n.pdb")
+        .ok()
+        .expect(&rt, "line");
+    is(&rt, "a PDB's", &given.as_slice(), &line);
     Ok(())
 }
 

@@ -3,6 +3,7 @@ use Rattle.std.specs.Prelude.{ℕ, List, [], ◌++◌, codes}
 use Rattle.std.specs.Fmt.{decimal}
 use Rattle.json.specs.Json.{Json, null, object, Members, no_members, member}
 use Rattle.pdb.specs.Error.{Error}
+use Rattle.pdb_text.specs.OneLine.{one_line}
 use Rattle.tool_output.specs.ErrorLine.{message_of}
 use Rattle.tool_output.specs.Objects.{json_line, text_value}
 use Rattle.tool_arguments.specs.declared.options.Form.{Form}
@@ -26,7 +27,7 @@ module_subject form name k = record { form = form; file = name; part = codes "mo
 
 -- `FILE: WHERE: TEXT`
 unfoldable pub finding_line : List ℕ → List ℕ → Error → List ℕ
-finding_line file label e = file ++ codes ": " ++ label ++ codes ": " ++ message_of e ++ codes "\n"
+finding_line file label e = one_line file ++ codes ": " ++ label ++ codes ": " ++ message_of e ++ codes "\n"
 
 -- the same as a JSON object
 abbrev pub label_members : List ℕ → Error → Members
@@ -49,5 +50,5 @@ abbrev pub sound_value : List ℕ → Json
 sound_value file = object (member (codes "file") (text_value file) (member (codes "where") null (member (codes "text") null no_members)))
 
 abbrev pub sound_in : Form → List ℕ → List ℕ
-sound_in Text file = file ++ codes ": ok\n"
+sound_in Text file = one_line file ++ codes ": ok\n"
 sound_in Objects file = json_line (sound_value file)

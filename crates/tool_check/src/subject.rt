@@ -9,7 +9,7 @@ ghost use Rattle.tool_output.specs.Objects.{Adds, json_line};
 
 use json::Writer;
 use pdb::Error;
-use pdb_text::put_line_end;
+use pdb_text::{put_line_end, put_one_line};
 use std::alloc::{AllocError, Global};
 use std::marker::Model;
 use tool_arguments::options::Form;
@@ -57,7 +57,7 @@ impl<'a> Subject<'a> {
 fn put_finding(out: &mut Vec<u8>, file: &[u8], label: &[u8], e: Error) -> Result<(), AllocError>
     ensures { OnOk result (out.new.items ≡ out.old.items ++ finding_line file.now label.now e) }
 {
-    out.extend_from_slice(file)?;
+    put_one_line(out, file)?;
     out.extend_from_slice(b": ")?;
     out.extend_from_slice(label)?;
     out.extend_from_slice(b": ")?;
@@ -162,7 +162,7 @@ pub fn put_sound_in(out: &mut Vec<u8>, form: Form, file: &[u8]) -> Result<(), Al
 {
     match form {
         Form::Text => {
-            out.extend_from_slice(file)?;
+            put_one_line(out, file)?;
             out.extend_from_slice(b": ok\n")
         }
         Form::Json => put_sound_object(out, file),
