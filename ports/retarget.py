@@ -27,9 +27,22 @@ SYSTEM = {
     "statx": "i32 (i32, ptr, i32, i32, ptr)",
     "isatty": "i32 (i32)",
     "rattle_arg": "i64 (i64, ptr, i64)",
-    # No program needs these two: what clang makes of a module doesn't call them. If it did, they would be missing at the end.
+    # No program needs these, which start threads or read the environment: what clang makes of a module doesn't call them. If
+    # it did, they would be missing at the end.
     "rattle_env": "i64 (ptr, ptr, i64)",
     "rattle_env_at": "i64 (i64, ptr, i64)",
+    "malloc": "ptr (i64)",
+    "free": "void (ptr)",
+    "abort": "void ()",
+    "sched_yield": "i32 ()",
+    "pthread_create": "i32 (ptr, ptr, ptr, ptr)",
+    "pthread_join": "i32 (i64, ptr)",
+    "pthread_detach": "i32 (i64)",
+    "pthread_self": "i64 ()",
+    "pthread_attr_init": "i32 (ptr)",
+    "pthread_attr_destroy": "i32 (ptr)",
+    "pthread_attr_setguardsize": "i32 (ptr, i64)",
+    "pthread_attr_setstacksize": "i32 (ptr, i64)",
     "rattle_errno": "i32 ()",
     "rattle_set_errno": "void (i32)",
     "__x86_get_cpuid_feature_leaf": "ptr (i32)",
@@ -39,6 +52,8 @@ SYSTEM = {
 INTRINSICS = r"llvm\.(memset|memmove|memcpy|trap|cttz|ctlz|ctpop|bswap|[us](add|sub|mul)\.(with\.overflow|sat)|[us](min|max)|fsh[lr]|abs|lifetime|assume|expect)\b"
 # Forms whose meaning depends on the target, and which no module had so far.
 FORMS = "thread_local addrspace section comdat byval inalloca sret x86_64_sysvcc win64cc fastcc musttail ifunc alias asm x86_fp80 personality dllexport dllimport extern_weak blockaddress indirectbr va_arg invoke landingpad".split()
+# What keeps the compiler from moving reads and writes of memory: it is no instruction, and means the same for every target.
+BARRIER = 'call void asm sideeffect "", "~{memory}"()'
 # The attributes of functions whose values a target decides.
 ATTRIBUTES = {'"probe-stack"="inline-asm"', '"stack-probe-size"="3072"', '"target-cpu"="x86-64-v2"', '"target-cpu"="x86-64"'}
 PAIR = "ptr sret({ i64, i64 }) align 8"
@@ -144,7 +159,7 @@ def once(old, new, text):
 
 def check_forms(text):
     """A module has none of the forms whose meaning depends on the target."""
-    bare = re.sub(r'c?"[^"\n]*"', '""', text)
+    bare = re.sub(r'c?"[^"\n]*"', '""', text.replace(BARRIER, ""))
     for form in FORMS:
         found = form in bare and re.search(rf"(?<![\w.%@$-]){form}(?![\w.])", bare)
         want(not found, f"the module has {form}: {found and bare[found.start() - 99 : found.end() + 99]}")
@@ -168,7 +183,7 @@ def called_in(text):
 def exported_by(text):
     """The functions that a module exports: C's, with arguments that neither side extends."""
     lines = re.findall(r"(?m)^define (?!internal |private )(.*)$", text)
-    form = re.compile(r"(?:(?:noundef )?i32|void) @(pdb_\w+|main)\((?:(?:ptr|i64|i32|i16)(?: noundef)? %\w+(?:, )?)*\) #\d+ \{$")
+    form = re.compile(r"(?:(?:noundef )?i32|void) @(pdb_\w+|main)\((?:(?:ptr|i64|i32|i16|i8)(?: noundef)? %\w+(?:, )?)*\) #\d+ \{$")
     for line in lines:
         want(form.match(line), f"the module exports {line}")
     return {form.match(line)[1] for line in lines}

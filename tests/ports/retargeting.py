@@ -35,6 +35,7 @@ PLANTED = {
     "another function of LLVM": ("@llvm.memset.p0.i64(ptr %r2", "@llvm.eh.typeid.for.p0(ptr %r2", "llvm.eh.typeid"),
     "the address of a function of memory": ("i64 %a0, i64 8)", "i64 ptrtoint (ptr @rattle_alloc to i64), i64 8)", "rattle_alloc is used"),
     "the address of a function of the system": ("i64 @read(i32 0, ptr %r5", "i64 @read(i32 0, ptr @read", "read is used"),
+    "an instruction of the processor": ("call void @rattle_dealloc(", 'call void asm sideeffect "pause", "~{memory}"()\n  call void @rattle_dealloc(', "asm"),
     "flags of the module": ("!llvm.ident", "!llvm.module.flags", "flags"),
 }
 
