@@ -84,7 +84,8 @@ static void method(const pdb_member *m) {
 /* What stands before the name of a member, or before its type where it has no name. */
 static void front(const pdb_member *m) {
     static const char *const words[] = {"",         "  base",   "  virtual_base", "  indirect_base", "  vftable", "  vftable", "  friend", "  friend",
-                                        "  enumerator", "  member", "  static",       "  method",        "  method",  "  nested",  "  <...>"};
+                                        "  enumerator", "  member", "  static",       "  method",        "  method",  "  nested",  "  <...>",
+                                        "  error the list of members continues in itself"};
     word(words[m->form]);
     if (m->form == PDB_BASE_CLASS || m->form == PDB_VIRTUAL_TABLE_OFFSET || m->form == PDB_DATA_MEMBER) value(" offset=", m);
     if (m->form == PDB_ENUMERATOR) value(" value=", m);
@@ -108,8 +109,8 @@ static void error(const pdb_member *m) {
 
 /* A member, and the name of its type. */
 static void member(const pdb_member *m, const names *names, size_t k) {
-    _Bool has_name = m->form >= PDB_FRIEND_FUNCTION && m->form != PDB_MORE_MEMBERS;
-    _Bool has_type = m->form != PDB_ENUMERATOR && m->form != PDB_UNREAD_FUNCTIONS && m->form != PDB_MORE_MEMBERS;
+    _Bool has_name = m->form >= PDB_FRIEND_FUNCTION && m->form < PDB_MORE_MEMBERS;
+    _Bool has_type = m->form != PDB_ENUMERATOR && m->form != PDB_UNREAD_FUNCTIONS && m->form < PDB_MORE_MEMBERS;
     if (m->form == 0) {
         error(m);
         return;

@@ -27,6 +27,7 @@ WORDS = {
     MemberKind.UNREAD_FUNCTIONS: b"method",
     MemberKind.NESTED_TYPE: b"nested",
     MemberKind.MORE_MEMBERS: b"<...>",
+    MemberKind.ENDLESS_MEMBERS: b"error the list of members continues in itself",
 }
 VALUES = {MemberKind.ENUMERATOR: b"value", MemberKind.MEMBER_FUNCTION: b"entry"}
 METHODS = [b"", b" kind=virtual", b" kind=static", b" kind=friend", b" kind=virtual", b" kind=pure", b" kind=pure", b""]
@@ -53,8 +54,8 @@ def line_of(member, type_name):
     """The line of a member, or of the error behind the members."""
     if isinstance(member, pdbreader.PdbError):
         return b"  error %d %s" % (member.code, pdbreader.message(member.code).encode())
-    if member.kind == MemberKind.MORE_MEMBERS:
-        return b"  <...>"
+    if member.kind in (MemberKind.MORE_MEMBERS, MemberKind.ENDLESS_MEMBERS):
+        return b"  " + WORDS[member.kind]
     named = member.kind >= MemberKind.FRIEND_FUNCTION
     typed = member.kind not in (MemberKind.ENUMERATOR, MemberKind.UNREAD_FUNCTIONS)
     parts = [one_line(it) for it, there in ((member.name, named), (type_name, typed)) if there]

@@ -402,7 +402,8 @@ enum {
     PDB_MEMBER_FUNCTION,             /* one for each overload */
     PDB_UNREAD_FUNCTIONS,            /* the list of the overloads of a name isn't there, or has an error behind those before */
     PDB_NESTED_TYPE,
-    PDB_MORE_MEMBERS                 /* more than 1024 lists go on in one another: the others aren't read */
+    PDB_MORE_MEMBERS,                /* more than 1024 lists go on in one another: the others aren't read */
+    PDB_ENDLESS_MEMBERS              /* an error of the file: the list of members continues in itself; nothing of this type follows */
 };
 
 /* The members of the types of count indices, one type after the other; *rows_count is how many there are. A type that is only

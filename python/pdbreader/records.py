@@ -238,6 +238,7 @@ class MemberKind(enum.IntEnum):
     UNREAD_FUNCTIONS = 12  # the list of the overloads of a name isn't there, or has an error
     NESTED_TYPE = 13
     MORE_MEMBERS = 14  # more than 1024 lists go on in one another: the others aren't read
+    ENDLESS_MEMBERS = 15  # an error of the file: the list of members continues in itself
 
 
 class Access(enum.IntEnum):

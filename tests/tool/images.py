@@ -2,7 +2,7 @@
 import random
 import subprocess
 
-from program import TOOL, compare, ran, tell
+from program import TOOL, compare, one_line, ran, tell
 
 DAMAGED = 2000
 END = b"the data ends before a record does"
@@ -138,7 +138,7 @@ def line_of(data, name):
         raise Refused(b"unknown CodeView record")
     whole(0, 24)
     guid = b"%08X%04X%04X" % (field(4, 4), field(8, 2), field(10, 2)) + record[12:20].hex().upper().encode()
-    path = record[24:].split(b"\0")[0].replace(b"\n", b" ").replace(b"\r", b" ")
+    path = one_line(record[24:].split(b"\0")[0])
     return front + guid + b"%X" % field(20, 4) + (b" " + path if path else b"") + b"\n"
 
 

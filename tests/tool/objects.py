@@ -5,6 +5,7 @@ import os
 import random
 import shutil
 
+import program
 from program import FILES, REAL, compare, ran, tell, wrong
 
 SAMPLE = b"""{"asked":"1:108","frames":[{"name":null,"file":"a.c","line":10,"column":0},{"name":"main","file":"a.c","line":2,"column":0}]}
@@ -39,7 +40,7 @@ DAMAGED = 600
 
 
 def one_line(text):
-    return text.replace("\n", " ").replace("\r", " ")
+    return program.one_line(text.encode("utf-8", "surrogateescape")).decode("utf-8", "surrogateescape")
 
 
 def dash(value):

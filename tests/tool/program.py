@@ -29,6 +29,17 @@ def compare(what, wanted, *words, given=b""):
     tell(said == wanted, what, said)
 
 
+def one_line(name):
+    """A name as a text shows it: a blank for each control character, and of more than 4,096 bytes the first, and dots."""
+    shown = bytes(32 if it < 32 or it == 127 else it for it in name)
+    if len(name) <= 4096:
+        return shown
+    cut = 4096
+    while cut > 4093 and 0x80 <= name[cut] < 0xC0:
+        cut -= 1
+    return shown[:cut] + b"..."
+
+
 def stored(name):
     with open(f"{HERE}/{name}", "rb") as it:
         return it.read()

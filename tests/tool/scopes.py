@@ -6,9 +6,9 @@ import random
 from struct import error, pack, unpack_from
 
 from across import made_file, numbers
-from program import FILES, REAL, ran, tell
+from program import FILES, REAL, one_line, ran, tell
 from streams import File, u16
-from symbols import CORPUS, NAMES, lists, one_line
+from symbols import CORPUS, NAMES, lists
 from typed import VARIABLE_AT, Types, behind_record
 
 FILES_MADE = 60

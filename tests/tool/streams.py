@@ -2,7 +2,7 @@
 import random
 import struct
 
-from program import FILES, REAL, compare, ran, tell, wrong
+from program import FILES, REAL, compare, one_line, ran, tell, wrong
 
 SAMPLE = b"""0 0 old directory
 1 67 information
@@ -119,7 +119,7 @@ def tried(read):
 def roles(file):
     """Each stream that is something, and what it is, in the order in which these are printed."""
     found = list(enumerate(["old directory", "information", "types", "debug information", "ids"]))
-    found += [(n, b"name " + name.replace(b"\n", b" ").replace(b"\r", b" ")) for name, n in tried(lambda: names(file.stream(1)))]
+    found += [(n, b"name" + (b" " + one_line(name) if name else b"")) for name, n in tried(lambda: names(file.stream(1)))]
     debug = tried(lambda: file.stream(3))
     if len(debug) >= 64 and u32(debug, 0) == ABSENT:
         found += [(u16(debug, at), text) for at, text in HEADER]

@@ -7,7 +7,7 @@ import re
 from struct import error, pack, unpack_from
 
 from across import made_file, numbers
-from program import FILES, REAL, TOP, ran, tell
+from program import FILES, REAL, TOP, one_line, ran, tell
 from streams import File, u16, u32
 from typed import Types, behind_record
 
@@ -99,10 +99,6 @@ def registers():
 
 
 NAMES = registers()
-
-
-def one_line(name):
-    return name.replace(b"\n", b" ").replace(b"\r", b" ")
 
 
 def joined(texts):

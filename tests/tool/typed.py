@@ -7,7 +7,7 @@ import random
 from struct import error, pack, unpack_from
 
 from across import container, numbers
-from program import FILES, REAL, damage_notice, ran, tell
+from program import FILES, REAL, damage_notice, one_line, ran, tell
 from streams import File, u16, u32
 
 CORPUS = os.environ.get("PDB_FILES")
@@ -41,10 +41,6 @@ EOF = "error 1 the data ends before a record does"
 
 class Bad(Exception):
     """A list of members that goes no further, with the line that says so."""
-
-
-def one_line(name):
-    return name.replace(b"\n", b" ").replace(b"\r", b" ")
 
 
 def number_at(data, at):
@@ -319,11 +315,14 @@ class Types:
 
     def members(self, index):
         """The lines of the members of a list, and of those that it goes on with."""
-        lists, lines = 0, []
+        read, lines = set(), []
         while index is not None:
-            if lists == LISTS:
+            if index in read:
+                return lines + [b"error the list of members continues in itself"]
+            if len(read) == LISTS:
                 return lines + [b"<...>"]
-            data, lists, onward = self.items.get(index), lists + 1, None
+            data, onward = self.items.get(index), None
+            read.add(index)
             if data is None or u16(data, 0) != 0x1203:
                 return lines + [EOF.encode()]
             at = 2

@@ -12,7 +12,7 @@ use Rattle.pdb_types.specs.Enumerators.{bit_position_in, enumerator_number}
 use Rattle.pdb_types.specs.FullTypes.{says_of, tag_in}
 use Rattle.pdb_types.specs.MemberLists.{members_of}
 use Rattle.pdb_types.specs.MemberSays.{MemberSays}
-use Rattle.pdb_types.specs.MemberSays.MemberSays.{BaseClass, VirtualBaseClass, VirtualTablePointer, VirtualTableOffset, FriendClass, FriendFunction, Enumerate, Member, StaticMember, Method, Nested, OneMethod, More}
+use Rattle.pdb_types.specs.MemberSays.MemberSays.{BaseClass, VirtualBaseClass, VirtualTablePointer, VirtualTableOffset, FriendClass, FriendFunction, Enumerate, Member, StaticMember, Method, Nested, OneMethod, More, Endless}
 use Rattle.pdb_types.specs.Overloads.{overloads_of}
 use Rattle.pdb_types.specs.TypeRows.{value_of}
 use Rattle.pdb_types.specs.TypeSays.{TypeSays, TagSays}
@@ -125,6 +125,7 @@ other_rows types owner (Method count list name) = method_rows owner name (overlo
 other_rows types owner (Nested t name) = plain_row owner 13 name t.0 0 None ∷ []
 other_rows types owner (OneMethod a t offset name) = plain_row owner 11 name t.0 a.0 offset ∷ []
 other_rows types owner More = plain_row owner 14 [] 0 0 None ∷ []
+other_rows types owner Endless = plain_row owner 15 [] 0 0 None ∷ []
 other_rows types owner m = []
 
 -- the rows of a member; enumerators are numbers of the underlying type

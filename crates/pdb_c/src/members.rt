@@ -247,6 +247,7 @@ fn add_other<'a>(
             )
         }
         Member::More => add(rows, typed_row(owner, 14, &[], TypeIndex(0))),
+        Member::Endless => add(rows, typed_row(owner, 15, &[], TypeIndex(0))),
         _ => Ok(()),
     }
 }

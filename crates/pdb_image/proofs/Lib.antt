@@ -1,1 +1,4 @@
 pub mod Finding
+mod FirstOf
+mod ImageStages
+mod ImageErrors

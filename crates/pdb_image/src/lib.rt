@@ -6,6 +6,7 @@ mod debug;
 mod error;
 mod header;
 mod image;
+pub mod laws;
 mod part;
 mod record;
 

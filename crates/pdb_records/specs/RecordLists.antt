@@ -1,5 +1,5 @@
 -- Lists that stand in a record: gaps, numbers, names.
-use Rattle.std.specs.Prelude.{ℕ, zero, suc, ◌+◌, ◌-◌, ◌*◌, ◌/◌, List, [], ◌∷◌, length, map, Result, Ok, Err}
+use Rattle.std.specs.Prelude.{ℕ, zero, suc, ◌+◌, ◌-◌, ◌*◌, ◌/◌, ◌%◌, List, [], ◌∷◌, length, map, take, Result, Ok, Err}
 use Rattle.std.specs.List.{range_with_len}
 use Rattle.pdb_base.specs.declared.error.Error.{Error}
 use Rattle.pdb_base.specs.Fields.{number, cstring_at}
@@ -10,6 +10,10 @@ use Rattle.pdb_records.specs.declared.shared.PointerTag.{PointerTag}
 -- the items of w bytes each, from item k on: as many as are whole
 abbrev pub items_from : {A : Type 0} → ℕ → (List ℕ → ℕ → A) → List ℕ → ℕ → List A
 items_from w item b k = map (λ i. item b (w * i)) (range_with_len k (length b / w - k))
+
+-- the bytes of the items of w bytes each that are whole
+abbrev pub whole_items : ℕ → List ℕ → List ℕ
+whole_items w b = take (length b - length b % w) b
 
 -- a gap: a start of two bytes, a length of two
 abbrev pub gap_at : List ℕ → ℕ → AddressGap

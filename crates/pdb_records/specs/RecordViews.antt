@@ -1,7 +1,8 @@
 -- What contracts see of lists, of their iterators and of records.
-use Rattle.std.specs.Prelude.{ℕ, List, None}
+use Rattle.std.specs.Prelude.{◌≡◌, ℕ, List, [], ◌∷◌, Option, Some, None}
 use Rattle.pdb_base.specs.Left.{Left}
 use Rattle.pdb_base.specs.Text.{name_bytes}
+use Rattle.pdb_base.specs.declared.text.RawString.{RawString}
 use Rattle.pdb_records.specs.declared.lists.AddressGap.{AddressGap}
 use Rattle.pdb_records.specs.declared.lists.Gaps.{Gaps}
 use Rattle.pdb_records.specs.declared.lists.GapsIter.{GapsIter}
@@ -14,7 +15,7 @@ use Rattle.pdb_records.specs.declared.shared.PointerTags.{PointerTags}
 use Rattle.pdb_records.specs.declared.shared.PointerTagsIter.{PointerTagsIter}
 use Rattle.pdb_records.specs.declared.record.Record.{Record}
 use Rattle.pdb_records.specs.declared.record.Record.TheVariants as rust
-use Rattle.pdb_records.specs.RecordLists.{items_from, gap_at, number_of_four, gaps_of, numbers_of, tag_at, tags_of, names_from}
+use Rattle.pdb_records.specs.RecordLists.{items_from, whole_items, gap_at, number_of_four, gaps_of, numbers_of, tag_at, tags_of, names_from}
 use Rattle.pdb_records.specs.RecordSays.{Says}
 use Rattle.pdb_records.specs.RecordSays.Says.{FrameProcedure, BasePointerRelative, DefRange, DefRangeSubfield, DefRangeRegister, DefRangeFramePointerRelative, DefRangeSubfieldRegister, DefRangeFramePointerRelativeFullScope, DefRangeRegisterRelative, FileStatic, FrameCookieSays, CallSite, HeapAllocation, FunctionList, Jumps, CoffGroup, Section, EnvironmentBlock, Annotation, Pogo, HotPatchFunction, ManagedProcedure, TokenReference, Oem, LocalGroupShared, PointerTagMap, RegisterRelativeOld, With, TablePath, TypeReference, MiniReference, Discarded, Compile, Search, EndOfArguments, Slot, ManagedSlot, ManagedFrameRelative, ManagedRegister, ManagedRegisterRelative}
 
@@ -43,6 +44,16 @@ tag_bytes t = t.bytes.now
 abbrev pub tags_in : PointerTags → List PointerTag
 tags_in t = tags_of (tag_bytes t)
 
+-- the bytes of whole gaps, numbers and tags, which say all that the lists say
+abbrev pub whole_gaps : Gaps → List ℕ
+whole_gaps g = whole_items 4 (gap_bytes g)
+
+abbrev pub whole_numbers : Numbers → List ℕ
+whole_numbers n = whole_items 4 (number_bytes n)
+
+abbrev pub whole_tags : PointerTags → List ℕ
+whole_tags t = whole_items 8 (tag_bytes t)
+
 -- those that an iterator has left
 abbrev pub gaps_left : GapsIter → Left AddressGap
 gaps_left it = record { items = items_from 4 gap_at it.bytes.now it.at; fault = None }
@@ -55,6 +66,11 @@ tags_left it = record { items = items_from 8 tag_at it.bytes.now it.at; fault = 
 
 abbrev pub strings_left : StringsIter → Left (List ℕ)
 strings_left it = record { items = names_from it.count it.buffer.bytes it.buffer.place; fault = None }
+
+-- the first of names, and those behind it; or none
+abbrev pub TakesName : List (List ℕ) → Option RawString → List (List ℕ) → Type 0
+TakesName old None new = (old ≡ []) × (new ≡ [])
+TakesName old (Some name) new = old ≡ name_bytes name ∷ new
 
 -- ---- records
 

@@ -2,7 +2,7 @@
 
 ghost use Rattle.std.specs.Prelude.{◌≡◌, ◌==◌, ◌<◌, ◌≤◌, ◌+◌, ◌^◌, length};
 ghost use Rattle.pdb_records.specs.RecordFlags.{relation_of};
-ghost use Rattle.pdb_records.specs.RecordLists.{gap_at, gaps_of, number_of_four, numbers_of};
+ghost use Rattle.pdb_records.specs.RecordLists.{gap_at, gaps_of, number_of_four, numbers_of, whole_items};
 
 use pdb_base::little_endian::{u16_at, u32_at};
 use pdb_base::{FallibleIterator, PdbInternalSectionOffset, Result};
@@ -40,10 +40,43 @@ fn read_gap(bytes: &[u8], at: usize) -> AddressGap
     }
 }
 
-/// The gaps of an address range, as the record's bytes in which they stand. Two lists are equal if these bytes are.
-#[derive(Clone, Copy, Debug, Eq, PartialEq)]
+// The bytes of the items of a size that are whole.
+pub(crate) fn whole_items(bytes: &[u8], size: usize) -> &[u8]
+    requires { 0 < size }
+    ensures { result.now ≡ whole_items size bytes.now }
+{
+    let rest = bytes.len() % size;
+    bytes.split_at(bytes.len() - rest).0
+}
+
+/// The gaps of an address range, as the record's bytes in which they stand.
+#[derive(Clone, Copy, Debug)]
 pub struct Gaps<'t> {
     bytes: &'t [u8],
+}
+
+/// Two lists are equal where they have the same gaps.
+impl PartialEq for Gaps<'_> {
+    ghost use Rattle.std.specs.Prelude.{nat_eq};
+    ghost use Rattle.std.specs.Cmp.{on_per, partial_equiv_from_equiv};
+    ghost use Rattle.std.specs.Cmp.Lexicographic.{nat_list_eq_equiv, pointwise};
+    ghost use Rattle.pdb_records.specs.RecordViews.{whole_gaps};
+
+    ghost eq = { λ a b. pointwise nat_eq (whole_gaps a) (whole_gaps b) };
+
+    ghost laws = { on_per whole_gaps (partial_equiv_from_equiv nat_list_eq_equiv) };
+
+    fn eq(&self, other: &Self) -> bool {
+        whole_items(self.bytes, GAP_BYTES) == whole_items(other.bytes, GAP_BYTES)
+    }
+}
+
+impl Eq for Gaps<'_> {
+    ghost use Rattle.std.specs.Cmp.{on_equiv};
+    ghost use Rattle.std.specs.Cmp.Lexicographic.{nat_list_eq_equiv};
+    ghost use Rattle.pdb_records.specs.RecordViews.{whole_gaps};
+
+    ghost laws = { on_equiv whole_gaps nat_list_eq_equiv };
 }
 
 impl<'t> Gaps<'t> {
@@ -123,10 +156,34 @@ impl<'t> FallibleIterator for GapsIter<'t> {
     }
 }
 
-/// Numbers of four bytes, as the record's bytes in which they stand. Two lists are equal if these bytes are.
-#[derive(Clone, Copy, Debug, Eq, PartialEq)]
+/// Numbers of four bytes, as the record's bytes in which they stand.
+#[derive(Clone, Copy, Debug)]
 pub struct Numbers<'t> {
     bytes: &'t [u8],
+}
+
+/// Two lists are equal where they have the same numbers.
+impl PartialEq for Numbers<'_> {
+    ghost use Rattle.std.specs.Prelude.{nat_eq};
+    ghost use Rattle.std.specs.Cmp.{on_per, partial_equiv_from_equiv};
+    ghost use Rattle.std.specs.Cmp.Lexicographic.{nat_list_eq_equiv, pointwise};
+    ghost use Rattle.pdb_records.specs.RecordViews.{whole_numbers};
+
+    ghost eq = { λ a b. pointwise nat_eq (whole_numbers a) (whole_numbers b) };
+
+    ghost laws = { on_per whole_numbers (partial_equiv_from_equiv nat_list_eq_equiv) };
+
+    fn eq(&self, other: &Self) -> bool {
+        whole_items(self.bytes, 4) == whole_items(other.bytes, 4)
+    }
+}
+
+impl Eq for Numbers<'_> {
+    ghost use Rattle.std.specs.Cmp.{on_equiv};
+    ghost use Rattle.std.specs.Cmp.Lexicographic.{nat_list_eq_equiv};
+    ghost use Rattle.pdb_records.specs.RecordViews.{whole_numbers};
+
+    ghost laws = { on_equiv whole_numbers nat_list_eq_equiv };
 }
 
 impl<'t> Numbers<'t> {

@@ -11,6 +11,7 @@ ghost use Rattle.pdb_records.specs.declared.form.RecordForm.TheVariants as form;
 
 use crate::fields::{parse_name, parse_rest};
 use crate::flags::VariableFlags;
+use crate::lists::whole_items;
 use crate::record::Record;
 use pdb_base::little_endian::u32_at;
 use pdb_base::{FallibleIterator, ParseBuffer, RawString, Result, TypeIndex};
@@ -63,10 +64,34 @@ fn read_tag(bytes: &[u8], at: usize) -> PointerTag
     }
 }
 
-/// Tags of pointers, as the record's bytes in which they stand. Two lists are equal if these bytes are.
-#[derive(Clone, Copy, Debug, Eq, PartialEq)]
+/// Tags of pointers, as the record's bytes in which they stand.
+#[derive(Clone, Copy, Debug)]
 pub struct PointerTags<'t> {
     bytes: &'t [u8],
+}
+
+/// Two lists are equal where they have the same tags.
+impl PartialEq for PointerTags<'_> {
+    ghost use Rattle.std.specs.Prelude.{nat_eq};
+    ghost use Rattle.std.specs.Cmp.{on_per, partial_equiv_from_equiv};
+    ghost use Rattle.std.specs.Cmp.Lexicographic.{nat_list_eq_equiv, pointwise};
+    ghost use Rattle.pdb_records.specs.RecordViews.{whole_tags};
+
+    ghost eq = { λ a b. pointwise nat_eq (whole_tags a) (whole_tags b) };
+
+    ghost laws = { on_per whole_tags (partial_equiv_from_equiv nat_list_eq_equiv) };
+
+    fn eq(&self, other: &Self) -> bool {
+        whole_items(self.bytes, TAG_BYTES) == whole_items(other.bytes, TAG_BYTES)
+    }
+}
+
+impl Eq for PointerTags<'_> {
+    ghost use Rattle.std.specs.Cmp.{on_equiv};
+    ghost use Rattle.std.specs.Cmp.Lexicographic.{nat_list_eq_equiv};
+    ghost use Rattle.pdb_records.specs.RecordViews.{whole_tags};
+
+    ghost laws = { on_equiv whole_tags nat_list_eq_equiv };
 }
 
 impl<'t> PointerTags<'t> {

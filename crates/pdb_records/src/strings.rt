@@ -1,19 +1,43 @@
 //! Names that stand one behind another in a record, and are borrowed.
 
-ghost use Rattle.std.specs.Prelude.{◌≡◌, ◌<◌, ◌^◌, length};
+ghost use Rattle.std.specs.Prelude.{◌≡◌, ◌<◌, ◌^◌, length, nat_eq};
+ghost use Rattle.std.specs.Cmp.Lexicographic.{pointwise};
 ghost use Rattle.pdb_base.specs.Refusal.{Answers};
 ghost use Rattle.pdb_records.specs.RecordParts.{names_at, names_counted, names_passed, counted_names_at};
-ghost use Rattle.pdb_records.specs.RecordViews.{strings_in, strings_left};
+ghost use Rattle.pdb_records.specs.RecordViews.{TakesName, strings_in, strings_left};
 
 use crate::fields::parse_rest;
 use pdb_base::{FallibleIterator, ParseBuffer, RawString, Result};
 
-/// Names, each before a zero byte, as the record's bytes from the first one on, and their number. Two lists are equal
-/// if both are.
-#[derive(Clone, Copy, Debug, Eq, PartialEq)]
+/// Names, each before a zero byte, as the record's bytes from the first one on, and their number.
+#[derive(Clone, Copy, Debug)]
 pub struct Strings<'t> {
     bytes: &'t [u8],
     count: usize,
+}
+
+/// Two lists are equal where they have the same names.
+impl PartialEq for Strings<'_> {
+    ghost use Rattle.std.specs.Prelude.{nat_eq};
+    ghost use Rattle.std.specs.Cmp.{on_per, partial_equiv_from_equiv};
+    ghost use Rattle.std.specs.Cmp.Lexicographic.{lists_equiv, nat_list_eq_equiv, pointwise};
+    ghost use Rattle.pdb_records.specs.RecordViews.{strings_in};
+
+    ghost eq = { λ a b. pointwise (pointwise nat_eq) (strings_in a) (strings_in b) };
+
+    ghost laws = { on_per strings_in (partial_equiv_from_equiv (lists_equiv nat_list_eq_equiv)) };
+
+    fn eq(&self, other: &Self) -> bool {
+        same_names(self.iter(), other.iter())
+    }
+}
+
+impl Eq for Strings<'_> {
+    ghost use Rattle.std.specs.Cmp.{on_equiv};
+    ghost use Rattle.std.specs.Cmp.Lexicographic.{lists_equiv, nat_list_eq_equiv};
+    ghost use Rattle.pdb_records.specs.RecordViews.{strings_in};
+
+    ghost laws = { on_equiv strings_in (lists_equiv nat_list_eq_equiv) };
 }
 
 impl<'t> Strings<'t> {
@@ -74,6 +98,31 @@ impl<'t> FallibleIterator for StringsIter<'t> {
             }
         }
     }
+}
+
+// The next name.
+fn next_name<'t>(names: &mut StringsIter<'t>) -> Option<RawString<'t>>
+    ensures { TakesName (strings_left names.old).items result (strings_left names.new).items }
+{
+    match names.next() {
+        Ok(name) => name,
+        Err(_) => None,
+    }
+}
+
+// Whether both lists have the same names left.
+fn same_names(mut left: StringsIter<'_>, mut right: StringsIter<'_>) -> bool
+    ensures { result ≡ pointwise (pointwise nat_eq) (strings_left left.entry).items (strings_left right.entry).items }
+{
+    while let Some(name) = next_name(&mut left) {
+        let Some(other) = next_name(&mut right) else {
+            return false;
+        };
+        if name.as_bytes() != other.as_bytes() {
+            return false;
+        }
+    }
+    next_name(&mut right).is_none()
 }
 
 // How many names stand up to the first empty one, which isn't counted, or to the end of the bytes.

@@ -1,6 +1,7 @@
 //! Worked examples: bytes, and what they mean.
 
 mod damaged;
+mod equality;
 mod further;
 mod names;
 mod pieces;

@@ -3,6 +3,11 @@ pub mod Coverings
 pub mod Orders
 pub mod Halves
 pub mod Sorts
+pub mod Overlays
+pub mod CutHalves
+pub mod Paintings
+pub mod PaintedRanges
+pub mod PaintedSections
 pub mod Firsts
 pub mod Pieces
 pub mod Scopes

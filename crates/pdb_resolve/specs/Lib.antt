@@ -2,6 +2,9 @@ pub mod AsIfEmpty
 pub mod RangeOrder
 pub mod Covering
 pub mod Sorting
+pub mod Painting
+pub mod PaintedRanges
+pub mod PaintedSections
 pub mod ModuleCode
 pub mod Leading
 pub mod Machines

@@ -1,12 +1,17 @@
 //! Ranges of code in the order in which they are listed, and the first that covers a place.
 
-ghost use Rattle.std.specs.Prelude.{◌≡◌, ◌+◌, ◌≤◌, ◌<◌, ◌^◌, ℕ, filter, nat_lt, length, IfOk, IfErr, OnOk, IsTrue, ◌↔◌};
+ghost use Rattle.std.specs.Prelude.{◌≡◌, ◌+◌, ◌≤◌, ◌<◌, ◌^◌, ℕ, filter, nat_lt, length, List, IfOk, IfErr, OnOk, IsTrue, ◌↔◌};
 ghost use Rattle.pdb.specs.PdbInternalSectionOffset.{PdbInternalSectionOffset};
+ghost use Rattle.pdb_resolve.specs.declared.range.CodeRange.{CodeRange};
 ghost use Rattle.pdb_resolve.specs.RangeOrder.{Same, Goes, InOrder};
 ghost use Rattle.pdb_resolve.specs.Covering.{payload_upto, covers, first_covering, AreApart};
 ghost use Rattle.pdb_resolve.specs.Sorting.{has_bytes, IsSortOf};
+ghost use Rattle.pdb_resolve.specs.Painting.{AreCuts};
+ghost use Rattle.pdb_resolve.specs.PaintedRanges.{AreSpansOf, AreCutsOf};
 
+use crate::painted::{Cut, find_painted, paint};
 use crate::range::{CodeRange, bytes_cover, order_of};
+use crate::span::Span;
 use pdb::{Error, PdbInternalSectionOffset, Result, Steps};
 use std::alloc::Global;
 use std::marker::Model;
@@ -111,22 +116,35 @@ fn halve(ranges: &[CodeRange], place: PdbInternalSectionOffset, steps: &mut Step
     found
 }
 
-/// What stands for the first range that covers a place. They are looked at one by one, and each look takes a step.
-fn look_through(
-    ranges: &[CodeRange],
-    place: PdbInternalSectionOffset,
-    steps: &mut Steps,
-) -> Option<u32>
-    ensures found { result ≡ first_covering place ranges.now }
-    ensures probes { steps.new.count ≤ steps.old.count + length ranges.now }
+/// The spans of ranges among the places of all sections.
+fn spans_of(alloc: Global, ranges: &[CodeRange]) -> Result<Vec<Span>>
+    ensures spans { IfOk result (λ spans. AreSpansOf ranges.now spans.items) }
+    ensures refused { IfErr result (λ e. e ≡ Error.OutOfMemory) }
 {
+    let mut spans = Vec::with_capacity(alloc, ranges.len())?;
     for range in ranges {
-        steps.tick();
-        if covers(*range, place) {
-            return Some(range.payload);
-        }
+        spans.push(range.span())?;
     }
-    None
+    Ok(spans)
+}
+
+/// The cuts of ranges, between which one of them stands.
+fn paint_ranges(alloc: Global, ranges: &[CodeRange]) -> Result<Vec<Cut>>
+    ensures cuts { IfOk result (λ cuts. AreCutsOf ranges.now cuts.items) }
+    ensures refused { IfErr result (λ e. e ≡ Error.OutOfMemory) }
+{
+    let spans = spans_of(alloc, ranges)?;
+    paint(alloc, spans.as_slice())
+}
+
+/// What stands for the first listed range that covers a place, by the cuts of the ranges.
+fn find_cut(cuts: &[Cut], place: PdbInternalSectionOffset, steps: &mut Steps) -> Option<u32>
+    requires { AreCuts cuts.now }
+    ensures found { (rs : List CodeRange) → AreCutsOf rs cuts.now → result ≡ first_covering place rs }
+    ensures probes { (digits : ℕ) → length cuts.now ≤ 2 ^ digits → steps.new.count ≤ steps.old.count + digits }
+{
+    let at = order_of(place);
+    find_painted(cuts, at, steps)
 }
 
 /// Ranges of code, of which the first listed one is found that covers a place. A contract sees them as a list.
@@ -135,27 +153,36 @@ pub struct Ranges {
     ranges: Vec<CodeRange>,
     // Whether each ends before the next ones begin, or has the same bytes.
     in_order: bool,
+    // Where they don't, the cuts between which one of them stands.
+    cuts: Vec<Cut>,
 }
 
 impl Model for Ranges {
-    ghost use Rattle.std.specs.Prelude.{List, IsTrue, ◌↔◌};
+    ghost use Rattle.std.specs.Prelude.{List, IsTrue, ◌↔◌, ◌≡◌, false};
     ghost use Rattle.pdb_resolve.specs.declared.range.CodeRange.{CodeRange};
     ghost use Rattle.pdb_resolve.specs.RangeOrder.{InOrder};
+    ghost use Rattle.pdb_resolve.specs.PaintedRanges.{AreCutsOf};
 
     ghost Value = { List CodeRange };
 
     ghost view = { λ x. x.ranges.items };
 
-    ghost invariant = { λ x. IsTrue x.in_order ↔ InOrder x.ranges.items };
+    ghost invariant = { λ x. (IsTrue x.in_order ↔ InOrder x.ranges.items) × (x.in_order ≡ false → AreCutsOf x.ranges.items x.cuts.items) };
 }
 
 impl Ranges {
-    // These ranges as they are listed.
-    fn of(ranges: Vec<CodeRange>) -> Self
-        ensures { result ≡ ranges.items }
+    // These ranges, whichever overlap.
+    fn of(alloc: Global, ranges: Vec<CodeRange>) -> Result<Self>
+        ensures is { IfOk result (λ x. x ≡ ranges.items) }
+        ensures refused { IfErr result (λ e. e ≡ Error.OutOfMemory) }
     {
         let in_order = is_in_order(ranges.as_slice());
-        Ranges { ranges, in_order }
+        let cuts = paint_ranges(alloc, ranges.as_slice())?;
+        Ok(Ranges {
+            ranges,
+            in_order,
+            cuts,
+        })
     }
 
     /// The ranges that are listed in `rows`. It fails with out of memory alone.
@@ -173,24 +200,25 @@ impl Ranges {
             return Ok(Ranges {
                 ranges: sorted,
                 in_order: true,
+                cuts: Vec::new(alloc),
             });
         }
-        Ok(Ranges::of(with_bytes(alloc, rows)?))
+        Ranges::of(alloc, with_bytes(alloc, rows)?)
     }
 
-    /// What stands for the first range that covers a place, with a step for each look at a range. Where they are in
-    /// order there are at most as many as the number of ranges has binary digits, and never more than there are
-    /// ranges.
+    /// What stands for the first range that covers a place, with a step for each look at a range. There is at most one
+    /// look more than the number of ranges has binary digits, none more where they are in order, and never more than
+    /// there are ranges.
     pub fn find_counted(&self, place: PdbInternalSectionOffset, steps: &mut Steps) -> Option<u32>
         ensures found { result ≡ first_covering place self.now }
         ensures halved { InOrder self.now → (digits : ℕ) → length self.now < 2 ^ digits → steps.new.count ≤ steps.old.count + digits }
+        ensures soon { (digits : ℕ) → length self.now < 2 ^ digits → steps.new.count ≤ steps.old.count + digits + 1 }
         ensures few { steps.new.count ≤ steps.old.count + length self.now }
     {
-        let ranges = self.ranges.as_slice();
         if self.in_order {
-            halve(ranges, place, steps)
+            halve(self.ranges.as_slice(), place, steps)
         } else {
-            look_through(ranges, place, steps)
+            find_cut(self.cuts.as_slice(), place, steps)
         }
     }
 

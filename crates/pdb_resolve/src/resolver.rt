@@ -101,7 +101,7 @@ impl<'a, 's, S: Source<'s>> Resolver<'a, 's, S> {
     {
         let mut pdb = pdb;
         let information = information_of(&mut pdb, &mut streams.information)?;
-        let places = AddressPlaces::new(address_map_of(&mut pdb)?);
+        let places = AddressPlaces::new(alloc, address_map_of(&mut pdb)?)?;
         let modules = modules_from(alloc, information, &mut streams.modules)?;
         let module_places = ModulePlaces::new(information);
         let tables = Tables {

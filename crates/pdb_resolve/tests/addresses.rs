@@ -1,6 +1,6 @@
 //! The places of addresses.
 
-use crate::sections::place_among;
+use crate::sections::{paint_sections, place_among};
 use crate::tests::files::{file_of, is, numbers, put};
 use crate::{AddressPlaces, PlaceAddresses};
 use pdb::{
@@ -63,7 +63,7 @@ fn places_are(
     rows: &[(u32, Option<(u16, u32)>)],
 ) -> Result<()> {
     let mut pdb = PDB::open(alloc, MemorySource::new(file))?;
-    let places = AddressPlaces::new(Some(pdb.address_map()?));
+    let places = AddressPlaces::new(alloc, Some(pdb.address_map()?))?;
     for (address, wanted) in rows {
         let given = places.place(*address).map(|it| (it.section, it.offset));
         is(rt, "place", &(*address, given), &(*address, *wanted));
@@ -146,7 +146,7 @@ fn without_a_map_the_own_sections_count(rt: HostRuntime) -> Result<()> {
         (0x5100, None),
     ];
     places_are(&rt, rt.alloc(), &file, &rows)?;
-    let none = AddressPlaces::new(None);
+    let none = AddressPlaces::new(rt.alloc(), None)?;
     is(&rt, "no map", &none.place(0x5000).is_none(), &true);
     Ok(())
 }
@@ -160,9 +160,11 @@ fn a_section_number_has_two_bytes(rt: HostRuntime) -> Result<()> {
     let mut sections = vec![in rt.alloc(); empty; 65535]?;
     sections.push(full)?;
     let steps = &mut Steps::new();
-    let last = place_among(&sections[1..], 0x17, steps).map(|it| (it.section, it.offset));
+    let cuts = paint_sections(rt.alloc(), &sections[1..])?;
+    let last = place_among(&sections[1..], &cuts, 0x17, steps).map(|it| (it.section, it.offset));
     is(&rt, "number 65535", &last, &Some((65535, 7)));
-    let behind = place_among(&sections, 0x17, steps).map(|it| (it.section, it.offset));
+    let cuts = paint_sections(rt.alloc(), &sections)?;
+    let behind = place_among(&sections, &cuts, 0x17, steps).map(|it| (it.section, it.offset));
     is(&rt, "number 65536", &behind, &None);
     Ok(())
 }

@@ -26,7 +26,7 @@ fn a_frame_has_two_lines(rt: HostRuntime) -> Result<()> {
         (named(Some(""), ""), None, "::\n??:7:0\n"),
         // Line ends become blanks.
         (named(None, "a\nb\r"), Some("\r\n"), "a b \n  :7:0\n"),
-        (named(Some("\n"), "\r\r"), Some("a\tb"), " ::  \na\tb:7:0\n"),
+        (named(Some("\n"), "\r\r"), Some("a\tb"), " ::  \na b:7:0\n"),
     ];
     for (name, file, wanted) in rows {
         let file = file.map(|it| RawString::from(it));

@@ -1,12 +1,12 @@
 -- Beginnings of texts behind what a buffer had.
-use Rattle.std.proofs.Common.{◌≡◌, ℕ, ◌+◌, ◌/◌, ◌%◌, ◌^◌, ◌<◌, ◌≤◌, min, List, [], ◌∷◌, ◌++◌, length, take, drop, map, flat_map, Bool, false, ◌||◌, refl, sym, ap, ◌∙◌, arith, append_assoc}
+use Rattle.std.proofs.Common.{◌≡◌, ℕ, ◌+◌, ◌/◌, ◌%◌, ◌^◌, ◌<◌, ◌≤◌, min, List, [], ◌∷◌, ◌++◌, length, take, drop, map, flat_map, Bool, false, ◌||◌, codes, refl, sym, ap, ◌∙◌, arith, append_assoc}
 use Rattle.std.specs.List.{list_any}
 use Rattle.std.proofs.lemmas.Grind.{common_steps, flat_map-append}
-use Rattle.std.proofs.lemmas.List.{map-append, take-append-drop, take-append-le}
+use Rattle.std.proofs.lemmas.List.{drop-take, map-append, take-append-drop, take-append-le}
 use Rattle.std.proofs.Math.Seq.{take-append-add}
 use Rattle.std.specs.Fmt.{decimal}
 use Rattle.pdb_text.specs.Digits.{hex, four_digits}
-use Rattle.pdb_text.specs.OneLine.{in_line, is_line_end, one_line}
+use Rattle.pdb_text.specs.OneLine.{cut, in_line, is_control, one_line}
 use Rattle.pdb_text.specs.Written.{PutFront}
 use Rattle.pdb_text.proofs.Pairs.{decimal_more}
 
@@ -41,10 +41,25 @@ front_digits old new i bytes e =
     rw all (front_piece old new _ _ e)
 
 -- the first bytes on one line
-pub front_line : (old new : List ℕ) (i : ℕ) (bytes : List ℕ) → new ≡ old ++ map in_line (take i bytes) → PutFront old new (one_line bytes)
+pub front_line : (old new : List ℕ) (i : ℕ) (bytes : List ℕ) → new ≡ old ++ map in_line (take i bytes) → PutFront old new (map in_line bytes)
 front_line old new i bytes e =
     let all : map in_line bytes ≡ map in_line (take i bytes) ++ map in_line (drop i bytes) = ap (map in_line) (sym (take-append-drop i bytes)) ∙ map-append in_line (take i bytes) (drop i bytes) in
     rw all (front_piece old new _ _ e)
+
+-- what stands in front of an offset, and what stood behind it, cut
+pub cut_behind : (old now : List ℕ) (start size : ℕ) → now ≡ take start (take (start + size) old) ++ map in_line (drop start (take (start + size) old)) → now ≡ take start old ++ map in_line (take size (drop start old))
+cut_behind old now start size e =
+    let front : take start (take (start + size) old) ≡ take start old = grind (arith, common_steps) in
+    e ∙ rw (front, drop-take start size old) refl
+
+-- a longer name is its beginning and three dots
+long_line : (bytes : List ℕ) → 4096 < length bytes → one_line bytes ≡ map in_line (take (cut bytes) bytes) ++ codes "..."
+unfolding one_line
+long_line bytes more = grind (arith, common_steps)
+
+-- the beginning of a longer name, without its dots
+pub front_dots : (old new bytes : List ℕ) → 4096 < length bytes → new ≡ old ++ map in_line (take (cut bytes) bytes) → PutFront old new (one_line bytes)
+front_dots old new bytes more e = rw (long_line bytes more) (front_piece old new _ (codes "...") e)
 
 -- ---- a number of more than four digits: those of all but its last four, then these
 
@@ -75,9 +90,9 @@ field_next n old now new e f = front_next old now new (32 ∷ []) (decimal n) e 
 neither : (a b : Bool) → false ≡ (a || b) → (a ≡ false) × (b ≡ false)
 neither a b e = grind arith
 
-pub plain_line : (bytes : List ℕ) → false ≡ list_any is_line_end bytes → one_line bytes ≡ bytes
+pub plain_line : (bytes : List ℕ) → false ≡ list_any is_control bytes → map in_line bytes ≡ bytes
 plain_line [] e = refl
 plain_line (b ∷ bs) e =
-    let parts = neither (is_line_end b) (list_any is_line_end bs) e in
+    let parts = neither (is_control b) (list_any is_control bs) e in
     let rest = plain_line bs (sym parts.1) in
     rw (parts.0, rest) refl

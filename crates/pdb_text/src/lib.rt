@@ -15,6 +15,6 @@ pub use digits::{
     put_hex8, put_line_end, put_short_hex,
 };
 pub use numbers::{long_number_in, number_in};
-pub use one_line::put_one_line;
+pub use one_line::{put_one_line, to_one_line};
 pub use output::{WriteFailed, write_out};
 pub use words::{WordsError, words_of};

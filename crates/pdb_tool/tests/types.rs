@@ -118,7 +118,7 @@ fn values_of_enumerators(rt: HostRuntime) -> Result<(), Fail> {
         00001003 LF_ENUM forward=00001002 size=1 E\n\
         00001004 1609 ??\n\
         00001005 LF_UNION size=4 U\n\
-        \x20 <...>\n\
+        \x20 error the list of members continues in itself\n\
         00001006 LF_FIELDLIST <field list>\n\
         error 1 the data ends before a record does\n";
     both(&rt, &bytes, FileText::Types(&[]), wanted);

@@ -1,11 +1,12 @@
 -- Texts that are cut off at a limit.
 use Rattle.std.proofs.Common.{◌≡◌, ℕ, zero, suc, ◌+◌, ◌-◌, ◌≤◌, ◌<◌, List, [], ◌∷◌, ◌++◌, length, get_or, take, refl, sym, ap, ◌∙◌, arith, append_assoc}
-use Rattle.std.specs.Prelude.{codes, min, Result, Ok, Err, OnOk}
+use Rattle.std.specs.Prelude.{codes, min, Result, Ok, Err, OnErr, OnOk}
 use Rattle.std.specs.List.{flat_map}
 use Rattle.std.proofs.lemmas.Bool.{le-ltb, lt-ltb}
 use Rattle.std.proofs.lemmas.List.{take_all, take_at, take_more, take-take, flat_map_more, append-nil, get_or_default, length-append, length-take, length-take-le}
 use Rattle.pdb_base.specs.declared.index.TypeIndex.{TypeIndex}
-use Rattle.pdb_types.specs.Cuts.{IsCut}
+use Rattle.pdb_text.specs.Written.{PutFront}
+use Rattle.pdb_types.specs.Cuts.{IsCut, IsKept}
 use Rattle.pdb_types.specs.TypeTexts.{cut_off, last_text, list_text, with_comma}
 
 pub take_cut : (n : ℕ) (x s : List ℕ) → take n (take n x ++ s) ≡ take n (x ++ s)
@@ -37,6 +38,40 @@ cut_three limit before first second third one two now a b c = cut_then limit bef
 
 pub cut_four : (limit : ℕ) (before first second third fourth one two three now : List ℕ) → IsCut limit before first one → IsCut limit one second two → IsCut limit two third three → IsCut limit three fourth now → IsCut limit before (first ++ (second ++ (third ++ fourth))) now
 cut_four limit before first second third fourth one two three now a b c d = cut_then limit before first (second ++ (third ++ fourth)) one now a (cut_three limit one second third fourth two three now b c d)
+
+-- ---- what was there
+
+kept_front : (limit : ℕ) (before first middle : List ℕ) → length before ≤ limit → IsCut limit before first middle → take (length before) middle ≡ before
+kept_front limit before first middle short a = ap (take (length before)) a.is ∙ take-take (length before) limit (before ++ first) short ∙ take_at before first (length before) refl
+
+kept_size : (n : ℕ) (before middle : List ℕ) → n ≡ length before → take n middle ≡ before → n ≤ length middle
+kept_size n before middle e is =
+    let sized = ap length is in
+    let cut = length-take n middle in
+    omega (arith, sized, cut)
+
+pub kept_then : (limit : ℕ) (before first middle now : List ℕ) → length before ≤ limit → IsCut limit before first middle → IsKept middle now → IsKept before now
+kept_then limit before first middle now short a b =
+    let front = kept_front limit before first middle short a in
+    let few = kept_size (length before) before middle refl front in
+    record { is = sym (take-take (length before) (length middle) now few) ∙ ap (take (length before)) b.is ∙ front }
+
+pub on_kept : {E : Type 0} (r : Result (Unit {0}) E) (limit : ℕ) (before first middle now : List ℕ) → length before ≤ limit → IsCut limit before first middle → OnErr r (IsKept middle now) → OnErr r (IsKept before now)
+on_kept (Ok x) limit before first middle now short a b = b
+on_kept (Err e) limit before first middle now short a b = kept_then limit before first middle now short a b
+
+pub kept_same : (before now : List ℕ) → now ≡ before → IsKept before now
+kept_same before now e = record { is = ap (take (length before)) e ∙ take_all (length before) before (omega arith) }
+
+pub kept_more : (before more now : List ℕ) → now ≡ before ++ more → IsKept before now
+kept_more before more now e = record { is = ap (take (length before)) e ∙ take_at before more (length before) refl }
+
+pub kept_front_put : (before text now : List ℕ) → PutFront before now text → IsKept before now
+kept_front_put before text now h = kept_more before (take h.count text) now h.is
+
+-- of what was cut a front is left
+pub kept_cut : (limit n : ℕ) (before text middle now : List ℕ) → length before ≤ limit → length before ≤ n → IsCut limit before text middle → now ≡ take n middle → IsKept before now
+kept_cut limit n before text middle now short long a e = record { is = ap (take (length before)) e ∙ take-take (length before) n middle long ∙ kept_front limit before text middle short a }
 
 -- the last piece of a text is put by a call that may fail
 

@@ -1,6 +1,6 @@
 -- What one step of an iterator over members shows.
 use Rattle.std.specs.Prelude.{◌==◌, ◌&&◌, nat_lt}
-use Rattle.std.proofs.Common.{◌≡◌, ℕ, zero, suc, ◌+◌, ◌-◌, ◌*◌, ◌^◌, ◌<◌, ◌≤◌, Bool, true, false, cond, option_map, List, [], ◌∷◌, length, Option, Some, None, Result, Ok, Err, refl, sym, ap, ◌∙◌, arith}
+use Rattle.std.proofs.Common.{◌≡◌, ℕ, zero, suc, ◌+◌, ◌-◌, ◌*◌, ◌^◌, ◌<◌, ◌≤◌, Bool, true, false, cond, option_map, List, [], ◌∷◌, ◌++◌, length, Option, Some, None, Result, Ok, Err, refl, sym, ap, ◌∙◌, arith}
 use Rattle.std.proofs.lemmas.Bool.{ltb-true}
 use Rattle.std.proofs.lemmas.List.{length-append}
 use Rattle.pdb_base.specs.declared.error.Error.{Error}
@@ -15,9 +15,9 @@ use Rattle.pdb_items.specs.Items.{ItemEntry, item_with}
 use Rattle.pdb_items.specs.Ids.{kind_at}
 use Rattle.pdb_types.specs.MemberSays.{MemberSays, EntrySays}
 use Rattle.pdb_types.specs.MemberSays.EntrySays.{Says, GoesOn}
-use Rattle.pdb_types.specs.MemberSays.MemberSays.{More}
+use Rattle.pdb_types.specs.MemberSays.MemberSays.{More, Endless}
 use Rattle.pdb_types.specs.MemberRows.{FoundEntry, MemberForm, entry_at, entry_of, fields_at, fields_width, member_form_of, padded, padding_at}
-use Rattle.pdb_types.specs.MemberLists.{entries, entries_of, goes_on, list_bytes, member_in, members_by, members_from, members_in, named_by, rest_behind}
+use Rattle.pdb_types.specs.MemberLists.{entries, entries_of, goes_on, list_bytes, member_in, members_by, members_from, members_in, named_by, only, rest_behind, was_read}
 
 -- ---- entries
 
@@ -69,66 +69,77 @@ by_member more list old new y m h is = rw (h.0, h.1, ← is) (refl, refl)
 by_list : (more : Option ℕ → Left MemberSays) (list : Option ℕ) (old new : Left EntrySays) (y : EntrySays) → Follows old (y ∷ []) new → None ≡ member_in y → members_by more (named_by list y) new ≡ members_by more list old
 by_list more list old new y h is = rw (h.0, h.1, ← is) refl
 
-nothing : (types : List ItemEntry) (lists : ℕ) → members_from types lists None ≡ ended
+nothing : (types : List ItemEntry) (read : List ℕ) (lists : ℕ) → members_from types read lists None ≡ ended
 unfolding members_from
-nothing types zero = refl
-nothing types (suc n) = refl
+nothing types read zero = refl
+nothing types read (suc n) = refl
 
-only_more : (types : List ItemEntry) (i n : ℕ) → n ≡ 0 → members_from types n (Some i) ≡ record { items = More ∷ []; fault = None }
+only_more : (types : List ItemEntry) (read : List ℕ) (i n : ℕ) → was_read read i ≡ false → n ≡ 0 → members_from types read n (Some i) ≡ only More
 unfolding members_from
-only_more types i zero e = refl
-only_more types i (suc n) e = absurd (omega arith)
+only_more types read i zero new e = rw new refl
+only_more types read i (suc n) new e = absurd (omega arith)
 
-goes_on_with : (types : List ItemEntry) (i n : ℕ) → 0 < n → members_from types n (Some i) ≡ members_by (members_from types (n - 1)) None (entries_of (list_bytes (item_with types i)))
+only_endless : (types : List ItemEntry) (read : List ℕ) (i n : ℕ) → was_read read i ≡ true → members_from types read n (Some i) ≡ only Endless
 unfolding members_from
-goes_on_with types i zero some = absurd (omega arith)
-goes_on_with types i (suc n) some = let same : suc n - 1 ≡ n = omega arith in rw same refl
+only_endless types read i zero old = rw old refl
+only_endless types read i (suc n) old = rw old refl
+
+goes_on_with : (types : List ItemEntry) (read : List ℕ) (i n : ℕ) → was_read read i ≡ false → 0 < n → members_from types read n (Some i) ≡ members_by (members_from types (read ++ (i ∷ [])) (n - 1)) None (entries_of (list_bytes (item_with types i)))
+unfolding members_from
+goes_on_with types read i zero new some = absurd (omega arith)
+goes_on_with types read i (suc n) new some = let same : suc n - 1 ≡ n = omega arith in rw (same, new) refl
 
 -- behind the last entry of a list
 at_end : (more : Option ℕ → Left MemberSays) (list : Option ℕ) (b : List ℕ) (p : ℕ) → length b ≤ p → members_by more list (listing entries b p) ≡ more list
 at_end more list b p past = ap (members_by more list) (listing_end entries b p past)
 
-no_more : (types : List ItemEntry) (lists : ℕ) (b : List ℕ) (p : ℕ) → length b ≤ p → members_by (members_from types lists) None (listing entries b p) ≡ ended
-no_more types lists b p past = at_end (members_from types lists) None b p past ∙ nothing types lists
+no_more : (types : List ItemEntry) (read : List ℕ) (lists : ℕ) (b : List ℕ) (p : ℕ) → length b ≤ p → members_by (members_from types read lists) None (listing entries b p) ≡ ended
+no_more types read lists b p past = at_end (members_from types read lists) None b p past ∙ nothing types read lists
 
-pub nothing_read : (types : List ItemEntry) (lists : ℕ) (list : Option ℕ) → members_by (members_from types lists) list (listing entries [] 0) ≡ members_from types lists list
-nothing_read types lists list = at_end (members_from types lists) list [] 0 (omega arith)
+pub nothing_read : (types : List ItemEntry) (read : List ℕ) (lists : ℕ) (list : Option ℕ) → members_by (members_from types read lists) list (listing entries [] 0) ≡ members_from types read lists list
+nothing_read types read lists list = at_end (members_from types read lists) list [] 0 (omega arith)
 
 -- ---- steps
 
-module _ (types : List ItemEntry) (lists : ℕ) (b : List ℕ) (p : ℕ) where
-  pub member_left : (list : Option ℕ) (x : FoundEntry) (m : MemberSays) → entry_at b p ≡ Ok x → Some m ≡ member_in x.entry → Follows (members_by (members_from types lists) list (listing entries b p)) (m ∷ []) (members_by (members_from types lists) (named_by list x.entry) (listing entries b x.end))
-  member_left list x m there is = by_member (members_from types lists) list (listing entries b p) (listing entries b x.end) x.entry m (entry_first b p x there) is
+module _ (types : List ItemEntry) (read : List ℕ) (lists : ℕ) (b : List ℕ) (p : ℕ) where
+  pub member_left : (list : Option ℕ) (x : FoundEntry) (m : MemberSays) → entry_at b p ≡ Ok x → Some m ≡ member_in x.entry → Follows (members_by (members_from types read lists) list (listing entries b p)) (m ∷ []) (members_by (members_from types read lists) (named_by list x.entry) (listing entries b x.end))
+  member_left list x m there is = by_member (members_from types read lists) list (listing entries b p) (listing entries b x.end) x.entry m (entry_first b p x there) is
 
-  pub list_left : (list : Option ℕ) (x : FoundEntry) → entry_at b p ≡ Ok x → None ≡ member_in x.entry → members_by (members_from types lists) (named_by list x.entry) (listing entries b x.end) ≡ members_by (members_from types lists) list (listing entries b p)
-  list_left list x there is = by_list (members_from types lists) list (listing entries b p) (listing entries b x.end) x.entry (entry_first b p x there) is
+  pub list_left : (list : Option ℕ) (x : FoundEntry) → entry_at b p ≡ Ok x → None ≡ member_in x.entry → members_by (members_from types read lists) (named_by list x.entry) (listing entries b x.end) ≡ members_by (members_from types read lists) list (listing entries b p)
+  list_left list x there is = by_list (members_from types read lists) list (listing entries b p) (listing entries b x.end) x.entry (entry_first b p x there) is
 
-  pub fault_left : (list : Option ℕ) (e : Error) → p < length b → entry_at b p ≡ Err e → Ends (members_by (members_from types lists) list (listing entries b p)) [] (Some e) (members_by (members_from types lists) None (listing entries b (length b)))
+  pub fault_left : (list : Option ℕ) (e : Error) → p < length b → entry_at b p ≡ Err e → Ends (members_by (members_from types read lists) list (listing entries b p)) [] (Some e) (members_by (members_from types read lists) None (listing entries b (length b)))
   fault_left list e inside there =
       let piece : entries.piece b p ≡ None = rw there refl in
       let fault : entries.fault b p ≡ Some e = rw there refl in
       let left = gives_fault entries (λ (y : EntrySays). y) b p e 0 inside (piece, fault) in
-      rw left (refl, refl, no_more types lists b (length b) (omega arith))
+      rw left (refl, refl, no_more types read lists b (length b) (omega arith))
 
-  pub end_left : length b ≤ p → Ends (members_by (members_from types lists) None (listing entries b p)) [] None (members_by (members_from types lists) None (listing entries b p))
-  end_left past = let left = no_more types lists b p past in (ap (λ (l : Left MemberSays). l.items) left, ap (λ (l : Left MemberSays). l.fault) left, left)
+  pub end_left : length b ≤ p → Ends (members_by (members_from types read lists) None (listing entries b p)) [] None (members_by (members_from types read lists) None (listing entries b p))
+  end_left past = let left = no_more types read lists b p past in (ap (λ (l : Left MemberSays). l.items) left, ap (λ (l : Left MemberSays). l.fault) left, left)
 
-  pub more_left : (i : ℕ) → length b ≤ p → lists ≡ 0 → Follows (members_by (members_from types lists) (Some i) (listing entries b p)) (More ∷ []) (members_by (members_from types lists) None (listing entries b p))
-  more_left i past e =
-      let left = at_end (members_from types lists) (Some i) b p past ∙ only_more types i lists e in
-      let rest = sym (no_more types lists b p past) in
-      (ap (λ (l : Left MemberSays). l.items) left ∙ ap (λ (l : Left MemberSays). More ∷ l.items) rest, ap (λ (l : Left MemberSays). l.fault) left ∙ ap (λ (l : Left MemberSays). l.fault) rest)
+  last_left : (m : MemberSays) (i : ℕ) → length b ≤ p → members_from types read lists (Some i) ≡ only m → Follows (members_by (members_from types read lists) (Some i) (listing entries b p)) (m ∷ []) (members_by (members_from types read lists) None (listing entries b p))
+  last_left m i past is =
+      let left = at_end (members_from types read lists) (Some i) b p past ∙ is in
+      let rest = sym (no_more types read lists b p past) in
+      (ap (λ (l : Left MemberSays). l.items) left ∙ ap (λ (l : Left MemberSays). m ∷ l.items) rest, ap (λ (l : Left MemberSays). l.fault) left ∙ ap (λ (l : Left MemberSays). l.fault) rest)
 
-  named : (i : ℕ) → length b ≤ p → 0 < lists → members_by (members_from types lists) (Some i) (listing entries b p) ≡ members_by (members_from types (lists - 1)) None (entries_of (list_bytes (item_with types i)))
-  named i past some = at_end (members_from types lists) (Some i) b p past ∙ goes_on_with types i lists some
+  pub more_left : (i : ℕ) → length b ≤ p → was_read read i ≡ false → lists ≡ 0 → Follows (members_by (members_from types read lists) (Some i) (listing entries b p)) (More ∷ []) (members_by (members_from types read lists) None (listing entries b p))
+  more_left i past new e = last_left More i past (only_more types read i lists new e)
 
-  pub absent_left : (i : ℕ) → length b ≤ p → 0 < lists → list_bytes (item_with types i) ≡ None → Ends (members_by (members_from types lists) (Some i) (listing entries b p)) [] (Some UnexpectedEof) (members_by (members_from types (lists - 1)) None (listing entries b p))
-  absent_left i past some is =
-      let left = named i past some ∙ ap (λ o. members_by (members_from types (lists - 1)) None (entries_of o)) is in
-      (ap (λ (l : Left MemberSays). l.items) left, ap (λ (l : Left MemberSays). l.fault) left, no_more types (lists - 1) b p past)
+  pub endless_left : (i : ℕ) → length b ≤ p → was_read read i ≡ true → Follows (members_by (members_from types read lists) (Some i) (listing entries b p)) (Endless ∷ []) (members_by (members_from types read lists) None (listing entries b p))
+  endless_left i past old = last_left Endless i past (only_endless types read i lists old)
 
-  pub opened_left : (i : ℕ) (c : List ℕ) → length b ≤ p → 0 < lists → list_bytes (item_with types i) ≡ Some c → members_by (members_from types (lists - 1)) None (listing entries c 2) ≡ members_by (members_from types lists) (Some i) (listing entries b p)
-  opened_left i c past some is = sym (named i past some ∙ ap (λ o. members_by (members_from types (lists - 1)) None (entries_of o)) is)
+  named : (i : ℕ) → length b ≤ p → was_read read i ≡ false → 0 < lists → members_by (members_from types read lists) (Some i) (listing entries b p) ≡ members_by (members_from types (read ++ (i ∷ [])) (lists - 1)) None (entries_of (list_bytes (item_with types i)))
+  named i past new some = at_end (members_from types read lists) (Some i) b p past ∙ goes_on_with types read i lists new some
+
+  pub absent_left : (i : ℕ) → length b ≤ p → was_read read i ≡ false → 0 < lists → list_bytes (item_with types i) ≡ None → Ends (members_by (members_from types read lists) (Some i) (listing entries b p)) [] (Some UnexpectedEof) (members_by (members_from types (read ++ (i ∷ [])) (lists - 1)) None (listing entries b p))
+  absent_left i past new some is =
+      let left = named i past new some ∙ ap (λ o. members_by (members_from types (read ++ (i ∷ [])) (lists - 1)) None (entries_of o)) is in
+      (ap (λ (l : Left MemberSays). l.items) left, ap (λ (l : Left MemberSays). l.fault) left, no_more types (read ++ (i ∷ [])) (lists - 1) b p past)
+
+  pub opened_left : (i : ℕ) (c : List ℕ) → length b ≤ p → was_read read i ≡ false → 0 < lists → list_bytes (item_with types i) ≡ Some c → members_by (members_from types (read ++ (i ∷ [])) (lists - 1)) None (listing entries c 2) ≡ members_by (members_from types read lists) (Some i) (listing entries b p)
+  opened_left i c past new some is = sym (named i past new some ∙ ap (λ o. members_by (members_from types (read ++ (i ∷ [])) (lists - 1)) None (entries_of o)) is)
 
 -- ---- how many members there are
 
@@ -156,18 +167,22 @@ small_list (Some x) = small_one (kind_at x.bytes == 0x1203) (nat_lt (length x.by
     small_one true false e = omega arith
     small_one false s e = omega arith
 
-few_from : (types : List ItemEntry) (n : ℕ) (list : Option ℕ) → length (members_from types n list).items ≤ n * 65536 + 1
-unfolding members_from
-few_from types zero None = omega arith
-few_from types (suc n) None = omega arith
-few_from types zero (Some i) = omega arith
-few_from types (suc n) (Some i) =
-    let here = small_list (item_with types i) in
-    let there = few_by (members_from types n) None (entries_of (list_bytes (item_with types i))) (n * 65536 + 1) (few_from types n) in
-    omega (arith, here, there)
+few_if : (t : Bool) (left other : Left MemberSays) (n : ℕ) → length left.items ≤ n → length other.items ≤ n → length (cond t left other).items ≤ n
+few_if true left other n one two = one
+few_if false left other n one two = two
 
-pub few_left : (types : List ItemEntry) (lists : ℕ) (list : Option ℕ) (b : List ℕ) (p : ℕ) → lists ≤ 1024 → length b < 65536 → length (members_by (members_from types lists) list (listing entries b p)).items < 2 ^ 64
-few_left types lists list b p few_lists small =
+few_from : (types : List ItemEntry) (read : List ℕ) (n : ℕ) (list : Option ℕ) → length (members_from types read n list).items ≤ n * 65536 + 1
+unfolding members_from
+few_from types read zero None = omega arith
+few_from types read (suc n) None = omega arith
+few_from types read zero (Some i) = few_if (was_read read i) (only Endless) (only More) (zero * 65536 + 1) (omega arith) (omega arith)
+few_from types read (suc n) (Some i) =
+    let here = small_list (item_with types i) in
+    let there = few_by (members_from types (read ++ (i ∷ [])) n) None (entries_of (list_bytes (item_with types i))) (n * 65536 + 1) (few_from types (read ++ (i ∷ [])) n) in
+    few_if (was_read read i) (only Endless) (members_by (members_from types (read ++ (i ∷ [])) n) None (entries_of (list_bytes (item_with types i)))) (suc n * 65536 + 1) (omega arith) (omega (arith, here, there))
+
+pub few_left : (types : List ItemEntry) (read : List ℕ) (lists : ℕ) (list : Option ℕ) (b : List ℕ) (p : ℕ) → lists ≤ 1024 → length b < 65536 → length (members_by (members_from types read lists) list (listing entries b p)).items < 2 ^ 64
+few_left types read lists list b p few_lists small =
     let here = few entries b p in
-    let there = few_by (members_from types lists) list (listing entries b p) (lists * 65536 + 1) (few_from types lists) in
+    let there = few_by (members_from types read lists) list (listing entries b p) (lists * 65536 + 1) (few_from types read lists) in
     omega (arith, here, there)

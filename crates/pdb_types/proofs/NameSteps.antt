@@ -1,11 +1,14 @@
 -- The parts of a type, a step at a time.
-use Rattle.std.proofs.Common.{◌≡◌, ℕ, zero, suc, ◌-◌, ◌≤◌, ◌<◌, List, Option, refl, arith}
-use Rattle.std.specs.Prelude.{codes}
+use Rattle.std.proofs.Common.{◌≡◌, ℕ, zero, suc, ◌-◌, ◌≤◌, ◌<◌, List, ◌++◌, Bool, true, false, cond, Option, refl, arith}
+use Rattle.std.specs.Prelude.{◌&&◌, not, codes}
 use Rattle.std.proofs.lemmas.Bool.{le-ltb, lt-ltb, ne_eqb}
+use Rattle.std.proofs.lemmas.List.{append-nil}
 use Rattle.pdb_items.specs.Items.{ItemEntry}
+use Rattle.pdb_types.specs.declared.pointer.Qualifiers.{Qualifiers}
+use Rattle.pdb_types.specs.TypeFlags.{is_unqualified}
 use Rattle.pdb_types.specs.TypeSays.{TypeSays}
 use Rattle.pdb_types.specs.FullTypes.{says_of}
-use Rattle.pdb_types.specs.TypeTexts.{Parts, arguments_by, arguments_text, parts, parts_of, plain, simple_parts}
+use Rattle.pdb_types.specs.TypeTexts.{Parts, arguments_by, arguments_text, modified, parts, parts_of, plain, plain_before, plain_behind, rare_behind, simple_parts, words_before, words_behind}
 
 pub parts_simple : (types : List ItemEntry) (first : List ℕ → Option ℕ) (d i : ℕ) → i < 0x1000 → parts types first d i ≡ simple_parts i
 unfolding parts
@@ -21,6 +24,21 @@ pub parts_step : (types : List ItemEntry) (first : List ℕ → Option ℕ) (d i
 unfolding parts
 parts_step types first zero i says h lt e = absurd (omega arith)
 parts_step types first (suc d) i says h lt e = let same : suc d - 1 ≡ d = omega arith in rw (le-ltb i 0x1000 h, same, e) refl
+
+-- ---- qualifiers
+
+no_words : (a b c d p : Bool) (front : List ℕ) → (not a && not b && not c && not d) ≡ true
+    → cond p (front ++ words_behind (record { is_const = a; is_volatile = b; is_unaligned = c; is_restrict = d })) (words_before (record { is_const = a; is_volatile = b; is_unaligned = c; is_restrict = d }) ++ front) ≡ front
+unfolding plain_before plain_behind rare_behind
+no_words true b c d p front e = absurd cc
+no_words false true c d p front e = absurd cc
+no_words false false true d p front e = absurd cc
+no_words false false false true p front e = absurd cc
+no_words false false false false true front e = append-nil front
+no_words false false false false false front e = refl
+
+pub without_words : (q : Qualifiers) (p : Parts) → is_unqualified q ≡ true → (modified q p).front ≡ p.front
+without_words q p e = no_words q.is_const q.is_volatile q.is_unaligned q.is_restrict p.is_right p.front e
 
 -- ---- arguments
 

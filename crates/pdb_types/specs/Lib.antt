@@ -2,6 +2,7 @@ pub mod TypeFlags
 pub mod TypeSays
 pub mod TypeRows
 pub mod TypeReading
+pub mod TagViews
 pub mod Cuts
 pub mod FunctionIds
 pub mod MemberSays
@@ -9,6 +10,7 @@ pub mod MemberRows
 pub mod MemberPlaces
 pub mod MemberLists
 pub mod MemberViews
+pub mod ReadListViews
 pub mod MemberListViews
 pub mod MemberEnds
 pub mod MemberEndViews

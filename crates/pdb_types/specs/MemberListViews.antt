@@ -7,11 +7,12 @@ use Rattle.pdb_types.specs.declared.members.Member.{Member}
 use Rattle.pdb_types.specs.declared.member_lists.MemberIter.{MemberIter}
 use Rattle.pdb_types.specs.MemberSays.{MemberSays}
 use Rattle.pdb_types.specs.MemberViews.{shown_member}
+use Rattle.pdb_types.specs.ReadListViews.{lists_read}
 use Rattle.pdb_types.specs.MemberLists.{entries, members_by, members_from}
 
 -- the members that an iterator has left, and perhaps a fault after them
 abbrev pub members_left : MemberIter → Left MemberSays
-members_left it = members_by (members_from it.types.now it.lists) it.list (listing entries it.bytes.now it.at)
+members_left it = members_by (members_from it.types.now (lists_read it.read) it.lists) it.list (listing entries it.bytes.now it.at)
 
 -- how many bytes may still be read
 abbrev pub members_ahead : MemberIter → ℕ

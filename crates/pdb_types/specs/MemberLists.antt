@@ -1,6 +1,6 @@
 -- The members of a type: the lists that go on in one another.
-use Rattle.std.specs.Prelude.{ℕ, zero, suc, ◌-◌, ◌==◌, ◌&&◌, nat_lt, if◌then◌else◌, List, [], ◌∷◌, ◌++◌, length, Option, Some, None, option_map}
-use Rattle.std.specs.List.{filter_map}
+use Rattle.std.specs.Prelude.{ℕ, zero, suc, ◌-◌, ◌==◌, ◌&&◌, Bool, nat_lt, if◌then◌else◌, List, [], ◌∷◌, ◌++◌, length, Option, Some, None, option_map}
+use Rattle.std.specs.List.{filter_map, list_any}
 use Rattle.pdb_base.specs.declared.error.Error.{Error}
 use Rattle.pdb_base.specs.declared.error.Error.TheVariants.{UnexpectedEof}
 use Rattle.pdb_base.specs.Left.{Left, ended}
@@ -10,7 +10,7 @@ use Rattle.pdb_items.specs.Items.{ItemEntry, item_with}
 use Rattle.pdb_items.specs.Ids.{kind_at}
 use Rattle.pdb_types.specs.MemberSays.{MemberSays, EntrySays}
 use Rattle.pdb_types.specs.MemberSays.EntrySays.{Says, GoesOn}
-use Rattle.pdb_types.specs.MemberSays.MemberSays.{More}
+use Rattle.pdb_types.specs.MemberSays.MemberSays.{More, Endless}
 use Rattle.pdb_types.specs.MemberRows.{FoundEntry, entry_at}
 
 -- ---- one list
@@ -70,11 +70,21 @@ rest_behind (Some e) more list = faulty e
 abbrev pub members_by : (Option ℕ → Left MemberSays) → Option ℕ → Left EntrySays → Left MemberSays
 members_by more list left = before (members_in left.items) (rest_behind left.fault more (goes_on list left.items))
 
--- the members of the list of an index, if there is one, and of those with which it goes on: of at most so many lists, and `More` in place of the next
-unfoldable pub members_from : List ItemEntry → ℕ → Option ℕ → Left MemberSays
-members_from types lists None = ended
-members_from types zero (Some i) = record { items = More ∷ []; fault = None }
-members_from types (suc lists) (Some i) = members_by (members_from types lists) None (entries_of (list_bytes (item_with types i)))
+-- nothing but a member
+abbrev pub only : MemberSays → Left MemberSays
+only m = record { items = m ∷ []; fault = None }
+
+-- whether the list of an index is among those that were read
+abbrev pub was_read : List ℕ → ℕ → Bool
+was_read read i = list_any (λ j. j == i) read
+
+-- the members of the list of an index, if there is one, and of those with which it goes on. A list that was read before ends them with `Endless`, one behind as many as may be read with `More`
+unfoldable pub members_from : List ItemEntry → List ℕ → ℕ → Option ℕ → Left MemberSays
+members_from types read lists None = ended
+members_from types read zero (Some i) = if was_read read i then only Endless else only More
+members_from types read (suc lists) (Some i) =
+    if was_read read i then only Endless
+    else members_by (members_from types (read ++ (i ∷ [])) lists) None (entries_of (list_bytes (item_with types i)))
 
 -- the index of a list, where there is one: index 0 is none
 abbrev pub some_list : ℕ → Option ℕ
@@ -82,4 +92,4 @@ some_list i = if i == 0 then None else Some i
 
 -- the members of the list of an index
 unfoldable pub members_of : List ItemEntry → ℕ → Left MemberSays
-members_of types i = members_from types 1024 (some_list i)
+members_of types i = members_from types [] 1024 (some_list i)

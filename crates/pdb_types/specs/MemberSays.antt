@@ -49,6 +49,7 @@ pub data MemberSays : Type 0 where
   Nested : (nested_type : TypeIndex) (name : List ℕ) → MemberSays
   OneMethod : (attributes : FieldAttributes) (method_type : TypeIndex) (vtable_offset : Option ℕ) (name : List ℕ) → MemberSays
   More : MemberSays
+  Endless : MemberSays
 
 -- an entry of a list: a member, or the list with which the list goes on
 pub data EntrySays : Type 0 where

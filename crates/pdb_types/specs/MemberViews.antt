@@ -6,7 +6,7 @@ use Rattle.pdb_types.specs.declared.member_readers.Entry.TheVariants as entry
 use Rattle.pdb_types.specs.declared.member_readers.Found.{Found}
 use Rattle.pdb_types.specs.MemberSays.{MemberSays, EntrySays}
 use Rattle.pdb_types.specs.MemberSays.EntrySays.{Says, GoesOn}
-use Rattle.pdb_types.specs.MemberSays.MemberSays.{BaseClass, VirtualBaseClass, VirtualTablePointer, VirtualTableOffset, FriendClass, FriendFunction, Enumerate, Member as DataMember, StaticMember, Method, Nested, OneMethod, More}
+use Rattle.pdb_types.specs.MemberSays.MemberSays.{BaseClass, VirtualBaseClass, VirtualTablePointer, VirtualTableOffset, FriendClass, FriendFunction, Enumerate, Member as DataMember, StaticMember, Method, Nested, OneMethod, More, Endless}
 use Rattle.pdb_types.specs.MemberRows.{FoundEntry}
 
 abbrev pub shown_member : Member → MemberSays
@@ -23,6 +23,7 @@ shown_member (rust.Method count list name) = Method count list name.now
 shown_member (rust.Nested t name) = Nested t name.now
 shown_member (rust.OneMethod a t place name) = OneMethod a t place name.now
 shown_member rust.More = More
+shown_member rust.Endless = Endless
 
 abbrev pub shown_entry : Entry → EntrySays
 shown_entry (entry.Member m) = Says (shown_member m)

@@ -1,5 +1,5 @@
 -- The flags of modifiers, pointers and tags.
-use Rattle.std.specs.Prelude.{ℕ, ◌/◌, ◌%◌, ◌==◌, Bool, false, not, Option, Some, None, bit_and, if◌then◌else◌}
+use Rattle.std.specs.Prelude.{ℕ, ◌/◌, ◌%◌, ◌==◌, ◌&&◌, Bool, false, not, Option, Some, None, bit_and, if◌then◌else◌}
 use Rattle.pdb_types.specs.declared.pointer.Qualifiers.{Qualifiers}
 
 -- one of the bits is set
@@ -11,6 +11,10 @@ modifier_qualifiers bits = record { is_const = has bits 1; is_volatile = has bit
 
 abbrev pub pointer_qualifiers : ℕ → Qualifiers
 pointer_qualifiers a = record { is_const = has a 0x400; is_volatile = has a 0x200; is_unaligned = has a 0x800; is_restrict = has a 0x1000 }
+
+-- no qualifier
+abbrev pub is_unqualified : Qualifiers → Bool
+is_unqualified q = not q.is_const && not q.is_volatile && not q.is_unaligned && not q.is_restrict
 
 -- the number of a pointer's mode: bits 5 to 7
 abbrev pub mode_number : ℕ → ℕ

@@ -1,17 +1,18 @@
 //! Texts that are cut off at a limit.
 
-ghost use Rattle.std.specs.Prelude.{◌≡◌, ◌≤◌, length, OnOk};
+ghost use Rattle.std.specs.Prelude.{◌≡◌, ◌≤◌, length, OnErr, OnOk};
 ghost use Rattle.std.specs.Fmt.{decimal};
-ghost use Rattle.pdb_types.specs.Cuts.{IsCut};
+ghost use Rattle.pdb_types.specs.Cuts.{IsCut, IsKept};
 
 use pdb_text::put_decimal;
 use std::alloc::AllocError;
 
 // As much of a text as there is capacity for, behind what is there.
-#[tactic(auto, using(crate::proofs::CutLemmas::put_all, crate::proofs::CutLemmas::put_some))]
+#[tactic(auto, using(crate::proofs::CutLemmas::put_all, crate::proofs::CutLemmas::put_some, crate::proofs::CutLemmas::kept_same))]
 pub(crate) fn put(out: &mut Vec<u8>, limit: usize, text: &[u8]) -> Result<(), AllocError>
     requires { length out.old.items ≤ limit }
-    ensures { OnOk result (IsCut limit out.old.items text.now out.new.items) }
+    ensures ok { OnOk result (IsCut limit out.old.items text.now out.new.items) }
+    ensures err { OnErr result (IsKept out.old.items out.new.items) }
 {
     let room = limit - out.len();
     if text.len() <= room {
@@ -22,10 +23,11 @@ pub(crate) fn put(out: &mut Vec<u8>, limit: usize, text: &[u8]) -> Result<(), Al
 }
 
 // As many decimal digits of a number as there is capacity for.
-#[tactic(auto, using(crate::proofs::CutLemmas::truncated))]
+#[tactic(auto, using(crate::proofs::CutLemmas::truncated, crate::proofs::CutLemmas::kept_front_put))]
 pub(crate) fn put_number(out: &mut Vec<u8>, limit: usize, number: u64) -> Result<(), AllocError>
     requires { length out.old.items ≤ limit }
-    ensures { OnOk result (IsCut limit out.old.items (decimal number) out.new.items) }
+    ensures ok { OnOk result (IsCut limit out.old.items (decimal number) out.new.items) }
+    ensures err { OnErr result (IsKept out.old.items out.new.items) }
 {
     put_decimal(out, number)?;
     out.truncate(limit);

@@ -1,7 +1,7 @@
 //! Declarations of names with types, as far as they go.
 
-ghost use Rattle.std.specs.Prelude.{◌≡◌, ◌≤◌, ◌++◌, drop, length, OnOk};
-ghost use Rattle.pdb_types.specs.Cuts.{IsCut};
+ghost use Rattle.std.specs.Prelude.{◌≡◌, ◌≤◌, ◌++◌, drop, length, OnErr, OnOk};
+ghost use Rattle.pdb_types.specs.Cuts.{IsCut, IsKept};
 ghost use Rattle.pdb_types.specs.FullTypes.{first_definition};
 ghost use Rattle.pdb_types.specs.TypeTexts.{parts};
 ghost use Rattle.pdb_types.specs.Declarations.{blank_behind, declared_in, shown_declaration};
@@ -32,7 +32,7 @@ fn blank_behind(front: &[u8]) -> &'static [u8]
 }
 
 // A front, and what stands between it and a name.
-#[tactic(auto, using(crate::proofs::DeclarationSteps::front_then))]
+#[tactic(auto, using(crate::proofs::CutLemmas::kept_then, crate::proofs::CutLemmas::on_kept, crate::proofs::DeclarationSteps::front_then))]
 fn put_front_and_blank(
     types: &ItemFinder<'_>,
     definitions: &TypeDefinitions<'_>,
@@ -41,7 +41,8 @@ fn put_front_and_blank(
     index: u32,
 ) -> Result<(), AllocError>
     requires { length out.old.items ≤ limit }
-    ensures { OnOk result (IsCut limit out.old.items ((parts types.now (first_definition definitions.now) 64 index).front ++ blank_behind (parts types.now (first_definition definitions.now) 64 index).front) out.new.items) }
+    ensures ok { OnOk result (IsCut limit out.old.items ((parts types.now (first_definition definitions.now) 64 index).front ++ blank_behind (parts types.now (first_definition definitions.now) 64 index).front) out.new.items) }
+    ensures err { OnErr result (IsKept out.old.items out.new.items) }
 {
     let start = out.len();
     put_front(types, definitions, out, limit, index, DEPTH)?;
@@ -50,7 +51,7 @@ fn put_front_and_blank(
 }
 
 // A declaration, as far as a limit goes.
-#[tactic(auto, using(crate::proofs::DeclarationSteps::declared_parts))]
+#[tactic(auto, using(crate::proofs::CutLemmas::kept_then, crate::proofs::CutLemmas::on_kept, crate::proofs::DeclarationSteps::declared_parts))]
 fn put_declared(
     types: &ItemFinder<'_>,
     definitions: &TypeDefinitions<'_>,
@@ -60,7 +61,8 @@ fn put_declared(
     name: &[u8],
 ) -> Result<(), AllocError>
     requires { length out.old.items ≤ limit }
-    ensures { OnOk result (IsCut limit out.old.items (declared_in name.now (parts types.now (first_definition definitions.now) 64 index)) out.new.items) }
+    ensures ok { OnOk result (IsCut limit out.old.items (declared_in name.now (parts types.now (first_definition definitions.now) 64 index)) out.new.items) }
+    ensures err { OnErr result (IsKept out.old.items out.new.items) }
 {
     put_front_and_blank(types, definitions, out, limit, index)?;
     put(out, limit, name)?;
@@ -69,7 +71,7 @@ fn put_declared(
 
 /// Writes the declaration of a name with a type in C++, as `int (*name)(char)`, behind what the buffer holds. It has at
 /// most 65,536 bytes, the name among them; what is cut off shows as `<...>`, as in `put_name`.
-#[tactic(auto, unfolding(crate::specs::Declarations::shown_declaration), using(crate::proofs::CutLemmas::cut_short, crate::proofs::CutLemmas::cut_long))]
+#[tactic(auto, unfolding(crate::specs::Declarations::shown_declaration), using(crate::proofs::CutLemmas::cut_short, crate::proofs::CutLemmas::cut_long, crate::proofs::CutLemmas::kept_cut))]
 pub fn put_declaration(
     types: &ItemFinder<'_>,
     definitions: &TypeDefinitions<'_>,
@@ -77,7 +79,8 @@ pub fn put_declaration(
     index: TypeIndex,
     name: &[u8],
 ) -> Result<(), AllocError>
-    ensures { OnOk result (out.new.items ≡ out.old.items ++ shown_declaration types.now (first_definition definitions.now) index.0 name.now) }
+    ensures ok { OnOk result (out.new.items ≡ out.old.items ++ shown_declaration types.now (first_definition definitions.now) index.0 name.now) }
+    ensures err { OnErr result (IsKept out.old.items out.new.items) }
 {
     let start = out.len();
     put_declared(types, definitions, out, start + LENGTH + 1, index.0, name)?;

@@ -1,6 +1,6 @@
 //! The full definitions of types, which records that only declare a type stand for.
 
-ghost use Rattle.std.specs.Prelude.{◌≡◌, ◌++◌, ℕ, List, [], map, IfOk, OnOk};
+ghost use Rattle.std.specs.Prelude.{◌≡◌, ◌*◌, ◌≤◌, ◌++◌, ℕ, List, [], map, vec_capacity, vec_len, IfOk, OnOk};
 ghost use Rattle.std.specs.Option.{option_map, option_to_list};
 ghost use Rattle.std.specs.List.Sorted.{IsSortedBy};
 ghost use Rattle.std.specs.Ordering.{is_lt, nat_cmp};
@@ -12,6 +12,7 @@ ghost use Rattle.pdb_types.specs.FullTypes.{definition_of, definitions_among, fi
 ghost use Rattle.pdb_types.specs.TypeReading.{shown_tag, shown_type};
 ghost use Rattle.pdb_types.specs.DefinitionViews.{goes_before, key_list, shown_definition, type_number};
 
+use crate::rows::push_row;
 use crate::tags::Tag;
 use crate::type_data::TypeData;
 use pdb_base::{FallibleIterator, RawString, TypeIndex};
@@ -105,17 +106,20 @@ fn definition_of<'t>(item: &Item<'t>) -> Option<Definition<'t>>
 
 // One more item.
 fn add<'t>(rows: &mut Vec<Definition<'t>>, item: &Item<'t>) -> Result<(), AllocError>
-    ensures { OnOk result (map shown_definition rows.new.items ≡ map shown_definition rows.old.items ++ option_to_list (definition_of (item_of item.now))) }
+    requires { vec_capacity rows.old ≤ 2 * vec_len rows.old }
+    ensures added { OnOk result (map shown_definition rows.new.items ≡ map shown_definition rows.old.items ++ option_to_list (definition_of (item_of item.now))) }
+    ensures room { OnOk result (vec_capacity rows.new ≤ 2 * vec_len rows.new) }
 {
     if let Some(definition) = definition_of(item) {
-        rows.push(definition)?;
+        push_row(rows, definition)?;
     }
     Ok(())
 }
 
 // The definitions among the items that an iterator has left, up to its fault.
 fn rows_of<'t>(alloc: Global, mut items: ItemIter<'t>) -> Result<Vec<Definition<'t>>, AllocError>
-    ensures { IfOk result (λ rows. map shown_definition rows.items ≡ definitions_among (items_left items.entry).items) }
+    ensures all { IfOk result (λ rows. map shown_definition rows.items ≡ definitions_among (items_left items.entry).items) }
+    ensures room { IfOk result (λ rows. vec_capacity rows ≤ 2 * vec_len rows) }
 {
     let mut rows = Vec::new(alloc);
     loop {

@@ -3,10 +3,12 @@
 ghost use Rattle.std.specs.Prelude.{◌≡◌, ◌≤◌, ◌<◌, ◌+◌, ◌-◌, ◌*◌, ◌^◌, length, IfSome};
 ghost use Rattle.std.specs.Option.{option_map};
 ghost use Rattle.pdb_items.specs.Items.{item_with};
+ghost use Rattle.pdb_types.specs.ReadListViews.{lists_read};
 ghost use Rattle.pdb_types.specs.MemberLists.{list_bytes, members_of, some_list};
 
 use crate::member_readers::read_entry;
 use crate::members::Member;
+use crate::read_lists::ReadLists;
 use pdb_base::{Error, FallibleIterator, Result, Steps, TypeIndex};
 use pdb_items::ItemFinder;
 
@@ -35,7 +37,7 @@ pub(crate) fn list_bytes<'t>(types: &ItemFinder<'t>, index: u32) -> Option<&'t [
 }
 
 /// The members of a type, in the file's order. A list may go on with another one, which is read behind it. Behind 1,024
-/// lists `Member::More` stands for the members that aren't read.
+/// lists `Member::More` stands for the members that aren't read, and `Member::Endless` for a list that was read already.
 ///
 /// # Errors
 ///
@@ -50,10 +52,11 @@ pub struct MemberIter<'x, 't> {
     // The list with which it goes on, if it named one so far, and how many lists may still be read.
     list: Option<u32>,
     lists: u32,
+    read: ReadLists,
     steps: Steps,
     ghost inside: { at ≤ length bytes.now },
     ghost small: { length bytes.now < 65536 },
-    ghost few: { lists ≤ 1024 },
+    ghost few: { length (lists_read read) + lists ≡ 1024 },
     ghost counted: { steps.count + (lists * 65536 + (length bytes.now - at)) ≤ 1024 * 65536 },
 }
 
@@ -74,6 +77,7 @@ impl<'x, 't> MemberIter<'x, 't> {
             at: 0,
             list: some_list(list.0),
             lists: LISTS,
+            read: ReadLists::new(),
             steps: Steps::new(),
         }
     }
@@ -83,11 +87,10 @@ impl<'x, 't> MemberIter<'x, 't> {
     fn read(&mut self) -> Option<Result<Option<Member<'t>>>>
         requires { self.old.at < length self.old.bytes.now }
         ensures step { IsStep self.old self.new result }
-        ensures grows { members_steps self.old ≤ members_steps self.new }
+        ensures stepped { members_steps self.new ≡ members_steps self.old + 1 }
         ensures refused { IfSome result (λ answer. IfErr answer (λ e. (e ≢ OutOfMemory) × (e ≢ IoError))) }
     {
-        self.steps.tick();
-        match read_entry(self.bytes, self.at) {
+        match read_entry(self.bytes, self.at, &mut self.steps) {
             Ok(found) => {
                 self.at = found.end;
                 self.list = found.entry.named_behind(self.list);
@@ -114,11 +117,15 @@ impl<'x, 't> MemberIter<'x, 't> {
         ensures refused { IfSome result (λ answer. IfErr answer (λ e. (e ≢ OutOfMemory) × (e ≢ IoError))) }
     {
         self.list = None;
+        if self.read.has(list) {
+            return Some(Ok(Some(Member::Endless)));
+        }
         if self.lists == 0 {
             return Some(Ok(Some(Member::More)));
         }
         self.steps.tick();
         self.lists -= 1;
+        self.read.add(list);
         match list_bytes(self.types, list) {
             Some(bytes) => {
                 self.bytes = bytes;

@@ -1,6 +1,6 @@
 //! How the entries of lists of members are read.
 
-ghost use Rattle.std.specs.Prelude.{◌≡◌, ◌≤◌, ◌<◌, length, IfOk};
+ghost use Rattle.std.specs.Prelude.{◌≡◌, ◌+◌, ◌≤◌, ◌<◌, length, IfOk};
 ghost use Rattle.std.specs.Option.{option_map};
 ghost use Rattle.pdb_base.specs.Cursor.{Reads};
 ghost use Rattle.pdb_base.specs.Refusal.{Answers};
@@ -14,7 +14,7 @@ ghost use Rattle.pdb_types.specs.MemberViews.{shown_entry, shown_found, shown_me
 use crate::members::{FieldAttributes, Member};
 use crate::readers::parse_type_index;
 use pdb_base::little_endian::u8_at;
-use pdb_base::{Error, Feature, ParseBuffer, Result, TypeIndex, Variant};
+use pdb_base::{Error, Feature, ParseBuffer, Result, Steps, TypeIndex, Variant};
 
 // An entry of a list: a member, or the list with which the list goes on.
 #[derive(Clone, Copy)]
@@ -332,12 +332,14 @@ fn padding_at(bytes: &[u8], at: usize) -> usize
     }
 }
 
-// The entry at an offset, and the padding behind it.
+// The entry at an offset, and the padding behind it. To read an entry is one step.
 #[tactic(auto, unfolding(crate::specs::MemberRows::entry_at))]
-pub(crate) fn read_entry<'t>(bytes: &'t [u8], at: usize) -> Result<Found<'t>>
+pub(crate) fn read_entry<'t>(bytes: &'t [u8], at: usize, steps: &mut Steps) -> Result<Found<'t>>
     requires { at ≤ length bytes.now }
-    ensures { Answers shown_found result (entry_at bytes.entry.now at) }
+    ensures reads { Answers shown_found result (entry_at bytes.entry.now at) }
+    ensures stepped { steps.new.count ≡ steps.old.count + 1 }
 {
+    steps.tick();
     let mut buffer = ParseBuffer::from(bytes);
     buffer.seek(at);
     let kind = buffer.parse_u16()?;

@@ -163,4 +163,7 @@ pub enum Member<'t> {
     },
     /// More than 1,024 lists go on in one another: the members of the others aren't read. Nothing follows.
     More,
+    /// An error of the file: the list of members continues in itself. It leads to a list that was read for these
+    /// members already, which isn't read again. Nothing follows.
+    Endless,
 }

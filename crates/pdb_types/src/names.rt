@@ -1,9 +1,9 @@
 //! The names of types.
 
-ghost use Rattle.std.specs.Prelude.{◌≡◌, ◌++◌, ◌≤◌, codes, length, not, OnOk};
+ghost use Rattle.std.specs.Prelude.{◌≡◌, ◌++◌, ◌≤◌, codes, length, not, OnErr, OnOk};
 ghost use Rattle.std.specs.Fmt.{decimal};
 ghost use Rattle.std.specs.Option.{option_map};
-ghost use Rattle.pdb_types.specs.Cuts.{IsCut};
+ghost use Rattle.pdb_types.specs.Cuts.{IsCut, IsKept};
 ghost use Rattle.pdb_types.specs.FullTypes.{first_definition, size_of};
 ghost use Rattle.pdb_types.specs.TypeFlags.{pointer_qualifiers};
 ghost use Rattle.pdb_types.specs.TypeReading.{arguments_of, shown_type};
@@ -26,7 +26,7 @@ use std::alloc::AllocError;
 
 // A star of a pointer to a member of a class.
 #[cycle(pieces)]
-#[tactic(auto, using(crate::proofs::CutLemmas::cut_three))]
+#[tactic(auto, using(crate::proofs::CutLemmas::kept_then, crate::proofs::CutLemmas::on_kept, crate::proofs::CutLemmas::cut_three))]
 fn put_member_mark(
     types: &ItemFinder<'_>,
     full: &TypeDefinitions<'_>,
@@ -37,7 +37,8 @@ fn put_member_mark(
     depth: u32,
 ) -> Result<(), AllocError>
     requires { length out.old.items ≤ limit }
-    ensures { OnOk result (IsCut limit out.old.items (member_gap shape ++ (name_in (parts types.now (first_definition full.now) depth class) ++ codes "::*")) out.new.items) }
+    ensures ok { OnOk result (IsCut limit out.old.items (member_gap shape ++ (name_in (parts types.now (first_definition full.now) depth class) ++ codes "::*")) out.new.items) }
+    ensures err { OnErr result (IsKept out.old.items out.new.items) }
 {
     put_member_gap(out, limit, shape)?;
     put_name_at(types, full, out, limit, class, depth)?;
@@ -56,7 +57,8 @@ fn put_star(
     depth: u32,
 ) -> Result<(), AllocError>
     requires { length out.old.items ≤ limit }
-    ensures { OnOk result (IsCut limit out.old.items (star (λ j. name_in (parts types.now (first_definition full.now) depth j)) shape mode) out.new.items) }
+    ensures ok { OnOk result (IsCut limit out.old.items (star (λ j. name_in (parts types.now (first_definition full.now) depth j)) shape mode) out.new.items) }
+    ensures err { OnErr result (IsKept out.old.items out.new.items) }
 {
     match mode {
         PointerMode::Pointer => put_mark(out, limit, shape, b"*"),
@@ -70,7 +72,7 @@ fn put_star(
 
 // The front of a pointer.
 #[cycle(pieces)]
-#[tactic(auto, using(crate::proofs::CutLemmas::cut_three))]
+#[tactic(auto, using(crate::proofs::CutLemmas::kept_then, crate::proofs::CutLemmas::on_kept, crate::proofs::CutLemmas::cut_three))]
 fn put_pointer_front(
     types: &ItemFinder<'_>,
     full: &TypeDefinitions<'_>,
@@ -80,7 +82,8 @@ fn put_pointer_front(
     depth: u32,
 ) -> Result<(), AllocError>
     requires { length out.old.items ≤ limit }
-    ensures { OnOk result (IsCut limit out.old.items ((pointed (λ j. name_in (parts types.now (first_definition full.now) depth j)) pointer.mode (pointer_qualifiers pointer.attributes.0) (parts types.now (first_definition full.now) depth pointer.referent.0)).front) out.new.items) }
+    ensures ok { OnOk result (IsCut limit out.old.items ((pointed (λ j. name_in (parts types.now (first_definition full.now) depth j)) pointer.mode (pointer_qualifiers pointer.attributes.0) (parts types.now (first_definition full.now) depth pointer.referent.0)).front) out.new.items) }
+    ensures err { OnErr result (IsKept out.old.items out.new.items) }
 {
     put_front(types, full, out, limit, pointer.referent.0, depth)?;
     let shape = shape_of(types, pointer.referent.0, depth);
@@ -88,9 +91,9 @@ fn put_pointer_front(
     put_words_behind(out, limit, pointer.attributes.qualifiers())
 }
 
-// The front of a type with qualifiers.
+// The front of a type with qualifiers. Which side they stand on is asked only where there is one.
 #[cycle(pieces)]
-#[tactic(auto, using(crate::proofs::CutLemmas::cut_then))]
+#[tactic(auto, using(crate::proofs::CutLemmas::kept_then, crate::proofs::CutLemmas::on_kept, crate::proofs::CutLemmas::cut_then, crate::proofs::NameSteps::without_words))]
 fn put_modifier_front(
     types: &ItemFinder<'_>,
     full: &TypeDefinitions<'_>,
@@ -100,8 +103,12 @@ fn put_modifier_front(
     depth: u32,
 ) -> Result<(), AllocError>
     requires { length out.old.items ≤ limit }
-    ensures { OnOk result (IsCut limit out.old.items ((modified modifier.qualifiers (parts types.now (first_definition full.now) depth modifier.underlying.0)).front) out.new.items) }
+    ensures ok { OnOk result (IsCut limit out.old.items ((modified modifier.qualifiers (parts types.now (first_definition full.now) depth modifier.underlying.0)).front) out.new.items) }
+    ensures err { OnErr result (IsKept out.old.items out.new.items) }
 {
+    if modifier.qualifiers.is_empty() {
+        return put_front(types, full, out, limit, modifier.underlying.0, depth);
+    }
     if is_right(types, modifier.underlying.0, depth) {
         put_front(types, full, out, limit, modifier.underlying.0, depth)?;
         put_words_behind(out, limit, modifier.qualifiers)
@@ -122,7 +129,8 @@ fn put_front_by(
     depth: u32,
 ) -> Result<(), AllocError>
     requires { length out.old.items ≤ limit }
-    ensures { OnOk result (IsCut limit out.old.items ((parts_of types.now (first_definition full.now) depth (parts types.now (first_definition full.now) depth) (option_map shown_type says.entry)).front) out.new.items) }
+    ensures ok { OnOk result (IsCut limit out.old.items ((parts_of types.now (first_definition full.now) depth (parts types.now (first_definition full.now) depth) (option_map shown_type says.entry)).front) out.new.items) }
+    ensures err { OnErr result (IsKept out.old.items out.new.items) }
 {
     match says {
         None => put(out, limit, b"??"),
@@ -158,7 +166,8 @@ pub(crate) fn put_front(
     depth: u32,
 ) -> Result<(), AllocError>
     requires { length out.old.items ≤ limit }
-    ensures { OnOk result (IsCut limit out.old.items ((parts types.now (first_definition full.now) depth index).front) out.new.items) }
+    ensures ok { OnOk result (IsCut limit out.old.items ((parts types.now (first_definition full.now) depth index).front) out.new.items) }
+    ensures err { OnErr result (IsKept out.old.items out.new.items) }
 {
     if index < 0x1000 {
         return put_simple(out, limit, index);
@@ -175,7 +184,7 @@ pub(crate) fn put_front(
 
 // The back of a pointer.
 #[cycle(pieces)]
-#[tactic(auto, using(crate::proofs::CutLemmas::cut_then, crate::proofs::CutLemmas::cut_none))]
+#[tactic(auto, using(crate::proofs::CutLemmas::kept_then, crate::proofs::CutLemmas::on_kept, crate::proofs::CutLemmas::cut_then, crate::proofs::CutLemmas::cut_none))]
 fn put_pointer_back(
     types: &ItemFinder<'_>,
     full: &TypeDefinitions<'_>,
@@ -185,7 +194,8 @@ fn put_pointer_back(
     depth: u32,
 ) -> Result<(), AllocError>
     requires { length out.old.items ≤ limit }
-    ensures { OnOk result (IsCut limit out.old.items (where_so (not (is_plain (parts types.now (first_definition full.now) depth referent).shape)) (codes ")") ++ (parts types.now (first_definition full.now) depth referent).back) out.new.items) }
+    ensures ok { OnOk result (IsCut limit out.old.items (where_so (not (is_plain (parts types.now (first_definition full.now) depth referent).shape)) (codes ")") ++ (parts types.now (first_definition full.now) depth referent).back) out.new.items) }
+    ensures err { OnErr result (IsKept out.old.items out.new.items) }
 {
     if !shape_of(types, referent, depth).is_plain() {
         put(out, limit, b")")?;
@@ -195,7 +205,7 @@ fn put_pointer_back(
 
 // The back of an array.
 #[cycle(pieces)]
-#[tactic(auto, using(crate::proofs::CutLemmas::cut_four))]
+#[tactic(auto, using(crate::proofs::CutLemmas::kept_then, crate::proofs::CutLemmas::on_kept, crate::proofs::CutLemmas::cut_four))]
 fn put_array_back(
     types: &ItemFinder<'_>,
     full: &TypeDefinitions<'_>,
@@ -205,7 +215,8 @@ fn put_array_back(
     depth: u32,
 ) -> Result<(), AllocError>
     requires { length out.old.items ≤ limit }
-    ensures { OnOk result (IsCut limit out.old.items (codes "[" ++ (count_text (small array.size) (small_size (size_of types.now (first_definition full.now) array.element.0)) ++ (codes "]" ++ (parts types.now (first_definition full.now) depth array.element.0).back))) out.new.items) }
+    ensures ok { OnOk result (IsCut limit out.old.items (codes "[" ++ (count_text (small array.size) (small_size (size_of types.now (first_definition full.now) array.element.0)) ++ (codes "]" ++ (parts types.now (first_definition full.now) depth array.element.0).back))) out.new.items) }
+    ensures err { OnErr result (IsKept out.old.items out.new.items) }
 {
     put(out, limit, b"[")?;
     put_count(out, limit, array.size, full.size(types, array.element))?;
@@ -215,7 +226,7 @@ fn put_array_back(
 
 // The back of the type of a bit field.
 #[cycle(pieces)]
-#[tactic(auto, using(crate::proofs::CutLemmas::cut_three))]
+#[tactic(auto, using(crate::proofs::CutLemmas::kept_then, crate::proofs::CutLemmas::on_kept, crate::proofs::CutLemmas::cut_three))]
 fn put_bits_back(
     types: &ItemFinder<'_>,
     full: &TypeDefinitions<'_>,
@@ -225,7 +236,8 @@ fn put_bits_back(
     depth: u32,
 ) -> Result<(), AllocError>
     requires { length out.old.items ≤ limit }
-    ensures { OnOk result (IsCut limit out.old.items ((parts types.now (first_definition full.now) depth bits.underlying.0).back ++ (codes " : " ++ decimal bits.len)) out.new.items) }
+    ensures ok { OnOk result (IsCut limit out.old.items ((parts types.now (first_definition full.now) depth bits.underlying.0).back ++ (codes " : " ++ decimal bits.len)) out.new.items) }
+    ensures err { OnErr result (IsKept out.old.items out.new.items) }
 {
     put_back(types, full, out, limit, bits.underlying.0, depth)?;
     put(out, limit, b" : ")?;
@@ -234,7 +246,7 @@ fn put_bits_back(
 
 // The back of a function.
 #[cycle(pieces)]
-#[tactic(auto, using(crate::proofs::CutLemmas::cut_then))]
+#[tactic(auto, using(crate::proofs::CutLemmas::kept_then, crate::proofs::CutLemmas::on_kept, crate::proofs::CutLemmas::cut_then))]
 fn put_procedure_back(
     types: &ItemFinder<'_>,
     full: &TypeDefinitions<'_>,
@@ -244,7 +256,8 @@ fn put_procedure_back(
     depth: u32,
 ) -> Result<(), AllocError>
     requires { length out.old.items ≤ limit }
-    ensures { OnOk result (IsCut limit out.old.items (arguments_text types.now depth (parts types.now (first_definition full.now) depth) procedure.argument_list.0 ++ (parts types.now (first_definition full.now) depth procedure.return_type.0).back) out.new.items) }
+    ensures ok { OnOk result (IsCut limit out.old.items (arguments_text types.now depth (parts types.now (first_definition full.now) depth) procedure.argument_list.0 ++ (parts types.now (first_definition full.now) depth procedure.return_type.0).back) out.new.items) }
+    ensures err { OnErr result (IsKept out.old.items out.new.items) }
 {
     put_arguments(types, full, out, limit, procedure.argument_list.0, depth)?;
     put_back(types, full, out, limit, procedure.return_type.0, depth)
@@ -252,7 +265,7 @@ fn put_procedure_back(
 
 // The back of a member function.
 #[cycle(pieces)]
-#[tactic(auto, using(crate::proofs::CutLemmas::cut_then))]
+#[tactic(auto, using(crate::proofs::CutLemmas::kept_then, crate::proofs::CutLemmas::on_kept, crate::proofs::CutLemmas::cut_then))]
 fn put_method_back(
     types: &ItemFinder<'_>,
     full: &TypeDefinitions<'_>,
@@ -262,7 +275,8 @@ fn put_method_back(
     depth: u32,
 ) -> Result<(), AllocError>
     requires { length out.old.items ≤ limit }
-    ensures { OnOk result (IsCut limit out.old.items ((arguments_text types.now depth (parts types.now (first_definition full.now) depth) method.argument_list.0 ++ object_text types.now method.this_type.0) ++ (parts types.now (first_definition full.now) depth method.return_type.0).back) out.new.items) }
+    ensures ok { OnOk result (IsCut limit out.old.items ((arguments_text types.now depth (parts types.now (first_definition full.now) depth) method.argument_list.0 ++ object_text types.now method.this_type.0) ++ (parts types.now (first_definition full.now) depth method.return_type.0).back) out.new.items) }
+    ensures err { OnErr result (IsKept out.old.items out.new.items) }
 {
     put_arguments(types, full, out, limit, method.argument_list.0, depth)?;
     put_object(types, out, limit, method.this_type.0)?;
@@ -281,7 +295,8 @@ fn put_back_by(
     depth: u32,
 ) -> Result<(), AllocError>
     requires { length out.old.items ≤ limit }
-    ensures { OnOk result (IsCut limit out.old.items ((parts_of types.now (first_definition full.now) depth (parts types.now (first_definition full.now) depth) (option_map shown_type says.entry)).back) out.new.items) }
+    ensures ok { OnOk result (IsCut limit out.old.items ((parts_of types.now (first_definition full.now) depth (parts types.now (first_definition full.now) depth) (option_map shown_type says.entry)).back) out.new.items) }
+    ensures err { OnErr result (IsKept out.old.items out.new.items) }
 {
     match says {
         Some(TypeData::Modifier(it)) => put_back(types, full, out, limit, it.underlying.0, depth),
@@ -313,7 +328,8 @@ pub(crate) fn put_back(
     depth: u32,
 ) -> Result<(), AllocError>
     requires { length out.old.items ≤ limit }
-    ensures { OnOk result (IsCut limit out.old.items ((parts types.now (first_definition full.now) depth index).back) out.new.items) }
+    ensures ok { OnOk result (IsCut limit out.old.items ((parts types.now (first_definition full.now) depth index).back) out.new.items) }
+    ensures err { OnErr result (IsKept out.old.items out.new.items) }
 {
     if index < 0x1000 || depth == 0 || out.len() >= limit {
         return Ok(());
@@ -333,7 +349,8 @@ fn put_arguments_by(
     depth: u32,
 ) -> Result<(), AllocError>
     requires { length out.old.items ≤ limit }
-    ensures { OnOk result (IsCut limit out.old.items (arguments_by (parts_of types.now (first_definition full.now) depth (parts types.now (first_definition full.now) depth) (option_map shown_type says.entry)).front (option_map shown_type says.entry)) out.new.items) }
+    ensures ok { OnOk result (IsCut limit out.old.items (arguments_by (parts_of types.now (first_definition full.now) depth (parts types.now (first_definition full.now) depth) (option_map shown_type says.entry)).front (option_map shown_type says.entry)) out.new.items) }
+    ensures err { OnErr result (IsKept out.old.items out.new.items) }
 {
     match says {
         Some(TypeData::ArgumentList(it)) => put_list(types, full, out, limit, &it, depth),
@@ -353,7 +370,8 @@ fn put_arguments(
     depth: u32,
 ) -> Result<(), AllocError>
     requires { length out.old.items ≤ limit }
-    ensures { OnOk result (IsCut limit out.old.items (arguments_text types.now depth (parts types.now (first_definition full.now) depth) index) out.new.items) }
+    ensures ok { OnOk result (IsCut limit out.old.items (arguments_text types.now depth (parts types.now (first_definition full.now) depth) index) out.new.items) }
+    ensures err { OnErr result (IsKept out.old.items out.new.items) }
 {
     if index < 0x1000 {
         return put(out, limit, b"(??)");
@@ -367,7 +385,7 @@ fn put_arguments(
 
 // The name of a type that says this.
 #[cycle(pieces)]
-#[tactic(auto, using(crate::proofs::CutLemmas::cut_then, crate::proofs::CutLemmas::cut_none))]
+#[tactic(auto, using(crate::proofs::CutLemmas::kept_then, crate::proofs::CutLemmas::on_kept, crate::proofs::CutLemmas::cut_then, crate::proofs::CutLemmas::cut_none))]
 fn put_name_by(
     types: &ItemFinder<'_>,
     full: &TypeDefinitions<'_>,
@@ -377,7 +395,8 @@ fn put_name_by(
     depth: u32,
 ) -> Result<(), AllocError>
     requires { length out.old.items ≤ limit }
-    ensures { OnOk result (IsCut limit out.old.items (name_in (parts_of types.now (first_definition full.now) depth (parts types.now (first_definition full.now) depth) (option_map shown_type says.entry))) out.new.items) }
+    ensures ok { OnOk result (IsCut limit out.old.items (name_in (parts_of types.now (first_definition full.now) depth (parts types.now (first_definition full.now) depth) (option_map shown_type says.entry))) out.new.items) }
+    ensures err { OnErr result (IsKept out.old.items out.new.items) }
 {
     put_front_by(types, full, out, limit, says, depth)?;
     if shape_by(types, says, depth).is_function() {
@@ -398,7 +417,8 @@ pub(crate) fn put_name_at(
     depth: u32,
 ) -> Result<(), AllocError>
     requires { length out.old.items ≤ limit }
-    ensures { OnOk result (IsCut limit out.old.items (name_in (parts types.now (first_definition full.now) depth index)) out.new.items) }
+    ensures ok { OnOk result (IsCut limit out.old.items (name_in (parts types.now (first_definition full.now) depth index)) out.new.items) }
+    ensures err { OnErr result (IsKept out.old.items out.new.items) }
 {
     if index < 0x1000 {
         return put_simple(out, limit, index);
@@ -424,7 +444,8 @@ fn put_last(
     depth: u32,
 ) -> Result<(), AllocError>
     requires { length out.old.items ≤ limit }
-    ensures { OnOk result (IsCut limit out.old.items (last_text (λ j. name_in (parts types.now (first_definition full.now) depth j)) argument) out.new.items) }
+    ensures ok { OnOk result (IsCut limit out.old.items (last_text (λ j. name_in (parts types.now (first_definition full.now) depth j)) argument) out.new.items) }
+    ensures err { OnErr result (IsKept out.old.items out.new.items) }
 {
     if argument.0 == 0 {
         put(out, limit, b"...")
@@ -435,6 +456,7 @@ fn put_last(
 
 // A list of arguments.
 #[cycle(pieces)]
+#[tactic(auto, using(crate::proofs::CutLemmas::kept_then, crate::proofs::CutLemmas::on_kept))]
 fn put_list(
     types: &ItemFinder<'_>,
     full: &TypeDefinitions<'_>,
@@ -444,7 +466,8 @@ fn put_list(
     depth: u32,
 ) -> Result<(), AllocError>
     requires { length out.old.items ≤ limit }
-    ensures { OnOk result (IsCut limit out.old.items (list_text (λ j. name_in (parts types.now (first_definition full.now) depth j)) (arguments_of arguments.now)) out.new.items) }
+    ensures ok { OnOk result (IsCut limit out.old.items (list_text (λ j. name_in (parts types.now (first_definition full.now) depth j)) (arguments_of arguments.now)) out.new.items) }
+    ensures err { OnErr result (IsKept out.old.items out.new.items) }
 {
     let count = arguments.len();
     if count == 0 {

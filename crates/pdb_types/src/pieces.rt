@@ -1,9 +1,9 @@
 //! Pieces of the names of types that refer to no other type's name.
 
-ghost use Rattle.std.specs.Prelude.{◌≡◌, ◌≤◌, ◌++◌, codes, length, OnOk};
+ghost use Rattle.std.specs.Prelude.{◌≡◌, ◌≤◌, ◌++◌, codes, length, OnErr, OnOk};
 ghost use Rattle.std.specs.Fmt.{decimal};
 ghost use Rattle.std.specs.Option.{option_map};
-ghost use Rattle.pdb_types.specs.Cuts.{IsCut};
+ghost use Rattle.pdb_types.specs.Cuts.{IsCut, IsKept};
 ghost use Rattle.pdb_types.specs.TypeReading.{shown_type};
 ghost use Rattle.pdb_types.specs.TypeTexts.{count_of, count_or, count_text, name_text, object_text, object_words, plain_before, plain_behind, rare_behind, reference_text, small, small_size, this_in, words_before, words_behind};
 ghost use Rattle.pdb_items.specs.Items.{item_with};
@@ -18,10 +18,11 @@ use pdb_items::ItemFinder;
 use std::alloc::AllocError;
 
 // `const` and `volatile`, each before a blank.
-#[tactic(auto, unfolding(crate::specs::TypeTexts::plain_before), using(crate::proofs::CutLemmas::cut_then, crate::proofs::CutLemmas::cut_none))]
+#[tactic(auto, unfolding(crate::specs::TypeTexts::plain_before), using(crate::proofs::CutLemmas::kept_then, crate::proofs::CutLemmas::on_kept, crate::proofs::CutLemmas::cut_then, crate::proofs::CutLemmas::cut_none))]
 fn put_plain_before(out: &mut Vec<u8>, limit: usize, words: Qualifiers) -> Result<(), AllocError>
     requires { length out.old.items ≤ limit }
-    ensures { OnOk result (IsCut limit out.old.items (plain_before words) out.new.items) }
+    ensures ok { OnOk result (IsCut limit out.old.items (plain_before words) out.new.items) }
+    ensures err { OnErr result (IsKept out.old.items out.new.items) }
 {
     if words.is_const {
         put(out, limit, b"const ")?;
@@ -33,14 +34,15 @@ fn put_plain_before(out: &mut Vec<u8>, limit: usize, words: Qualifiers) -> Resul
 }
 
 // Qualifiers, each before a blank.
-#[tactic(auto, using(crate::proofs::CutLemmas::cut_then, crate::proofs::CutLemmas::cut_none))]
+#[tactic(auto, using(crate::proofs::CutLemmas::kept_then, crate::proofs::CutLemmas::on_kept, crate::proofs::CutLemmas::cut_then, crate::proofs::CutLemmas::cut_none))]
 pub(crate) fn put_words_before(
     out: &mut Vec<u8>,
     limit: usize,
     words: Qualifiers,
 ) -> Result<(), AllocError>
     requires { length out.old.items ≤ limit }
-    ensures { OnOk result (IsCut limit out.old.items (words_before words) out.new.items) }
+    ensures ok { OnOk result (IsCut limit out.old.items (words_before words) out.new.items) }
+    ensures err { OnErr result (IsKept out.old.items out.new.items) }
 {
     put_plain_before(out, limit, words)?;
     if words.is_unaligned {
@@ -50,10 +52,11 @@ pub(crate) fn put_words_before(
 }
 
 // `const` and `volatile`, each behind a blank.
-#[tactic(auto, unfolding(crate::specs::TypeTexts::plain_behind), using(crate::proofs::CutLemmas::cut_then, crate::proofs::CutLemmas::cut_none))]
+#[tactic(auto, unfolding(crate::specs::TypeTexts::plain_behind), using(crate::proofs::CutLemmas::kept_then, crate::proofs::CutLemmas::on_kept, crate::proofs::CutLemmas::cut_then, crate::proofs::CutLemmas::cut_none))]
 fn put_plain_behind(out: &mut Vec<u8>, limit: usize, words: Qualifiers) -> Result<(), AllocError>
     requires { length out.old.items ≤ limit }
-    ensures { OnOk result (IsCut limit out.old.items (plain_behind words) out.new.items) }
+    ensures ok { OnOk result (IsCut limit out.old.items (plain_behind words) out.new.items) }
+    ensures err { OnErr result (IsKept out.old.items out.new.items) }
 {
     if words.is_const {
         put(out, limit, b" const")?;
@@ -65,10 +68,11 @@ fn put_plain_behind(out: &mut Vec<u8>, limit: usize, words: Qualifiers) -> Resul
 }
 
 // The other qualifiers, each behind a blank.
-#[tactic(auto, unfolding(crate::specs::TypeTexts::rare_behind), using(crate::proofs::CutLemmas::cut_then, crate::proofs::CutLemmas::cut_none))]
+#[tactic(auto, unfolding(crate::specs::TypeTexts::rare_behind), using(crate::proofs::CutLemmas::kept_then, crate::proofs::CutLemmas::on_kept, crate::proofs::CutLemmas::cut_then, crate::proofs::CutLemmas::cut_none))]
 fn put_rare_behind(out: &mut Vec<u8>, limit: usize, words: Qualifiers) -> Result<(), AllocError>
     requires { length out.old.items ≤ limit }
-    ensures { OnOk result (IsCut limit out.old.items (rare_behind words) out.new.items) }
+    ensures ok { OnOk result (IsCut limit out.old.items (rare_behind words) out.new.items) }
+    ensures err { OnErr result (IsKept out.old.items out.new.items) }
 {
     if words.is_unaligned {
         put(out, limit, b" __unaligned")?;
@@ -80,14 +84,15 @@ fn put_rare_behind(out: &mut Vec<u8>, limit: usize, words: Qualifiers) -> Result
 }
 
 // Qualifiers, each behind a blank.
-#[tactic(auto, using(crate::proofs::CutLemmas::cut_then, crate::proofs::CutLemmas::cut_none))]
+#[tactic(auto, using(crate::proofs::CutLemmas::kept_then, crate::proofs::CutLemmas::on_kept, crate::proofs::CutLemmas::cut_then, crate::proofs::CutLemmas::cut_none))]
 pub(crate) fn put_words_behind(
     out: &mut Vec<u8>,
     limit: usize,
     words: Qualifiers,
 ) -> Result<(), AllocError>
     requires { length out.old.items ≤ limit }
-    ensures { OnOk result (IsCut limit out.old.items (words_behind words) out.new.items) }
+    ensures ok { OnOk result (IsCut limit out.old.items (words_behind words) out.new.items) }
+    ensures err { OnErr result (IsKept out.old.items out.new.items) }
 {
     put_plain_behind(out, limit, words)?;
     put_rare_behind(out, limit, words)
@@ -100,7 +105,8 @@ pub(crate) fn put_record_name(
     name: &[u8],
 ) -> Result<(), AllocError>
     requires { length out.old.items ≤ limit }
-    ensures { OnOk result (IsCut limit out.old.items (name_text name.now) out.new.items) }
+    ensures ok { OnOk result (IsCut limit out.old.items (name_text name.now) out.new.items) }
+    ensures err { OnErr result (IsKept out.old.items out.new.items) }
 {
     if name.is_empty() {
         put(out, limit, b"??")
@@ -145,7 +151,8 @@ fn put_count_or(
     count: Option<u64>,
 ) -> Result<(), AllocError>
     requires { length out.old.items ≤ limit }
-    ensures { OnOk result (IsCut limit out.old.items (count_or size count) out.new.items) }
+    ensures ok { OnOk result (IsCut limit out.old.items (count_or size count) out.new.items) }
+    ensures err { OnErr result (IsKept out.old.items out.new.items) }
 {
     if let Some(count) = count {
         return put_number(out, limit, count);
@@ -164,7 +171,8 @@ pub(crate) fn put_count(
     element: Option<i128>,
 ) -> Result<(), AllocError>
     requires { length out.old.items ≤ limit }
-    ensures { OnOk result (IsCut limit out.old.items (count_text (small size) (small_size element)) out.new.items) }
+    ensures ok { OnOk result (IsCut limit out.old.items (count_text (small size) (small_size element)) out.new.items) }
+    ensures err { OnErr result (IsKept out.old.items out.new.items) }
 {
     let Some(size) = small(size) else {
         return put(out, limit, b"?");
@@ -174,9 +182,11 @@ pub(crate) fn put_count(
 }
 
 // The shape of a table of virtual functions.
+#[tactic(auto, using(crate::proofs::CutLemmas::kept_then, crate::proofs::CutLemmas::on_kept))]
 pub(crate) fn put_table(out: &mut Vec<u8>, limit: usize, methods: u16) -> Result<(), AllocError>
     requires { length out.old.items ≤ limit }
-    ensures { OnOk result (IsCut limit out.old.items (codes "<vftable " ++ (decimal methods ++ codes " methods>")) out.new.items) }
+    ensures ok { OnOk result (IsCut limit out.old.items (codes "<vftable " ++ (decimal methods ++ codes " methods>")) out.new.items) }
+    ensures err { OnErr result (IsKept out.old.items out.new.items) }
 {
     put(out, limit, b"<vftable ")?;
     put_number(out, limit, u64::from(methods))?;
@@ -204,7 +214,8 @@ fn put_object_words(
     says: Option<TypeData<'_>>,
 ) -> Result<(), AllocError>
     requires { length out.old.items ≤ limit }
-    ensures { OnOk result (IsCut limit out.old.items (object_words (option_map shown_type says.entry)) out.new.items) }
+    ensures ok { OnOk result (IsCut limit out.old.items (object_words (option_map shown_type says.entry)) out.new.items) }
+    ensures err { OnErr result (IsKept out.old.items out.new.items) }
 {
     match says {
         Some(TypeData::Modifier(modifier)) => put_plain_behind(out, limit, modifier.qualifiers),
@@ -220,7 +231,8 @@ fn put_reference(
     attributes: PointerAttributes,
 ) -> Result<(), AllocError>
     requires { length out.old.items ≤ limit }
-    ensures { OnOk result (IsCut limit out.old.items (reference_text attributes.0) out.new.items) }
+    ensures ok { OnOk result (IsCut limit out.old.items (reference_text attributes.0) out.new.items) }
+    ensures err { OnErr result (IsKept out.old.items out.new.items) }
 {
     if attributes.is_lvalue_this() {
         return put(out, limit, b" &");
@@ -232,7 +244,7 @@ fn put_reference(
 }
 
 // How a member function takes its object, by the type of `this`.
-#[tactic(auto, unfolding(crate::specs::TypeTexts::object_text), using(crate::proofs::CutLemmas::cut_then, crate::proofs::CutLemmas::cut_none))]
+#[tactic(auto, unfolding(crate::specs::TypeTexts::object_text), using(crate::proofs::CutLemmas::kept_then, crate::proofs::CutLemmas::on_kept, crate::proofs::CutLemmas::cut_then, crate::proofs::CutLemmas::cut_none))]
 pub(crate) fn put_object(
     types: &ItemFinder<'_>,
     out: &mut Vec<u8>,
@@ -240,7 +252,8 @@ pub(crate) fn put_object(
     index: u32,
 ) -> Result<(), AllocError>
     requires { length out.old.items ≤ limit }
-    ensures { OnOk result (IsCut limit out.old.items (object_text types.now index) out.new.items) }
+    ensures ok { OnOk result (IsCut limit out.old.items (object_text types.now index) out.new.items) }
+    ensures err { OnErr result (IsKept out.old.items out.new.items) }
 {
     let Some((object, attributes)) = this_of(types, index) else {
         return Ok(());

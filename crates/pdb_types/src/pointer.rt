@@ -1,7 +1,7 @@
 //! Qualifiers of types, and the attributes of pointers.
 
 ghost use Rattle.std.specs.Prelude.{◌≡◌};
-ghost use Rattle.pdb_types.specs.TypeFlags.{has, modifier_qualifiers, plain_pointer_size, pointer_qualifiers, pointer_size, stored_size};
+ghost use Rattle.pdb_types.specs.TypeFlags.{has, is_unqualified, modifier_qualifiers, plain_pointer_size, pointer_qualifiers, pointer_size, stored_size};
 
 use pdb_base::TypeIndex;
 
@@ -29,6 +29,13 @@ impl Qualifiers {
             is_unaligned: bits & 4 != 0,
             is_restrict: false,
         }
+    }
+
+    // Whether there is none.
+    pub(crate) fn is_empty(self) -> bool
+        ensures { result ≡ is_unqualified self }
+    {
+        !self.is_const && !self.is_volatile && !self.is_unaligned && !self.is_restrict
     }
 }
 

@@ -1,9 +1,9 @@
 //! What the names of types depend on beside their texts: whether a pointer needs parentheses, and where qualifiers
 //! stand.
 
-ghost use Rattle.std.specs.Prelude.{◌≡◌, ◌++◌, ◌≤◌, ℕ, List, Option, length, OnOk};
+ghost use Rattle.std.specs.Prelude.{◌≡◌, ◌++◌, ◌≤◌, ℕ, List, Option, length, OnErr, OnOk};
 ghost use Rattle.std.specs.Option.{option_map};
-ghost use Rattle.pdb_types.specs.Cuts.{IsCut};
+ghost use Rattle.pdb_types.specs.Cuts.{IsCut, IsKept};
 ghost use Rattle.pdb_types.specs.TypeReading.{shown_type};
 ghost use Rattle.pdb_types.specs.TypeTexts.{gap, is_function, is_plain, member_gap, parts, parts_of};
 
@@ -101,7 +101,8 @@ pub(crate) fn is_right(types: &ItemFinder<'_>, index: u32, depth: u32) -> bool
 #[tactic(auto, using(crate::proofs::CutLemmas::cut_none))]
 fn put_gap(out: &mut Vec<u8>, limit: usize, shape: Shape) -> Result<(), AllocError>
     requires { length out.old.items ≤ limit }
-    ensures { OnOk result (IsCut limit out.old.items (gap shape) out.new.items) }
+    ensures ok { OnOk result (IsCut limit out.old.items (gap shape) out.new.items) }
+    ensures err { OnErr result (IsKept out.old.items out.new.items) }
 {
     if shape.is_plain() {
         Ok(())
@@ -117,7 +118,8 @@ pub(crate) fn put_member_gap(
     shape: Shape,
 ) -> Result<(), AllocError>
     requires { length out.old.items ≤ limit }
-    ensures { OnOk result (IsCut limit out.old.items (member_gap shape) out.new.items) }
+    ensures ok { OnOk result (IsCut limit out.old.items (member_gap shape) out.new.items) }
+    ensures err { OnErr result (IsKept out.old.items out.new.items) }
 {
     if shape.is_plain() {
         put(out, limit, b" ")
@@ -127,7 +129,7 @@ pub(crate) fn put_member_gap(
 }
 
 // A star of a pointer or a reference.
-#[tactic(auto, using(crate::proofs::CutLemmas::cut_then))]
+#[tactic(auto, using(crate::proofs::CutLemmas::kept_then, crate::proofs::CutLemmas::on_kept, crate::proofs::CutLemmas::cut_then))]
 pub(crate) fn put_mark(
     out: &mut Vec<u8>,
     limit: usize,
@@ -135,7 +137,8 @@ pub(crate) fn put_mark(
     mark: &[u8],
 ) -> Result<(), AllocError>
     requires { length out.old.items ≤ limit }
-    ensures { OnOk result (IsCut limit out.old.items (gap shape ++ mark.now) out.new.items) }
+    ensures ok { OnOk result (IsCut limit out.old.items (gap shape ++ mark.now) out.new.items) }
+    ensures err { OnErr result (IsKept out.old.items out.new.items) }
 {
     put_gap(out, limit, shape)?;
     put(out, limit, mark)

@@ -1,8 +1,8 @@
 //! Simple types: their names and sizes, by their indices. `cvinfo.h` has them as `TYPE_ENUM_e`.
 
-ghost use Rattle.std.specs.Prelude.{◌≡◌, ◌≤◌, ◌<◌, length, OnOk};
+ghost use Rattle.std.specs.Prelude.{◌≡◌, ◌≤◌, ◌<◌, length, OnErr, OnOk};
 ghost use Rattle.std.specs.Option.{option_map};
-ghost use Rattle.pdb_types.specs.Cuts.{IsCut};
+ghost use Rattle.pdb_types.specs.Cuts.{IsCut, IsKept};
 ghost use Rattle.pdb_types.specs.SimpleTypes.{is_simple_pointer, kind_in, kind_size, kind_text, mode_size, simple_kind, simple_rows_1, simple_rows_2, simple_rows_3, simple_size, simple_text};
 ghost use Rattle.pdb_types.specs.SimpleViews.{shown_kind};
 
@@ -115,6 +115,7 @@ fn simple_kind(kind: u32) -> Option<SimpleKind>
 }
 
 // The name of a type of this kind and mode.
+#[tactic(auto, using(crate::proofs::CutLemmas::kept_then, crate::proofs::CutLemmas::on_kept))]
 fn put_kind(
     out: &mut Vec<u8>,
     limit: usize,
@@ -122,7 +123,8 @@ fn put_kind(
     kind: Option<SimpleKind>,
 ) -> Result<(), AllocError>
     requires { length out.old.items ≤ limit }
-    ensures { OnOk result (IsCut limit out.old.items (kind_text mode (option_map shown_kind kind)) out.new.items) }
+    ensures ok { OnOk result (IsCut limit out.old.items (kind_text mode (option_map shown_kind kind)) out.new.items) }
+    ensures err { OnErr result (IsKept out.old.items out.new.items) }
 {
     let Some(kind) = kind else {
         return put(out, limit, b"??");
@@ -141,7 +143,8 @@ fn put_kind(
 #[tactic(auto, unfolding(crate::specs::SimpleTypes::simple_text))]
 pub(crate) fn put_simple(out: &mut Vec<u8>, limit: usize, index: u32) -> Result<(), AllocError>
     requires { length out.old.items ≤ limit }
-    ensures { OnOk result (IsCut limit out.old.items (simple_text index) out.new.items) }
+    ensures ok { OnOk result (IsCut limit out.old.items (simple_text index) out.new.items) }
+    ensures err { OnErr result (IsKept out.old.items out.new.items) }
 {
     match index {
         0 => put(out, limit, b"<no type>"),

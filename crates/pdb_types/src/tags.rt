@@ -17,7 +17,7 @@ use pdb_base::{ParseBuffer, RawString, Result, TypeIndex};
 
 /// What a class, a union and an enumeration have in common: the property `CV_prop_t` of `cvinfo.h`, the members and
 /// the names.
-#[derive(Clone, Copy, Debug, Eq, PartialEq)]
+#[derive(Clone, Copy, Debug)]
 pub struct Tag<'t> {
     /// The record only declares the type: its members and its size are those of another record.
     pub is_forward: bool,
@@ -28,6 +28,32 @@ pub struct Tag<'t> {
     /// The name, as in the program's text.
     pub name: RawString<'t>,
     behind: &'t [u8],
+}
+
+/// Tags are equal where all fields and the unique names are. What stands behind a name and is no unique name says nothing.
+impl PartialEq for Tag<'_> {
+    ghost use Rattle.std.specs.Cmp.Rules.{comparing};
+    ghost use Rattle.std.proofs.Common.{rules};
+    ghost use Rattle.pdb_types.specs.TagViews.{same_tag};
+
+    ghost eq = { same_tag };
+
+    ghost laws = { Prim.search (comparing, rules) depth 9 };
+
+    fn eq(&self, other: &Self) -> bool {
+        self.is_forward == other.is_forward
+            && self.has_unique_name == other.has_unique_name
+            && self.fields == other.fields
+            && self.name == other.name
+            && self.unique_name() == other.unique_name()
+    }
+}
+
+impl Eq for Tag<'_> {
+    ghost use Rattle.std.specs.Cmp.Rules.{comparing};
+    ghost use Rattle.std.proofs.Common.{rules};
+
+    ghost laws = { Prim.search (comparing, rules) depth 9 };
 }
 
 impl<'t> Tag<'t> {

@@ -1,6 +1,7 @@
 //! The name of a type, as far as it goes.
 
-ghost use Rattle.std.specs.Prelude.{◌≡◌, ◌++◌, OnOk};
+ghost use Rattle.std.specs.Prelude.{◌≡◌, ◌++◌, OnErr, OnOk};
+ghost use Rattle.pdb_types.specs.Cuts.{IsKept};
 ghost use Rattle.pdb_types.specs.FullTypes.{first_definition};
 ghost use Rattle.pdb_types.specs.TypeTexts.{shown_name};
 
@@ -19,14 +20,15 @@ const LENGTH: usize = 65_536;
 /// Writes the name of a type in C++, as `int (*[2])(char)`, behind what the buffer holds. A name has at most 65,536
 /// bytes, and types that refer to one another are followed 64 deep; what is cut off there shows as `<...>`. What has no
 /// name shows as `??`.
-#[tactic(auto, unfolding(crate::specs::TypeTexts::shown_name), using(crate::proofs::CutLemmas::cut_short, crate::proofs::CutLemmas::cut_long))]
+#[tactic(auto, unfolding(crate::specs::TypeTexts::shown_name), using(crate::proofs::CutLemmas::cut_short, crate::proofs::CutLemmas::cut_long, crate::proofs::CutLemmas::kept_cut))]
 pub fn put_name(
     types: &ItemFinder<'_>,
     definitions: &TypeDefinitions<'_>,
     out: &mut Vec<u8>,
     index: TypeIndex,
 ) -> Result<(), AllocError>
-    ensures { OnOk result (out.new.items ≡ out.old.items ++ shown_name types.now (first_definition definitions.now) index.0) }
+    ensures ok { OnOk result (out.new.items ≡ out.old.items ++ shown_name types.now (first_definition definitions.now) index.0) }
+    ensures err { OnErr result (IsKept out.old.items out.new.items) }
 {
     let start = out.len();
     put_name_at(types, definitions, out, start + LENGTH + 1, index.0, DEPTH)?;

@@ -273,14 +273,77 @@ fn a_list_goes_on_in_itself(rt: HostRuntime) -> Result<()> {
     let table = Member::VirtualTablePointer {
         table: TypeIndex(0x11),
     };
-    for _ in 0..1024 {
-        assert!(rt; members.next() == Ok(Some(table)));
-    }
-    is(&rt, "more", &members.next(), &Ok(Some(Member::More)));
+    is(&rt, "table", &members.next(), &Ok(Some(table)));
+    is(&rt, "endless", &members.next(), &Ok(Some(Member::Endless)));
     is(&rt, "end", &members.next(), &Ok(None));
     let mut none = MemberIter::new(&types, TypeIndex(0));
     is(&rt, "none", &none.next(), &Ok(None));
     Ok(())
+}
+
+/// Tables that lists have, and what stands behind them, of lists that go on in one another.
+fn goes_round(
+    rt: &impl Abort,
+    alloc: Global,
+    lists: &[(u8, u16)],
+    tables: &[u8],
+    last: Member<'_>,
+) -> Result<()> {
+    let mut records = Vec::new(alloc);
+    for (table, next) in lists {
+        let mut entry = Vec::new(alloc);
+        entry.extend_from_slice(b"\x09\x14\0\0")?;
+        entry.extend_from_slice(&u32::from(*table).to_le_bytes())?;
+        let mut goes_on = Vec::new(alloc);
+        goes_on.extend_from_slice(b"\x04\x14\0\0")?;
+        goes_on.extend_from_slice(&u32::from(*next).to_le_bytes())?;
+        records.push(list_of(alloc, &[entry.as_slice(), goes_on.as_slice()])?)?;
+    }
+    let mut slices = Vec::new(alloc);
+    for record in &records {
+        slices.push(record.as_slice())?;
+    }
+    let bytes = stream(alloc, slices.as_slice())?;
+    let types = ItemFinder::new(alloc, few(rt, &bytes))?;
+    let mut members = MemberIter::new(&types, TypeIndex(0x1000));
+    for number in tables {
+        let table = Member::VirtualTablePointer {
+            table: TypeIndex(u32::from(*number)),
+        };
+        is(rt, "table", &members.next(), &Ok(Some(table)));
+    }
+    is(rt, "last", &members.next(), &Ok(Some(last)));
+    is(rt, "end", &members.next(), &Ok(None));
+    is(rt, "end", &members.next(), &Ok(None));
+    Ok(())
+}
+
+#[test]
+fn lists_go_on_in_a_round(rt: HostRuntime) -> Result<()> {
+    let alloc = rt.alloc();
+    // The third goes on with the second.
+    let lists = [(7, 0x1002), (8, 0x1001), (9, 0x1003), (10, 0x1002)];
+    goes_round(&rt, alloc, &lists, &[7, 9, 10], Member::Endless)?;
+    let lists = [(7, 0x1001), (8, 0x1002), (9, 0x1001)];
+    goes_round(&rt, alloc, &lists, &[7, 8, 9], Member::Endless)
+}
+
+#[test]
+fn more_than_1024_lists(rt: HostRuntime) -> Result<()> {
+    let alloc = rt.alloc();
+    let mut lists = Vec::new(alloc);
+    for number in 1..1026 {
+        lists.push((1, 0x1000 + number))?;
+    }
+    let tables = [1; 1024];
+    goes_round(&rt, alloc, &lists, &tables, Member::More)?;
+    // The last of 1,024 goes on with the first.
+    let whole = lists.as_slice();
+    let (front, _) = whole.split_at(1023);
+    let mut round = Vec::new(alloc);
+    round.extend_from_slice(front)?;
+    round.push((1, 0x1000))?;
+    goes_round(&rt, alloc, &round, &tables, Member::Endless)
 }
 
 #[test]
@@ -407,6 +470,8 @@ fn faults_of_lists_that_many_types_have(rt: HostRuntime) -> Result<()> {
     let faults = MemberFaults::of_types(alloc, &types, ItemIter::new(few(&rt, &bytes))?)?;
     for (list, fault) in wanted {
         is(&rt, "fault", &faults.fault(TypeIndex(list)), &fault);
+        let endless = faults.is_endless(TypeIndex(list));
+        is(&rt, "endless", &endless, &(list == 0x1003));
     }
     // The items of another stream take time, and change nothing.
     let other = stream(alloc, &[class, &whole])?;

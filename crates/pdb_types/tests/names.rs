@@ -209,6 +209,32 @@ fn a_declaration_of_more_than_65536_bytes_is_cut_off(rt: HostRuntime) -> Result<
     Ok(())
 }
 
+/// Modifiers whose bits have no word, and one of `const` around them, with their names.
+const UNQUALIFIED: [(&[u8], &[u8]); 5] = [
+    (b"\x01\x10\x74\0\0\0\0\0\xf2\xf1", b"int"),
+    (b"\x01\x10\x70\x06\0\0\xf8\xff\xf2\xf1", b"char*"),
+    (b"\x01\x10\0\x10\0\0\0\0\xf2\xf1", b"int"),
+    (b"\x01\x10\x01\x10\0\0\x01\0\xf2\xf1", b"char* const"),
+    (b"\x01\x10\x02\x10\0\0\x04\0\xf2\xf1", b"__unaligned int"),
+];
+
+#[test]
+fn a_modifier_without_words_is_called_what_it_modifies(rt: HostRuntime) -> Result<()> {
+    let alloc = rt.alloc();
+    let mut records = Vec::new(alloc);
+    for (record, _) in UNQUALIFIED {
+        records.push(record)?;
+    }
+    let bytes = stream(alloc, records.as_slice())?;
+    let types = types_of(&rt, alloc, &bytes)?;
+    let mut index = 0x1000;
+    for (_, name) in UNQUALIFIED {
+        named(&rt, alloc, &types, index, name)?;
+        index += 1;
+    }
+    Ok(())
+}
+
 /// A structure of a size and a name, which is forward or not.
 fn structure(alloc: Global, forward: bool, size: u16, name: &[u8]) -> Result<Vec<u8>> {
     let mut record = Vec::new(alloc);
@@ -241,5 +267,56 @@ fn a_name_of_more_than_65536_bytes_is_cut_off(rt: HostRuntime) -> Result<()> {
     let mut out = Vec::new(alloc);
     put_name(&types.0, &types.1, &mut out, TypeIndex(0x1002))?;
     assert!(rt; out.len() == 65_541 && out.ends_with(b"x)<...>"));
+    Ok(())
+}
+
+/// Lists of two, each of the list before it twice; the first of `int`.
+fn nested_lists(alloc: Global, count: u32) -> Result<Vec<u8>> {
+    let mut records = Vec::new(alloc);
+    for k in 0..count {
+        let index = if k == 0 { 0x74 } else { 0x0fff + k };
+        let mut record = Vec::new(alloc);
+        record.extend_from_slice(b"\x01\x12\x02\0\0\0")?;
+        record.extend_from_slice(&u32::to_le_bytes(index))?;
+        record.extend_from_slice(&u32::to_le_bytes(index))?;
+        records.push(record)?;
+    }
+    let mut slices = Vec::new(alloc);
+    for record in &records {
+        slices.push(record.as_slice())?;
+    }
+    stream(alloc, slices.as_slice())
+}
+
+// The whole name would have 2^62 types.
+#[test]
+fn nested_lists_are_left_where_the_name_is_full(rt: HostRuntime) -> Result<()> {
+    let alloc = rt.alloc();
+    let bytes = nested_lists(alloc, 62)?;
+    let types = types_of(&rt, alloc, &bytes)?;
+    // The name of the 14th list has 114,684 bytes.
+    let mut text = Vec::new(alloc);
+    text.extend_from_slice(b"(int, int)")?;
+    for _ in 1..14 {
+        let mut next = Vec::new(alloc);
+        next.push(b'(')?;
+        next.extend_from_slice(&text)?;
+        next.extend_from_slice(b", ")?;
+        next.extend_from_slice(&text)?;
+        next.push(b')')?;
+        text = next;
+    }
+    assert!(rt; text.len() == 114_684);
+    let mut wanted = Vec::new(alloc);
+    for _ in 14..62 {
+        wanted.push(b'(')?;
+    }
+    text.truncate(65_536 - 48);
+    wanted.extend_from_slice(&text)?;
+    wanted.extend_from_slice(b"<...>")?;
+    named(&rt, alloc, &types, 0x103d, &wanted)?;
+    let mut out = Vec::new(alloc);
+    put_declaration(&types.0, &types.1, &mut out, TypeIndex(0x103d), b"name")?;
+    assert!(rt; out.as_slice() == wanted.as_slice());
     Ok(())
 }

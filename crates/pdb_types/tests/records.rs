@@ -1,9 +1,10 @@
 //! What type records say.
 
 use super::is;
-use super::support::{first_item, stream};
+use super::support::{few, first_item, stream};
 use crate::*;
-use pdb_base::{Error, Result, TypeIndex};
+use pdb_base::{Error, FallibleIterator, Result, TypeIndex};
+use pdb_items::ItemIter;
 use std::alloc::Global;
 use std::process::Abort;
 
@@ -248,6 +249,47 @@ fn classes_and_unions(rt: HostRuntime) -> Result<()> {
         alloc,
         b"\x06\x15\x01\x02\0\0\x21\x22\x23\x24\x51\x52Un\0",
     )
+}
+
+#[test]
+fn tags_of_the_same_names_are_equal(rt: HostRuntime) -> Result<()> {
+    let alloc = rt.alloc();
+    // Two of each row say the same. The last three have no unique name: no flag, no zero byte behind it.
+    let rows: [(&[u8], &[u8]); 5] = [
+        (b"\x02Un\0.?AT\0", b"\x02Un\0.?AT\0\xf3\xf2\xf1"),
+        (b"\x02Un\0.?AU\0", b"\x02Un\0.?AU\0x\0"),
+        (b"\0Un\0.?AT\0", b"\0Un\0.?AU\0"),
+        (b"\0Um\0", b"\0Um\0\xf1"),
+        (b"\x02Un\0.?AT", b"\x02Un\0.?AU"),
+    ];
+    let mut records = Vec::new(alloc);
+    for (one, other) in rows {
+        for it in [one, other] {
+            let mut record = Vec::new(alloc);
+            record.extend_from_slice(b"\x06\x15\0\0\0")?;
+            record.push(it[0])?;
+            record.extend_from_slice(b"\0\x10\0\0\x08\0")?;
+            record.extend_from_slice(&it[1..])?;
+            records.push(record)?;
+        }
+    }
+    let mut slices = Vec::new(alloc);
+    for record in &records {
+        slices.push(record.as_slice())?;
+    }
+    let bytes = stream(alloc, slices.as_slice())?;
+    let mut items = ItemIter::new(few(&rt, &bytes))?;
+    let mut says = Vec::new(alloc);
+    while let Some(item) = items.next()? {
+        says.push(TypeData::parse(&item)?)?;
+    }
+    for i in 0..10 {
+        for k in 0..10 {
+            let same = says[i] == says[k];
+            assert!(rt; same == (i / 2 == k / 2), "{i} and {k}");
+        }
+    }
+    Ok(())
 }
 
 #[test]

@@ -14,7 +14,8 @@ use Rattle.pdb.specs.SymbolList.{Entry}
 use Rattle.pdb_resolve.specs.FileParts.{items_where}
 use Rattle.pdb_text.specs.Digits.{hex}
 use Rattle.pdb_types.specs.FullTypes.{says_of_item}
-use Rattle.tool_check.specs.Checks.{contributions_ended_in, ended_by, error_of, files_of_module, global_symbols_of_file, has_empty_dbi, ids_in, is_damage, is_said, items_ended_by, items_of, lines_of_module, members_ended_by, modules_of_file, refused}
+use Rattle.tool_check.specs.Checks.{contributions_ended_in, ended_by, error_of, files_of_module, global_symbols_of_file, ids_in, is_damage, is_said, items_ended_by, items_of, lines_of_module, members_ended_by, modules_of_file, refused}
+use Rattle.tool_output.specs.Absent.{lacks}
 use Rattle.tool_output.specs.FileNames.{names_in}
 use Rattle.tool_check.specs.Findings.{Subject, file_subject, line_of, module_subject, sound_in}
 use Rattle.tool_types.specs.TypeLines.{tag_said}
@@ -153,7 +154,7 @@ debug_parts_text subject file =
     ++ part_text subject AddressMap file
     ++ part_text subject FrameTable file
 
--- of the streams up to the frame table, by whether the DBI stream has no byte
+-- of the streams up to the frame table, by whether the DBI stream isn't there
 unfoldable pub streams_text : Bool → Subject → List ℕ → List ℕ
 streams_text is_empty subject file = first_text subject file ++ unless is_empty (debug_parts_text subject file)
 
@@ -163,7 +164,7 @@ tables_text is_empty subject file = part_text subject StringTable file ++ unless
 
 -- of all but the modules
 abbrev pub file_text : Subject → List ℕ → List ℕ
-file_text subject file = streams_text (has_empty_dbi file) subject file ++ tables_text (has_empty_dbi file) subject file
+file_text subject file = streams_text (lacks file 3) subject file ++ tables_text (lacks file 3) subject file
 
 -- all lines of what is wrong
 unfoldable pub findings_text : Form → List ℕ → List ℕ → List ℕ

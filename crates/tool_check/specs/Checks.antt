@@ -4,7 +4,7 @@ use Rattle.pdb.specs.Error.{Error}
 use Rattle.pdb.specs.Error.TheVariants.{StreamNotFound, StreamNameNotFound, GlobalSymbolsNotFound, UnimplementedSymbolKind, IoError, OutOfMemory}
 use Rattle.pdb.specs.Refusal.{◌>>=◌}
 use Rattle.pdb.specs.Left.{Left}
-use Rattle.pdb.specs.Answers.{address_map_in, debug_information_in, frame_table_in, global_symbols_in, information_in, raw_stream_in, sections_in, string_table_in}
+use Rattle.pdb.specs.Answers.{address_map_in, debug_information_in, frame_table_in, global_symbols_in, information_in, sections_in, string_table_in}
 use Rattle.pdb.specs.Contributions.{contributions_in}
 use Rattle.pdb.specs.Features.{has_ids_of}
 use Rattle.pdb.specs.Header.{header_of}
@@ -64,17 +64,6 @@ IsErrorOf io (Some e) error = error ≡ Some e
 
 unfoldable pub modules_of_file : List ℕ → Result (Left ModuleEntry) Error
 modules_of_file file = debug_information_in file >>= modules_in
-
--- whether a stream is there, and has no byte
-abbrev pub is_empty_stream : Result (Option (List ℕ)) Error → Bool
-is_empty_stream (Err e) = false
-is_empty_stream (Ok None) = false
-is_empty_stream (Ok (Some [])) = true
-is_empty_stream (Ok (Some (b ∷ bs))) = false
-
--- whether the DBI stream has no byte, as in files of types alone: nothing is read of it then
-unfoldable pub has_empty_dbi : List ℕ → Bool
-has_empty_dbi file = is_empty_stream (raw_stream_in file 3)
 
 -- whether the part with the contributions has no byte
 abbrev pub has_no_contributions : Result DBIHeader Error → Bool

@@ -15,6 +15,7 @@ use Rattle.pdb_symbols.specs.Data.{Data}
 use Rattle.pdb_symbols.specs.Data.Data.{ScopeEnd, ObjName, RegisterVariable, Constant, UserDefinedType, MultiRegisterVariable, DataItem, Public, Procedure, ThreadStorage, Compiler, UsingNamespace, ProcedureReference, DataReference, AnnotationReference, Trampoline, Export, Local, BuildInfo, InlineSite, InlineSiteEnd, ProcedureEnd, Label, Block, RegisterRelative, Thunk, SeparatedCode}
 use Rattle.pdb_records.specs.declared.machine.Machine.{Machine}
 use Rattle.pdb_text.specs.Digits.{hex}
+use Rattle.pdb_text.specs.OneLine.{one_line}
 use Rattle.tool_fields.specs.Flags.{procedure_flags, compile_flags, local_flags, export_flags, separated_code_flags}
 use Rattle.tool_fields.specs.Values.{place_text, optional_text}
 use Rattle.tool_fields.specs.ValueTexts.{bool_text, language_text, optional_index_text, processor_text, register_on, variant_text, version_text, trampoline_text, thunk_text, registers_text, bytes_text}
@@ -63,7 +64,7 @@ unfoldable pub compiled_fields : ℕ → CompileFlags → ℕ → List ℕ
 compiled_fields language flags processor = field (codes "language") (language_text language) ++ field (codes "flags") (compile_flags flags) ++ field (codes "cpu_type") (processor_text processor)
 
 unfoldable pub version_fields : CompilerVersion → CompilerVersion → List ℕ → List ℕ
-version_fields frontend backend version_string = field (codes "frontend_version") (version_text frontend) ++ field (codes "backend_version") (version_text backend) ++ field (codes "version_string") version_string
+version_fields frontend backend version_string = field (codes "frontend_version") (version_text frontend) ++ field (codes "backend_version") (version_text backend) ++ field (codes "version_string") (one_line version_string)
 
 -- ---- the fields of each layout, with registers by their names on a machine, and what the value leaves out from the record's bytes b
 

@@ -13,6 +13,7 @@ use Rattle.pdb_records.specs.declared.machine.Machine.{Machine}
 use Rattle.pdb_records.specs.declared.older.Discard.{Discard}
 use Rattle.pdb_records.specs.declared.older.Discard.TheVariants as discard
 use Rattle.pdb_records.specs.declared.shared.PointerTag.{PointerTag}
+use Rattle.pdb_text.specs.OneLine.{one_line}
 use Rattle.tool_fields.specs.Values.{place_text}
 use Rattle.tool_fields.specs.ValueTexts.{register_on}
 
@@ -36,9 +37,9 @@ gap_text gap = decimal gap.start ++ codes "+" ++ decimal gap.len
 abbrev pub tag_text : PointerTag → List ℕ
 tag_text tag = decimal tag.tag ++ codes ":" ++ signed_decimal tag.record_offset
 
--- a string, as it stands
+-- a string, on one line
 abbrev pub string_text : List ℕ → List ℕ
-string_text s = s
+string_text s = one_line s
 
 -- ---- single values
 

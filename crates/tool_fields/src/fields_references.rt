@@ -13,6 +13,7 @@ use crate::flags::{put_compile_flags, put_export_flags};
 use crate::module_machine::{byte_at_two, word_at_six};
 use crate::values_forms::{put_language, put_processor, put_version};
 use pdb::{CompileFlags, CompileFlagsSymbol, ExportSymbol, ProcedureReferenceSymbol, Symbol};
+use pdb_text::put_one_line;
 use std::alloc::AllocError;
 
 /// The fields of a reference to a procedure.
@@ -60,7 +61,7 @@ fn put_versions(out: &mut Vec<u8>, symbol: &CompileFlagsSymbol<'_>) -> Result<()
     put_label(out, b"backend_version")?;
     put_version(out, symbol.backend_version)?;
     put_label(out, b"version_string")?;
-    out.extend_from_slice(symbol.version_string.as_bytes())
+    put_one_line(out, symbol.version_string.as_bytes())
 }
 
 /// The fields of a compiler, of which this is the record.

@@ -10,6 +10,7 @@ use Rattle.pdb.specs.Answers.{debug_information_in}
 use Rattle.pdb_text.specs.OneLine.{one_line}
 use Rattle.pdb_resolve.specs.AsIfEmpty.{items_of}
 use Rattle.tool_lists.specs.ModuleSizes.{bytes_of_module}
+use Rattle.tool_output.specs.Absent.{if_there}
 use Rattle.tool_output.specs.ErrorObjects.{fault_in, told_in}
 use Rattle.tool_output.specs.Objects.{json_line, number_value, text_value}
 use Rattle.tool_arguments.specs.declared.options.Form.{Form}
@@ -56,4 +57,4 @@ abbrev pub modules_of_stream : Form → List ℕ → List ℕ
 modules_of_stream form b = told_in form (modules_in b) (module_list_text form (bytes_of_module (items_of (contributions_in b))) 0)
 
 unfoldable pub modules_command : Form → List ℕ → List ℕ
-modules_command form file = told_in form (debug_information_in file) (modules_of_stream form)
+modules_command form file = if_there file 3 (told_in form (debug_information_in file) (modules_of_stream form))

@@ -6,6 +6,7 @@ use Rattle.pdb.specs.ImageSectionHeader.{ImageSectionHeader}
 use Rattle.pdb.specs.SectionHeader.{name_of}
 use Rattle.pdb.specs.Answers.{sections_in}
 use Rattle.pdb_text.specs.Digits.{hex}
+use Rattle.tool_output.specs.Absent.{if_there}
 use Rattle.tool_output.specs.ErrorObjects.{none_in, told_in}
 use Rattle.tool_output.specs.Objects.{json_line, number_value, text_value}
 use Rattle.tool_fields.specs.Values.{address_text, behind_blank}
@@ -46,4 +47,4 @@ section_list_text form None = none_in form
 section_list_text form (Some headers) = section_lines form 1 headers
 
 unfoldable pub sections_command : Form → List ℕ → List ℕ
-sections_command form file = told_in form (sections_in file) (section_list_text form)
+sections_command form file = if_there file 3 (told_in form (sections_in file) (section_list_text form))

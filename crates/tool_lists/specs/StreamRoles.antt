@@ -7,7 +7,7 @@ use Rattle.pdb.specs.DBIHeader.{DBIHeader}
 use Rattle.pdb.specs.DBIExtraStreams.{DBIExtraStreams}
 use Rattle.pdb.specs.Modules.{ModuleEntry}
 use Rattle.pdb.specs.Text.{name_bytes}
-use Rattle.pdb_text.specs.OneLine.{one_line}
+use Rattle.tool_fields.specs.Values.{behind_blank}
 use Rattle.tool_lists.specs.declared.stream_roles.Known.{Known}
 use Rattle.tool_lists.specs.declared.stream_roles.Known.TheVariants.{OldDirectory, Information, Types, DebugInformation, Ids, GlobalIndex, PublicIndex, GlobalSymbols, Fpo, Exception, Fixup, OmapToSrc, OmapFromSrc, SectionHeaders, TokenRidMap, Xdata, Pdata, Framedata, OriginalSectionHeaders, TypeHashes, FurtherTypeHashes, IdHashes, FurtherIdHashes}
 use Rattle.tool_lists.specs.declared.stream_roles.What.{What}
@@ -43,7 +43,7 @@ known_text FurtherIdHashes = codes "further hashes of ids"
 
 abbrev pub what_text : What → List ℕ
 what_text (what.Known known) = known_text known
-what_text (what.Name name) = codes "name " ++ one_line (name_bytes name)
+what_text (what.Name name) = codes "name" ++ behind_blank (name_bytes name)
 what_text (what.Module k) = codes "module " ++ decimal k
 
 -- ---- which they are
@@ -68,7 +68,7 @@ abbrev pub fixed_roles : List StreamRole
 fixed_roles = indexed (known_text OldDirectory) 0 ++ indexed (known_text Information) 1 ++ indexed (known_text Types) 2 ++ indexed (known_text DebugInformation) 3 ++ indexed (known_text Ids) 4
 
 abbrev pub name_roles : List Name → List StreamRole
-name_roles names = flat_map (λ n. indexed (codes "name " ++ one_line n.name) n.stream) names
+name_roles names = flat_map (λ n. indexed (codes "name" ++ behind_blank n.name) n.stream) names
 
 -- those that the header of the DBI stream names
 abbrev pub header_roles : DBIHeader → List StreamRole

@@ -25,6 +25,7 @@ use pdb_text::{CountedWrite, put_decimal, put_field, put_line_end, put_one_line,
 use std::alloc::{AllocError, Global};
 use tool_arguments::options::Form;
 use tool_fields::values::put_behind_blank;
+use tool_output::absent::{DEBUG_INFORMATION, lacks};
 use tool_output::error_objects::{put_error_in, put_refused_in};
 use tool_output::objects::{
     begin_numbered, end_line, put_member, put_number, put_text, value_behind,
@@ -189,7 +190,7 @@ fn put_stream(
     }
 }
 
-/// The modules of a file, or the line of the error of its DBI stream.
+/// The modules of a file, or the line of the error of its DBI stream; nothing where it has none.
 #[tactic(auto, unfolding(crate::specs::ModuleLists::modules_command))]
 fn put_modules<'s, S: Source<'s>>(
     alloc: Global,
@@ -201,6 +202,9 @@ fn put_modules<'s, S: Source<'s>>(
     ensures text { pdb.new.told ≡ true → OnOk result (out.new.items ≡ out.old.items ++ modules_command form pdb.old.file) }
     ensures unwritten { IfErr result (StopsComposing (MayFail pdb.old pdb.new)) }
 {
+    if lacks(pdb, DEBUG_INFORMATION) {
+        return Ok(());
+    }
     match pdb.debug_information() {
         Ok(information) => put_stream(alloc, out, form, &information),
         Err(e) => put_refused_in(out, form, e),

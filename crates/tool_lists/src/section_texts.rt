@@ -23,6 +23,7 @@ use pdb_text::{CountedWrite, put_field, put_hex4, put_hex8, put_line_end, write_
 use std::alloc::{AllocError, Global};
 use tool_arguments::options::Form;
 use tool_fields::values::{put_address, put_behind_blank};
+use tool_output::absent::{DEBUG_INFORMATION, lacks};
 use tool_output::error_objects::{put_none_in, put_refused_in};
 use tool_output::objects::{
     begin_numbered, end_line, put_last, put_member, put_number, value_behind,
@@ -165,6 +166,9 @@ fn put_sections<'s, S: Source<'s>>(
     ensures text { pdb.new.told ≡ true → OnOk result (out.new.items ≡ out.old.items ++ sections_command form pdb.old.file) }
     ensures unwritten { IfErr result (StopsComposing (MayFail pdb.old pdb.new)) }
 {
+    if lacks(pdb, DEBUG_INFORMATION) {
+        return Ok(());
+    }
     match pdb.sections() {
         Ok(Some(headers)) => Ok(put_list(out, form, &headers)?),
         Ok(None) => Ok(put_none_in(out, form)?),

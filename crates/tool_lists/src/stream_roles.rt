@@ -11,8 +11,9 @@ use pdb::{
     DBIExtraStreams, DBIHeader, FallibleIterator, ModuleIter, RawString, StreamIndex, StreamNames,
 };
 use pdb_base::little_endian::u16_at;
-use pdb_text::{put_decimal, put_one_line};
+use pdb_text::put_decimal;
 use std::alloc::AllocError;
+use tool_fields::values::put_behind_blank;
 
 /// What a stream is that has one number in every file, or one field of a header.
 #[derive(Clone, Copy, Debug, PartialEq, Eq)]
@@ -116,8 +117,8 @@ pub fn put_what(out: &mut Vec<u8>, what: What<'_>) -> Result<(), AllocError>
     match what {
         What::Known(known) => out.extend_from_slice(known.as_str().as_bytes()),
         What::Name(name) => {
-            out.extend_from_slice(b"name ")?;
-            put_one_line(out, name.as_bytes())
+            out.extend_from_slice(b"name")?;
+            put_behind_blank(out, name.as_bytes())
         }
         What::Module(k) => {
             out.extend_from_slice(b"module ")?;

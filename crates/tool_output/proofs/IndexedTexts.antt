@@ -7,13 +7,13 @@ use Rattle.pdb.specs.Modules.{ModuleEntry, modules_in}
 use Rattle.pdb.specs.ModuleStream.{ModuleBytes}
 use Rattle.pdb.specs.Answers.{debug_information_in}
 use Rattle.tool_output.specs.ErrorObjects.{error_of, told_of}
-use Rattle.tool_output.specs.ModuleTexts.{are_several, module_in, indexed_text}
+use Rattle.tool_output.specs.ModuleTexts.{are_several, module_in, indexed_listed}
 use Rattle.tool_arguments.specs.declared.options.Form.{Form}
 
 pub places_listed : (form : Form) (text : ℕ → ModuleBytes → List ℕ) (file : List ℕ) (left : Left ModuleEntry) (ks : List ℕ) → (debug_information_in file >>= modules_in) ≡ Ok left
-    → indexed_text form text file ks ≡ flat_map (module_in form (are_several ks) text file left) ks
+    → indexed_listed form text file ks ≡ flat_map (module_in form (are_several ks) text file left) ks
 places_listed form text file left ks h = ap (λ (r : Result (Left ModuleEntry) Error). flat_map (λ k. told_of form k r (λ l. module_in form (are_several ks) text file l k)) ks) h
 
 pub places_refused : (form : Form) (text : ℕ → ModuleBytes → List ℕ) (file : List ℕ) (e : Error) (ks : List ℕ) → (debug_information_in file >>= modules_in) ≡ Err e
-    → indexed_text form text file ks ≡ flat_map (λ k. error_of form k e) ks
+    → indexed_listed form text file ks ≡ flat_map (λ k. error_of form k e) ks
 places_refused form text file e ks h = ap (λ (r : Result (Left ModuleEntry) Error). flat_map (λ k. told_of form k r (λ l. module_in form (are_several ks) text file l k)) ks) h

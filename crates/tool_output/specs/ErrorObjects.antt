@@ -2,6 +2,7 @@
 use Rattle.std.specs.Prelude.{List, ℕ, [], codes, Option, Some, None, Result, Ok, Err}
 use Rattle.json.specs.Json.{Json, null, object, string, Members, no_members, member}
 use Rattle.pdb.specs.Error.{Error}
+use Rattle.pdb.specs.Left.{Left}
 use Rattle.pdb.specs.Refusal.{number_of}
 use Rattle.tool_output.specs.ErrorLine.{error_line, message_of}
 use Rattle.tool_output.specs.Objects.{json_line, number_value, text_value}
@@ -53,6 +54,11 @@ none_of Objects k = json_line (none_value (number_value k))
 abbrev pub fault_of : Form → ℕ → Option Error → List ℕ
 fault_of form k None = []
 fault_of form k (Some e) = error_of form k e
+
+-- the line of the error by which a list is refused, or at which it ends
+abbrev pub list_fault_of : {A : Type 0} → Form → ℕ → Result (Left A) Error → List ℕ
+list_fault_of form k (Ok left) = fault_of form k left.fault
+list_fault_of form k (Err e) = error_of form k e
 
 abbrev pub told_of : {A : Type 0} → Form → ℕ → Result A Error → (A → List ℕ) → List ℕ
 told_of form k (Ok x) text = text x

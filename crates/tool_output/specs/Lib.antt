@@ -1,3 +1,4 @@
+pub mod Absent
 pub mod Stops
 pub mod FileNames
 pub mod WriteFailures

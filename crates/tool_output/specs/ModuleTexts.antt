@@ -8,6 +8,7 @@ use Rattle.pdb.specs.Modules.{ModuleEntry, modules_in}
 use Rattle.pdb.specs.ModuleStream.{ModuleBytes}
 use Rattle.pdb.specs.Answers.{debug_information_in, item_at, module_info_in}
 use Rattle.pdb_resolve.specs.AcrossModules.{global_id_in}
+use Rattle.tool_output.specs.Absent.{if_there, lacks}
 use Rattle.tool_output.specs.ErrorObjects.{error_of, fault_in, none_of, told_in, told_of}
 use Rattle.tool_fields.specs.Values.{behind_blank}
 use Rattle.tool_arguments.specs.declared.options.Form.{Form}
@@ -78,20 +79,31 @@ several_in (Err e) = false
 abbrev pub whole_text : Form → (ℕ → ModuleBytes → List ℕ) → List ℕ → Left ModuleEntry → List ℕ
 whole_text form text file left = list_text form (tell_several left.items) text file 0 left
 
+-- of all, where the file has debug information
+unfoldable pub all_listed : Form → (ℕ → ModuleBytes → List ℕ) → List ℕ → List ℕ
+all_listed form text file = told_in form (debug_information_in file >>= modules_in) (whole_text form text file)
+
 unfoldable pub all_text : Form → (ℕ → ModuleBytes → List ℕ) → List ℕ → List ℕ
-all_text form text file = told_in form (debug_information_in file >>= modules_in) (whole_text form text file)
+all_text form text file = if_there file 3 (all_listed form text file)
 
 -- the same without lines that name modules
+unfoldable pub plain_listed : Form → (ℕ → ModuleBytes → List ℕ) → List ℕ → List ℕ
+plain_listed form text file = told_in form (debug_information_in file >>= modules_in) (list_text form false text file 0)
+
 unfoldable pub plain_text : Form → (ℕ → ModuleBytes → List ℕ) → List ℕ → List ℕ
-plain_text form text file = told_in form (debug_information_in file >>= modules_in) (list_text form false text file 0)
+plain_text form text file = if_there file 3 (plain_listed form text file)
 
 -- more than one number
 abbrev pub are_several : List ℕ → Bool
 are_several ks = nat_lt 1 (length ks)
 
--- of the modules of these numbers
-abbrev pub indexed_text : Form → (ℕ → ModuleBytes → List ℕ) → List ℕ → List ℕ → List ℕ
-indexed_text form text file ks = flat_map (place_text form (are_several ks) text file) ks
+-- of the modules of these numbers, where the file has debug information
+abbrev pub indexed_listed : Form → (ℕ → ModuleBytes → List ℕ) → List ℕ → List ℕ → List ℕ
+indexed_listed form text file ks = flat_map (place_text form (are_several ks) text file) ks
+
+-- without it none is there
+unfoldable pub indexed_text : Form → (ℕ → ModuleBytes → List ℕ) → List ℕ → List ℕ → List ℕ
+indexed_text form text file ks = if lacks file 3 then flat_map (none_of form) ks else indexed_listed form text file ks
 
 -- of all where there is no number
 abbrev pub modules_text : Form → (ℕ → ModuleBytes → List ℕ) → List ℕ → List ℕ → List ℕ

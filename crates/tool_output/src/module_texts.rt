@@ -13,7 +13,7 @@ ghost use Rattle.pdb_resolve.specs.ImportTables.{ids_by};
 ghost use Rattle.pdb_text.specs.Written.{WroteFirst, WroteFront};
 ghost use Rattle.tool_output.specs.ErrorLine.{error_line};
 ghost use Rattle.tool_output.specs.ErrorObjects.{error_in, error_of, none_of, told_in, told_of};
-ghost use Rattle.tool_output.specs.ModuleTexts.{all_text, are_several, entry_text, has_stream, in_file, line_if, list_text, listed_text, module_line, module_in, modules_text, indexed_text, plain_text, several_in, there_text};
+ghost use Rattle.tool_output.specs.ModuleTexts.{all_listed, are_several, entry_text, has_stream, in_file, line_if, list_text, listed_text, module_line, module_in, indexed_listed, plain_listed, several_in, there_text};
 ghost use Rattle.tool_output.specs.Stops.{StopsComposing, StopsWriting};
 ghost use Rattle.tool_output.specs.WriteFailures.{failures_after};
 ghost use Rattle.tool_output.specs.declared.stop.Stop.{Stop};
@@ -292,7 +292,7 @@ fn write_each_refused<W: CountedWrite>(
 /// Writes the texts of the modules of these indices, each behind the line that names it where there are several. The
 /// list is read once.
 #[tactic(auto, using(crate::proofs::IndexedTexts::places_listed, crate::proofs::IndexedTexts::places_refused, pdb_text::proofs::Written::any_err, crate::proofs::Fronts::front_none))]
-pub fn write_indexed<'s, S: Source<'s>, T: ModuleText, W: CountedWrite>(
+pub fn write_indexed_listed<'s, S: Source<'s>, T: ModuleText, W: CountedWrite>(
     alloc: Global,
     pdb: &mut PDB<'s, S>,
     form: Form,
@@ -305,9 +305,9 @@ pub fn write_indexed<'s, S: Source<'s>, T: ModuleText, W: CountedWrite>(
     ensures stops { IfErr result (StopsWriting (MayFail pdb.old pdb.new)) }
     ensures failures { W.failures out.new ≡ failures_after (W.failures out.old) result }
     // All texts were written.
-    ensures ok { pdb.new.told ≡ true → OnOk result (Appends (W.contents out.old) (W.contents out.new) (indexed_text form (in_file (T.text texts.now) pdb.old.file) pdb.old.file indices.now)) }
+    ensures ok { pdb.new.told ≡ true → OnOk result (Appends (W.contents out.old) (W.contents out.new) (indexed_listed form (in_file (T.text texts.now) pdb.old.file) pdb.old.file indices.now)) }
     // A beginning of the texts was written.
-    ensures front { pdb.new.told ≡ true → OnErr result (WroteFront (W.contents out.old) (W.contents out.new) (indexed_text form (in_file (T.text texts.now) pdb.old.file) pdb.old.file indices.now)) }
+    ensures front { pdb.new.told ≡ true → OnErr result (WroteFront (W.contents out.old) (W.contents out.new) (indexed_listed form (in_file (T.text texts.now) pdb.old.file) pdb.old.file indices.now)) }
 {
     let information = match pdb.debug_information() {
         Ok(information) => information,
@@ -434,8 +434,8 @@ fn tells_several(information: &DebugInformation<'_>) -> bool
 }
 
 /// Writes the texts of all modules of the list, and then the line of its fault.
-#[tactic(auto, unfolding(crate::specs::ModuleTexts::all_text))]
-pub fn write_all<'s, S: Source<'s>, T: ModuleText, W: CountedWrite>(
+#[tactic(auto, unfolding(crate::specs::ModuleTexts::all_listed))]
+pub fn write_all_listed<'s, S: Source<'s>, T: ModuleText, W: CountedWrite>(
     alloc: Global,
     pdb: &mut PDB<'s, S>,
     form: Form,
@@ -446,8 +446,8 @@ pub fn write_all<'s, S: Source<'s>, T: ModuleText, W: CountedWrite>(
     ensures opened { (e : Error) → IsErrOf result (Stop.Open e) → ⊥ }
     ensures stops { IfErr result (StopsWriting (MayFail pdb.old pdb.new)) }
     ensures failures { W.failures out.new ≡ failures_after (W.failures out.old) result }
-    ensures ok { pdb.new.told ≡ true → OnOk result (Appends (W.contents out.old) (W.contents out.new) (all_text form (in_file (T.text texts.now) pdb.old.file) pdb.old.file)) }
-    ensures front { pdb.new.told ≡ true → OnErr result (WroteFront (W.contents out.old) (W.contents out.new) (all_text form (in_file (T.text texts.now) pdb.old.file) pdb.old.file)) }
+    ensures ok { pdb.new.told ≡ true → OnOk result (Appends (W.contents out.old) (W.contents out.new) (all_listed form (in_file (T.text texts.now) pdb.old.file) pdb.old.file)) }
+    ensures front { pdb.new.told ≡ true → OnErr result (WroteFront (W.contents out.old) (W.contents out.new) (all_listed form (in_file (T.text texts.now) pdb.old.file) pdb.old.file)) }
 {
     let information = match pdb.debug_information() {
         Ok(information) => information,
@@ -461,8 +461,8 @@ pub fn write_all<'s, S: Source<'s>, T: ModuleText, W: CountedWrite>(
 }
 
 /// Writes the texts of all modules of the list without lines that name them, and then the line of its fault.
-#[tactic(auto, unfolding(crate::specs::ModuleTexts::plain_text))]
-pub fn write_plain<'s, S: Source<'s>, T: ModuleText, W: CountedWrite>(
+#[tactic(auto, unfolding(crate::specs::ModuleTexts::plain_listed))]
+pub fn write_plain_listed<'s, S: Source<'s>, T: ModuleText, W: CountedWrite>(
     alloc: Global,
     pdb: &mut PDB<'s, S>,
     form: Form,
@@ -473,8 +473,8 @@ pub fn write_plain<'s, S: Source<'s>, T: ModuleText, W: CountedWrite>(
     ensures opened { (e : Error) → IsErrOf result (Stop.Open e) → ⊥ }
     ensures stops { IfErr result (StopsWriting (MayFail pdb.old pdb.new)) }
     ensures failures { W.failures out.new ≡ failures_after (W.failures out.old) result }
-    ensures ok { pdb.new.told ≡ true → OnOk result (Appends (W.contents out.old) (W.contents out.new) (plain_text form (in_file (T.text texts.now) pdb.old.file) pdb.old.file)) }
-    ensures front { pdb.new.told ≡ true → OnErr result (WroteFront (W.contents out.old) (W.contents out.new) (plain_text form (in_file (T.text texts.now) pdb.old.file) pdb.old.file)) }
+    ensures ok { pdb.new.told ≡ true → OnOk result (Appends (W.contents out.old) (W.contents out.new) (plain_listed form (in_file (T.text texts.now) pdb.old.file) pdb.old.file)) }
+    ensures front { pdb.new.told ≡ true → OnErr result (WroteFront (W.contents out.old) (W.contents out.new) (plain_listed form (in_file (T.text texts.now) pdb.old.file) pdb.old.file)) }
 {
     let information = match pdb.debug_information() {
         Ok(information) => information,
@@ -483,28 +483,5 @@ pub fn write_plain<'s, S: Source<'s>, T: ModuleText, W: CountedWrite>(
     match information.modules() {
         Ok(modules) => write_left(alloc, pdb, form, texts, false, modules, out),
         Err(e) => write_refused_in(alloc, form, e, out),
-    }
-}
-
-/// Writes the texts of the modules of these numbers; of all where there is no number.
-pub fn write_modules<'s, S: Source<'s>, T: ModuleText, W: CountedWrite>(
-    alloc: Global,
-    pdb: &mut PDB<'s, S>,
-    form: Form,
-    texts: &T,
-    indices: &[u32],
-    out: &mut W,
-) -> Result<(), Stop>
-    ensures continues { Continues pdb.old pdb.new }
-    ensures opened { (e : Error) → IsErrOf result (Stop.Open e) → ⊥ }
-    ensures stops { IfErr result (StopsWriting (MayFail pdb.old pdb.new)) }
-    ensures failures { W.failures out.new ≡ failures_after (W.failures out.old) result }
-    ensures ok { pdb.new.told ≡ true → OnOk result (Appends (W.contents out.old) (W.contents out.new) (modules_text form (in_file (T.text texts.now) pdb.old.file) pdb.old.file indices.now)) }
-    ensures front { pdb.new.told ≡ true → OnErr result (WroteFront (W.contents out.old) (W.contents out.new) (modules_text form (in_file (T.text texts.now) pdb.old.file) pdb.old.file indices.now)) }
-{
-    if indices.is_empty() {
-        write_all(alloc, pdb, form, texts, out)
-    } else {
-        write_indexed(alloc, pdb, form, texts, indices, out)
     }
 }

@@ -42,7 +42,7 @@ pub fn put_ranged(out: &mut Vec<u8>, range: AddressRange, gaps: Gaps<'_>) -> Res
     put_gaps_field(out, gaps)
 }
 
-/// Strings, as they stand.
+/// Strings.
 #[tactic(auto, unfolding(tool_fields::specs::FieldTexts::field))]
 pub fn put_strings_field(out: &mut Vec<u8>, strings: Strings<'_>) -> Result<(), AllocError>
     ensures { OnOk result (out.new.items ≡ out.old.items ++ strings_field (strings_in strings.entry)) }

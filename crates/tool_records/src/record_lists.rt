@@ -11,7 +11,7 @@ use pdb_records::{
     AddressGap, Gaps, GapsIter, Numbers, NumbersIter, PointerTag, PointerTags, PointerTagsIter,
     Strings, StringsIter,
 };
-use pdb_text::{put_decimal, put_hex8};
+use pdb_text::{put_decimal, put_hex8, put_one_line};
 use std::alloc::AllocError;
 use tool_fields::values_forms::put_signed;
 
@@ -157,7 +157,7 @@ pub fn put_tags(out: &mut Vec<u8>, tags: PointerTags<'_>) -> Result<(), AllocErr
     }
 }
 
-/// Strings, as they stand, each behind a comma.
+/// Strings, each on one line and behind a comma.
 fn put_more_strings(out: &mut Vec<u8>, mut strings: StringsIter<'_>) -> Result<(), AllocError>
     ensures { OnOk result (out.new.items ≡ out.old.items ++ texts_behind string_text (strings_left strings.entry).items) }
 {
@@ -165,7 +165,7 @@ fn put_more_strings(out: &mut Vec<u8>, mut strings: StringsIter<'_>) -> Result<(
         match strings.next() {
             Ok(Some(string)) => {
                 out.push(b',')?;
-                out.extend_from_slice(string.as_bytes())?;
+                put_one_line(out, string.as_bytes())?;
             }
             Ok(None) => return Ok(()),
             Err(_) => return Ok(()),
@@ -173,14 +173,14 @@ fn put_more_strings(out: &mut Vec<u8>, mut strings: StringsIter<'_>) -> Result<(
     }
 }
 
-/// Strings, as they stand, joined by commas, or `-` where there are none.
+/// Strings, each on one line, joined by commas, or `-` where there are none.
 pub fn put_strings(out: &mut Vec<u8>, strings: Strings<'_>) -> Result<(), AllocError>
     ensures { OnOk result (out.new.items ≡ out.old.items ++ joined_texts string_text (strings_in strings.entry)) }
 {
     let mut strings = strings.iter();
     match strings.next() {
         Ok(Some(string)) => {
-            out.extend_from_slice(string.as_bytes())?;
+            put_one_line(out, string.as_bytes())?;
             put_more_strings(out, strings)
         }
         Ok(None) => out.extend_from_slice(b"-"),

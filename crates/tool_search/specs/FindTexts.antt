@@ -14,7 +14,7 @@ use Rattle.pdb.specs.Items.{ItemEntry}
 use Rattle.pdb.specs.Inlinees.{InlineeEntry, inlinee_with}
 use Rattle.pdb.specs.Inlined.{lines_of_site}
 use Rattle.pdb.specs.LineInfo.{LineInfo}
-use Rattle.pdb.specs.ModuleStream.{ModuleBytes, symbols_of}
+use Rattle.pdb.specs.ModuleStream.{ModuleBytes, inlinees_of, symbols_of}
 use Rattle.pdb.specs.Qualified.{Qualified}
 use Rattle.pdb.specs.Tables.{Addresses}
 use Rattle.pdb.specs.Answers.{address_map_in, debug_information_in, global_symbols_in}
@@ -27,7 +27,8 @@ use Rattle.pdb_resolve.specs.AcrossModules.{call_name}
 use Rattle.pdb_resolve.specs.Frames.{qualified_text}
 use Rattle.pdb_resolve.specs.ModuleCode.{inlinees_in}
 use Rattle.pdb_resolve.specs.PlaceAddresses.{address_for}
-use Rattle.tool_output.specs.ErrorObjects.{fault_in, fault_of, told_in, told_of}
+use Rattle.tool_output.specs.Absent.{if_there, there_in}
+use Rattle.tool_output.specs.ErrorObjects.{fault_in, fault_of, list_fault_of, told_in, told_of}
 use Rattle.tool_search.specs.FoundObjects.{found_value}
 use Rattle.tool_output.specs.Objects.{json_line}
 use Rattle.tool_arguments.specs.declared.options.Form.{Form}
@@ -143,7 +144,7 @@ abbrev pub symbols_left_text : Finding → ℕ → (ℕ → Option Qualified) �
 symbols_left_text f k names known c left = symbol_lines f names known c left.items ++ fault_of f.form k left.fault
 
 unfoldable pub find_text : Finding → ℕ → (ℕ → Option Qualified) → ModuleBytes → List ℕ
-find_text f k names m = told_of f.form k (symbols_of m) (symbols_left_text f k names (inlinee_with (inlinees_in m)) None)
+find_text f k names m = told_of f.form k (symbols_of m) (λ left. symbols_left_text f k names (inlinee_with (inlinees_in m)) None left ++ list_fault_of f.form k (inlinees_of m))
 
 -- of module k of a file
 abbrev pub find_in : Finding → List ℕ → ℕ → ModuleBytes → List ℕ
@@ -160,4 +161,4 @@ x86_in file = x86_by (if_read (debug_information_in file))
 
 -- those of the global symbols
 abbrev pub globals_found : List ℕ → Finding → List ℕ
-globals_found file f = told_in f.form (global_symbols_in file) (λ b. global_lines (x86_in file) f (symbols_from b 0))
+globals_found file f = if_there file 3 (there_in f.form (global_symbols_in file) (λ b. global_lines (x86_in file) f (symbols_from b 0)))

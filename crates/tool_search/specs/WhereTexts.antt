@@ -13,7 +13,7 @@ use Rattle.pdb.specs.Inlinees.{InlineeEntry, inlinee_with}
 use Rattle.pdb.specs.LineInfo.{LineInfo}
 use Rattle.pdb.specs.LineProgram.{ProgramOf}
 use Rattle.pdb.specs.Lines.{lines_of}
-use Rattle.pdb.specs.ModuleStream.{ModuleBytes, line_program_of, symbols_of}
+use Rattle.pdb.specs.ModuleStream.{ModuleBytes, inlinees_of, line_program_of, symbols_of}
 use Rattle.pdb.specs.Qualified.{Qualified}
 use Rattle.pdb.specs.Tables.{Addresses}
 use Rattle.pdb.specs.Answers.{address_map_in, string_table_in}
@@ -22,7 +22,7 @@ use Rattle.pdb_resolve.specs.FileParts.{items_listed}
 use Rattle.pdb_resolve.specs.AcrossModules.{call_name}
 use Rattle.pdb_resolve.specs.Frames.{file_in, file_name, file_text, name_text, plain}
 use Rattle.pdb_resolve.specs.ModuleCode.{inlinees_in, name_at, program_in}
-use Rattle.tool_output.specs.ErrorObjects.{fault_of, told_of}
+use Rattle.tool_output.specs.ErrorObjects.{fault_of, list_fault_of, told_of}
 use Rattle.tool_search.specs.FindTexts.{Parent, has_bytes, parent_said, site_records, stretch_text}
 use Rattle.tool_search.specs.FoundObjects.{where_value}
 use Rattle.tool_output.specs.Objects.{json_line}
@@ -96,7 +96,8 @@ abbrev pub sites_left_text : Asking → ℕ → Option ProgramOf → (ℕ → Op
 sites_left_text a k program names known c left = sites_text a program names known c left.items ++ fault_of a.form k left.fault
 
 unfoldable pub calls_text : Asking → ℕ → (ℕ → Option Qualified) → ModuleBytes → List ℕ
-calls_text a k names m = told_of a.form k (symbols_of m) (sites_left_text a k (program_in m) names (inlinee_with (inlinees_in m)) None)
+calls_text a k names m =
+    told_of a.form k (symbols_of m) (λ left. sites_left_text a k (program_in m) names (inlinee_with (inlinees_in m)) None left ++ list_fault_of a.form k (inlinees_of m))
 
 -- ---- the command
 

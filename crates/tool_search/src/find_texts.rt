@@ -17,6 +17,7 @@ ghost use Rattle.tool_search.specs.Finders.{parent_view};
 ghost use Rattle.tool_search.specs.PlacedRecords.{data_placed, placed_at, public_placed};
 
 use crate::finder::{Finder, put_qualified};
+use crate::inlined_errors::put_inlined_error;
 use crate::placed_records::placed_in;
 use crate::public_texts::put_public;
 use pdb::{
@@ -416,7 +417,10 @@ pub fn put_found_symbols(
 {
     match info.symbols() {
         Ok(symbols) => match read_known(alloc, info) {
-            Ok(known) => put_symbols(alloc, out, finder, k, names, &known, symbols),
+            Ok(known) => {
+                put_symbols(alloc, out, finder, k, names, &known, symbols)?;
+                put_inlined_error(out, finder.form, k, info)
+            }
             Err(_) => Err(AllocError),
         },
         Err(e) => put_refusal_of(out, finder.form, k, e),

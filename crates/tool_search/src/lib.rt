@@ -6,6 +6,7 @@ pub mod find_texts;
 pub mod finder;
 pub mod found_objects;
 pub mod frame_objects;
+mod inlined_errors;
 pub mod lookups;
 pub mod placed_records;
 pub mod public_texts;

@@ -34,9 +34,10 @@ use std::alloc::{AllocError, Global};
 use tool_arguments::operands::Operand;
 use tool_arguments::options::Form;
 use tool_arguments::sources_asked::SourceAsked;
-use tool_output::error_objects::put_refused_in;
+use tool_output::absent::{DEBUG_INFORMATION, lacks, put_unless_absent};
+use tool_output::file_modules::{write_modules, write_plain};
 use tool_output::file_streams::{ids_stream, strings_of, types_stream};
-use tool_output::module_texts::{ModuleText, write_modules, write_plain};
+use tool_output::module_texts::ModuleText;
 use tool_output::opening::opened;
 use tool_output::stop::{Stop, stop_of};
 
@@ -173,10 +174,13 @@ fn put_globals<'s, S: Source<'s>>(
     ensures text { pdb.new.told ≡ true → OnOk result (out.new.items ≡ out.old.items ++ globals_found pdb.old.file finder.now) }
     ensures unwritten { IfErr result (StopsComposing (MayFail pdb.old pdb.new)) }
 {
+    if lacks(pdb, DEBUG_INFORMATION) {
+        return Ok(());
+    }
     let x86 = image_is_x86(pdb)?;
     match pdb.global_symbols() {
         Ok(symbols) => Ok(put_found_globals(alloc, out, finder, x86, &symbols)?),
-        Err(e) => put_refused_in(out, finder.form, e),
+        Err(e) => put_unless_absent(out, finder.form, e),
     }
 }
 

@@ -20,6 +20,7 @@ ghost use Rattle.tool_search.specs.WhereTexts.{asks_for_file, call_text, calls_t
 
 use crate::asking::{Asking, FunctionsOf};
 use crate::find_texts::{Parent, parent_behind, site_records};
+use crate::inlined_errors::put_inlined_error;
 use pdb::{
     Error, FallibleIterator, InlineeFinder, InlineeLineIterator, LineInfo, LineIterator,
     LineProgram, ModuleInfo, QualifiedName, Symbol, SymbolData, SymbolIter,
@@ -212,7 +213,10 @@ fn put_sites(
 {
     match info.symbols() {
         Ok(symbols) => match read_known(alloc, info) {
-            Ok(known) => put_symbols(alloc, out, asking, k, program, names, &known, symbols),
+            Ok(known) => {
+                put_symbols(alloc, out, asking, k, program, names, &known, symbols)?;
+                put_inlined_error(out, asking.form, k, info)
+            }
             Err(_) => Err(AllocError),
         },
         Err(e) => put_refusal_of(out, asking.form, k, e),

@@ -6,7 +6,7 @@ use Rattle.pdb_resolve.specs.AsIfEmpty.{if_read}
 use Rattle.pdb.specs.Container.{stream_of}
 use Rattle.pdb_resolve.specs.AcrossModules.{global_id_in}
 use Rattle.pdb_resolve.specs.ImportTables.{ImportTable, ids_by}
-use Rattle.tool_output.specs.ErrorLine.{told}
+use Rattle.tool_output.specs.Absent.{if_there, there_in}
 use Rattle.tool_types.specs.LineNames.{FileTables, Names, names_by_tables, tables_of}
 use Rattle.tool_symbols.specs.LineTexts.{lines_text}
 use Rattle.tool_symbols.specs.ScopeTexts.{scopes_text}
@@ -45,8 +45,12 @@ symbols_in file k m = symbols_text (names_in file m) (file_machine file) m
 abbrev pub global_symbols_of : List ℕ → List ℕ → List ℕ
 global_symbols_of file b = global_symbols_text (names_by_tables (file_tables file) (ids_by no_imports)) (file_machine file) b
 
+-- a text of the global symbols of a file; nothing where it has none
+abbrev pub globals_told : List ℕ → (List ℕ → List ℕ) → List ℕ
+globals_told file text = if_there file 3 (there_in Text (global_symbols_in file) text)
+
 abbrev pub symbols_command : List ℕ → List ℕ → List ℕ
-symbols_command file [] = told (global_symbols_in file) (global_symbols_of file)
+symbols_command file [] = globals_told file (global_symbols_of file)
 symbols_command file (k ∷ ks) = indexed_text Text (symbols_in file) file (k ∷ ks)
 
 -- `symbols --all`: those of all modules

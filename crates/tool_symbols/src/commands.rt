@@ -17,7 +17,7 @@ ghost use Rattle.tool_symbols.specs.LineTexts.{lines_text};
 ghost use Rattle.tool_types.specs.LineViews.{names_of_lines};
 ghost use Rattle.tool_symbols.specs.SymbolTexts.{global_symbols_text};
 ghost use Rattle.tool_output.specs.ModuleTexts.{in_file, modules_text, place_text};
-ghost use Rattle.tool_symbols.specs.SymbolCommands.{all_symbols_command, lines_command, no_imports, scopes_command, symbols_command};
+ghost use Rattle.tool_symbols.specs.SymbolCommands.{all_symbols_command, globals_told, lines_command, no_imports, scopes_command, symbols_command};
 ghost use Rattle.tool_fields.specs.ModuleMachines.{file_machine};
 ghost use Rattle.tool_output.specs.Stops.{StopsCommand, StopsComposing, StopsWriting};
 ghost use Rattle.tool_output.specs.WriteFailures.{failures_after};
@@ -36,10 +36,10 @@ use pdb_text::{CountedWrite, write_counted};
 use pdb_types::TypeDefinitions;
 use std::alloc::{AllocError, Global};
 use tool_arguments::options::Form;
+use tool_output::absent::{DEBUG_INFORMATION, lacks, write_unless_absent};
+use tool_output::file_modules::{write_all, write_indexed, write_modules};
 use tool_output::file_streams::{ids_stream, strings_of, types_stream};
-use tool_output::module_texts::{
-    ModuleText, write_all, write_indexed, write_modules, write_refused,
-};
+use tool_output::module_texts::ModuleText;
 use tool_output::opening::opened;
 use tool_output::stop::{Stop, stop_of};
 use tool_types::line_names::LineNames;
@@ -255,7 +255,32 @@ fn put_globals(
     put_globals_by(alloc, out, tables, &global, symbols)
 }
 
+/// Writes the global symbols of a file that has debug information, by what names are found by.
+fn write_listed_globals<'s, S: Source<'s>, W: CountedWrite>(
+    alloc: Global,
+    pdb: &mut PDB<'s, S>,
+    tables: &Tables<'_>,
+    out: &mut W,
+) -> Result<(), Stop>
+    ensures continues { Continues pdb.old pdb.new }
+    ensures opened { (e : Error) → IsErrOf result (Stop.Open e) → ⊥ }
+    ensures stops { IfErr result (StopsWriting (MayFail pdb.old pdb.new)) }
+    ensures failures { W.failures out.new ≡ failures_after (W.failures out.old) result }
+    ensures ok { pdb.new.told ≡ true → OnOk result (Appends (W.contents out.old) (W.contents out.new) (there_in Text (global_symbols_in pdb.old.file) (global_symbols_text (names_from tables.now.ids tables.now.types (first_definition tables.now.definitions) (ids_by no_imports)) tables.now.header))) }
+    ensures front { pdb.new.told ≡ true → OnErr result (WroteFront (W.contents out.old) (W.contents out.new) (there_in Text (global_symbols_in pdb.old.file) (global_symbols_text (names_from tables.now.ids tables.now.types (first_definition tables.now.definitions) (ids_by no_imports)) tables.now.header))) }
+{
+    let symbols = match pdb.global_symbols() {
+        Ok(symbols) => symbols,
+        Err(e) => return write_unless_absent(alloc, Form::Text, e, out),
+    };
+    let mut text = Vec::new(alloc);
+    put_globals(alloc, &mut text, tables, &symbols)?;
+    write_counted(out, &text)?;
+    Ok(())
+}
+
 /// Writes the global symbols of an opened file, by what names are found by.
+#[tactic(auto, using(tool_output::proofs::Fronts::appends_none))]
 fn write_globals<'s, S: Source<'s>, W: CountedWrite>(
     alloc: Global,
     pdb: &mut PDB<'s, S>,
@@ -266,17 +291,13 @@ fn write_globals<'s, S: Source<'s>, W: CountedWrite>(
     ensures opened { (e : Error) → IsErrOf result (Stop.Open e) → ⊥ }
     ensures stops { IfErr result (StopsWriting (MayFail pdb.old pdb.new)) }
     ensures failures { W.failures out.new ≡ failures_after (W.failures out.old) result }
-    ensures ok { pdb.new.told ≡ true → OnOk result (Appends (W.contents out.old) (W.contents out.new) (told (global_symbols_in pdb.old.file) (global_symbols_text (names_from tables.now.ids tables.now.types (first_definition tables.now.definitions) (ids_by no_imports)) tables.now.header))) }
-    ensures front { pdb.new.told ≡ true → OnErr result (WroteFront (W.contents out.old) (W.contents out.new) (told (global_symbols_in pdb.old.file) (global_symbols_text (names_from tables.now.ids tables.now.types (first_definition tables.now.definitions) (ids_by no_imports)) tables.now.header))) }
+    ensures ok { pdb.new.told ≡ true → OnOk result (Appends (W.contents out.old) (W.contents out.new) (globals_told pdb.old.file (global_symbols_text (names_from tables.now.ids tables.now.types (first_definition tables.now.definitions) (ids_by no_imports)) tables.now.header))) }
+    ensures front { pdb.new.told ≡ true → OnErr result (WroteFront (W.contents out.old) (W.contents out.new) (globals_told pdb.old.file (global_symbols_text (names_from tables.now.ids tables.now.types (first_definition tables.now.definitions) (ids_by no_imports)) tables.now.header))) }
 {
-    let symbols = match pdb.global_symbols() {
-        Ok(symbols) => symbols,
-        Err(e) => return write_refused(alloc, e, out),
-    };
-    let mut text = Vec::new(alloc);
-    put_globals(alloc, &mut text, tables, &symbols)?;
-    write_counted(out, &text)?;
-    Ok(())
+    if lacks(pdb, DEBUG_INFORMATION) {
+        return Ok(());
+    }
+    write_listed_globals(alloc, pdb, tables, out)
 }
 
 /// Writes the symbols of the modules of these numbers; the global symbols where there is no number.

@@ -9,7 +9,7 @@ use Rattle.pdb_text.specs.OneLine.{one_line}
 use Rattle.pdb_items.specs.Items.{item_with}
 use Rattle.pdb_types.specs.Enumerators.{bit_position_in, enumerator_number}
 use Rattle.pdb_types.specs.MemberSays.{MemberSays, access_number, method_number}
-use Rattle.pdb_types.specs.MemberSays.MemberSays.{BaseClass, VirtualBaseClass, VirtualTablePointer, VirtualTableOffset, FriendClass, FriendFunction, Enumerate, Member, StaticMember, Method, Nested, OneMethod, More}
+use Rattle.pdb_types.specs.MemberSays.MemberSays.{BaseClass, VirtualBaseClass, VirtualTablePointer, VirtualTableOffset, FriendClass, FriendFunction, Enumerate, Member, StaticMember, Method, Nested, OneMethod, More, Endless}
 use Rattle.pdb_types.specs.Overloads.{overloads_of}
 use Rattle.pdb_types.specs.TypeRows.{value_of}
 use Rattle.pdb_types.specs.declared.members.FieldAttributes.{FieldAttributes}
@@ -128,6 +128,7 @@ member_line t underlying (Enumerate a value name) = enumerator_line t underlying
 member_line t underlying (Member a index offset name) = data_line t a index offset name
 member_line t underlying (StaticMember a index name) = codes "  static" ++ (access_text a ++ named_type t name index)
 member_line t underlying More = codes "  <...>\n"
+member_line t underlying Endless = codes "  error the list of members continues in itself\n"
 member_line t underlying m = other_line t m
 
 abbrev pub member_fault : Option Error → List ℕ

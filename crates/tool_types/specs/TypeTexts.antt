@@ -9,6 +9,7 @@ use Rattle.pdb_types.specs.FullTypes.{definitions_among, first_definition, says_
 use Rattle.pdb_types.specs.MemberLists.{members_of}
 use Rattle.pdb_types.specs.TypeSays.{TagSays, TypeSays}
 use Rattle.pdb_types.specs.TypeSays.TypeSays.{Enumeration}
+use Rattle.tool_output.specs.Absent.{if_there}
 use Rattle.tool_output.specs.ErrorLine.{fault_line, told}
 use Rattle.tool_types.specs.MemberTexts.{members_text}
 use Rattle.tool_types.specs.TypeLines.{Types, item_line, missing_line, simple_line, tag_said}
@@ -56,5 +57,5 @@ types_in file = types_among (items_listed file 2)
 
 -- the text of all types where no index is given
 abbrev pub types_command : List ℕ → List ℕ → List ℕ
-types_command file [] = told (stream_of file 2 None) stream_text
+types_command file [] = if_there file 2 (told (stream_of file 2 None) stream_text)
 types_command file (i ∷ is) = flat_map (index_lines (types_in file)) (i ∷ is)

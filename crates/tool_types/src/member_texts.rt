@@ -25,6 +25,9 @@ use tool_fields::fields::put_offset;
 use tool_fields::values_forms::{put_unsigned, put_variant, put_wide};
 use tool_output::error_line::put_error_line;
 
+/// The line of a list of members that continues in itself.
+const ENDLESS: &[u8] = b"  error the list of members continues in itself\n";
+
 /// Who may use a member, where not everybody may.
 fn put_access(out: &mut Vec<u8>, attributes: FieldAttributes) -> Result<(), AllocError>
     ensures { OnOk result (out.new.items ≡ out.old.items ++ access_text attributes) }
@@ -447,6 +450,7 @@ fn put_member(
             name,
         } => put_static(out, types, attributes, field_type, name),
         Member::More => out.extend_from_slice(b"  <...>\n"),
+        Member::Endless => out.extend_from_slice(ENDLESS),
         _ => put_other(out, types, member),
     }
 }

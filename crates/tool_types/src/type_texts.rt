@@ -26,6 +26,7 @@ use pdb_resolve::types_of;
 use pdb_text::{CountedWrite, write_counted};
 use pdb_types::{Tag, TypeData, TypeDefinitions};
 use std::alloc::{AllocError, Global};
+use tool_output::absent::{TYPES, lacks};
 use tool_output::file_streams::types_stream;
 use tool_output::module_texts::write_refused;
 use tool_output::opening::opened;
@@ -203,6 +204,9 @@ fn write_all<'s, S: Source<'s>, W: CountedWrite>(
     ensures ok { pdb.new.told ≡ true → OnOk result (Appends (W.contents out.old) (W.contents out.new) (types_command pdb.old.file [])) }
     ensures front { pdb.new.told ≡ true → OnErr result (WroteFront (W.contents out.old) (W.contents out.new) (types_command pdb.old.file [])) }
 {
+    if lacks(pdb, TYPES) {
+        return Ok(());
+    }
     match pdb.type_information() {
         Ok(information) => write_stream(alloc, &information, out),
         Err(e) => write_refused(alloc, e, out),

@@ -4,5 +4,8 @@ use Rattle.pdb_types.proofs.member_faults.ends_of.Goals as goal
 
 pub loop-item-preserved : goal.loop-item-preserved
 loop-item-preserved c =
-    let pushed = c.in_ok-push.ensures.items in
-    rw pushed (All-push (IsEndIn c.args.types.now) c.loop-item.ends.items _ c.loop-item.invariant c.list_end-end.ensures)
+    let pushed = c.in_ok-push_row.ensures.pushed in
+    record {
+      ends = rw pushed (All-push (IsEndIn c.args.types.now) c.loop-item.ends.items _ c.loop-item.invariant.ends c.list_end-end.ensures);
+      room = c.in_ok-push_row.ensures.room;
+    }

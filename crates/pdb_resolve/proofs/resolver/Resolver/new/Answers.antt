@@ -14,7 +14,7 @@ invariant_of-result-2 g c =
     let information : s.told ≡ true → option_copied c.in_ok-information.information ≡ if_read (debug_information_in s.file) =
     λ told. c.in_ok-information.ensures.is (second.told told) ∙ ap (λ file. if_read (debug_information_in file)) (sym (second.file ∙ first.file)) in
     rw c.in_ok-new.ensures.ok (
-      λ told. c.places.view_is ∙ (c.new-places.ensures ∙ (c.in_ok-address_map_of.ensures.is told ∙ ap (λ file. if_read (address_map_in file)) (sym second.file))),
+      λ told. c.places.view_is ∙ (c.in_ok-places.ensures.is ∙ (c.in_ok-address_map_of.ensures.is told ∙ ap (λ file. if_read (address_map_in file)) (sym second.file))),
       record {
         module_places = λ told. ap (λ m. m.stream) c.new-module_places.ensures ∙ information told;
         modules = c.in_ok-modules.ensures.modules s information;

@@ -1,6 +1,0 @@
-use Rattle.std.proofs.Common.{◌≡◌, ◌++◌, map, take, drop}
-use Rattle.pdb_text.specs.OneLine.{in_line}
-use Rattle.tool_types.proofs.type_names.to_one_line.Given as goal
-
-abbrev pub invariant-loop-byte : goal.invariant-loop-byte
-invariant-loop-byte l = l.bytes ≡ map in_line (take l.byte-index l.fn.bytes) ++ drop l.byte-index l.fn.bytes
