@@ -14,8 +14,9 @@ use Rattle.pdb.specs.Inlinees.{InlineeEntry, inlinee_with}
 use Rattle.pdb_base.proofs.Places.{bind_ok}
 use Rattle.pdb_base.proofs.Numbers.{length_bytes}
 use Rattle.pdb_symbols.proofs.SymbolLaws.{one_for_four}
-use Rattle.pdb_resolve.specs.AsIfEmpty.{items_of}
-use Rattle.pdb_resolve.specs.ModuleCode.{Code, call_in, calls_in, inlined_at, inlinees_in, procedure_at, program_in, symbols_in}
+use Rattle.pdb_places.specs.AsIfEmpty.{items_of}
+use Rattle.pdb_places.specs.Pieces.{Code}
+use Rattle.pdb_code.specs.ModuleCode.{call_in, calls_in, inlined_at, inlinees_in, procedure_at, program_in, symbols_in}
 use Rattle.pdb_resolve.specs.Frames.{frames_in, inlined_frame, outer_frame}
 use Rattle.pdb_resolve.specs.FileParts.{names_in}
 use Rattle.pdb_resolve.specs.AcrossModules.{global_id_in}

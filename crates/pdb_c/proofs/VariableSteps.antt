@@ -1,7 +1,7 @@
 -- Variables that are put one after another.
 use Rattle.std.proofs.Common.{◌≡◌, ℕ, ◌+◌, List, [], ◌∷◌, ◌++◌, map, length, sym, ap, ◌∙◌, arith, length-append}
-use Rattle.pdb_resolve.specs.VariableViews.{shown_location, shown_variable}
-use Rattle.pdb_resolve.specs.declared.variables.VariableAt.{VariableAt}
+use Rattle.pdb_variables.specs.VariableViews.{shown_location, shown_variable}
+use Rattle.pdb_variables.specs.declared.variables.VariableAt.{VariableAt}
 use Rattle.pdb_c.specs.Rooms.{put}
 use Rattle.pdb_c.specs.declared.variables.PdbVariable.{PdbVariable}
 use Rattle.pdb_c.specs.declared.frames.PdbAddress.{PdbAddress}

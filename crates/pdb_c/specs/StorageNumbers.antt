@@ -1,9 +1,9 @@
 -- Where a variable is, in numbers.
 use Rattle.std.specs.Prelude.{ℕ, ℤ, pos}
-use Rattle.pdb_resolve.specs.VariableRecords.{Place}
-use Rattle.pdb_resolve.specs.VariableRecords.Place.{Whole, At, Value}
-use Rattle.pdb_resolve.specs.declared.locations.Storage.{Storage}
-use Rattle.pdb_resolve.specs.declared.locations.Storage.TheVariants.{Register, RegisterRelative, BasePointerRelative, FrameRelative, Program}
+use Rattle.pdb_variables.specs.VariableRecords.{Place}
+use Rattle.pdb_variables.specs.VariableRecords.Place.{Whole, At, Value}
+use Rattle.pdb_variables.specs.declared.locations.Storage.{Storage}
+use Rattle.pdb_variables.specs.declared.locations.Storage.TheVariants.{Register, RegisterRelative, BasePointerRelative, FrameRelative, Program}
 use Rattle.pdb_types.specs.TypeRows.{value_of}
 use Rattle.pdb_c.specs.MemberRows.{in_bits}
 use Rattle.pdb_c.specs.declared.storage_numbers.StorageNumbers.{StorageNumbers}

@@ -2,12 +2,12 @@
 use Rattle.std.specs.Prelude.{◌≡◌, ℕ, ◌+◌, List, [], ◌∷◌, ◌++◌, length, map, flat_map, Option, Some, None, is_some}
 use Rattle.std.specs.Option.{unwrap_or}
 use Rattle.pdb_resolve.specs.Resolved.{variables_of_file}
-use Rattle.pdb_resolve.specs.VariableRecords.{Place}
-use Rattle.pdb_resolve.specs.VariableRecords.Place.{Parts}
-use Rattle.pdb_resolve.specs.Variables.{Variable}
-use Rattle.pdb_resolve.specs.declared.locations.VariablePart.{VariablePart}
-use Rattle.pdb_resolve.specs.declared.variable_records.VariableKind.{VariableKind}
-use Rattle.pdb_resolve.specs.declared.variable_records.VariableKind.TheVariants.{Parameter, Local, Static, Thread, Constant}
+use Rattle.pdb_variables.specs.VariableRecords.{Place}
+use Rattle.pdb_variables.specs.VariableRecords.Place.{Parts}
+use Rattle.pdb_variables.specs.Variables.{Variable}
+use Rattle.pdb_variables.specs.declared.locations.VariablePart.{VariablePart}
+use Rattle.pdb_variables.specs.declared.variable_records.VariableKind.{VariableKind}
+use Rattle.pdb_variables.specs.declared.variable_records.VariableKind.TheVariants.{Parameter, Local, Static, Thread, Constant}
 use Rattle.pdb_c.specs.Rooms.{over}
 use Rattle.pdb_c.specs.Boundary.{room_code, both_code}
 use Rattle.pdb_c.specs.FrameRows.{place_asked, told_of}

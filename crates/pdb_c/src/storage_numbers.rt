@@ -1,7 +1,7 @@
 //! Where variables are, in numbers.
 
 ghost use Rattle.std.specs.Prelude.{◌≡◌, pos};
-ghost use Rattle.pdb_resolve.specs.VariableViews.{shown_location};
+ghost use Rattle.pdb_variables.specs.VariableViews.{shown_location};
 ghost use Rattle.pdb_types.specs.TypeRows.{value_of};
 ghost use Rattle.pdb_c.specs.MemberRows.{in_bits};
 ghost use Rattle.pdb_c.specs.StorageNumbers.{place_numbers, storage_numbers, stored, stored_nowhere};

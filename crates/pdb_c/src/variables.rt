@@ -5,7 +5,7 @@ ghost use Rattle.std.specs.Option.{is_some, unwrap_or};
 ghost use Rattle.pdb.specs.Error.{Error};
 ghost use Rattle.pdb.specs.Source.{Continues, IsKnown};
 ghost use Rattle.pdb.specs.Container.{opens};
-ghost use Rattle.pdb_resolve.specs.VariableViews.{shown_location, shown_variable};
+ghost use Rattle.pdb_variables.specs.VariableViews.{shown_location, shown_variable};
 ghost use Rattle.pdb_c.specs.Rooms.{put};
 ghost use Rattle.pdb_c.specs.Boundary.{IsRefused};
 ghost use Rattle.pdb_c.specs.FrameRows.{told_of};

@@ -4,7 +4,7 @@ use Rattle.std.specs.Prelude.{option_copied, IfOk, IfErr, IsErrOf, OnOk}
 use Rattle.pdb.specs.Error.{Error}
 use Rattle.pdb.specs.Error.TheVariants.{IoError, OutOfMemory}
 use Rattle.pdb.specs.Refusal.{Gives, Fails, ◌>>=◌}
-use Rattle.pdb_resolve.specs.AsIfEmpty.{if_found, if_read, OnlyFails}
+use Rattle.pdb_places.specs.AsIfEmpty.{if_found, if_read, OnlyFails}
 use Rattle.pdb_resolve.specs.declared.part.Part.{Part}
 use Rattle.pdb_resolve.specs.KeptParts.{IsAskedOf}
 

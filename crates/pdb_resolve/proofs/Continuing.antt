@@ -8,10 +8,10 @@ use Rattle.pdb_resolve.specs.declared.frames.FunctionNames.{FunctionNames}
 use Rattle.pdb_resolve.specs.declared.name_tables.NameTables.{NameTables}
 use Rattle.pdb_resolve.specs.declared.modules.Modules.{Modules}
 use Rattle.pdb_resolve.specs.declared.global_names.GlobalNames.{GlobalNames}
-use Rattle.pdb_resolve.specs.declared.public_names.PublicNames.{PublicNames}
+use Rattle.pdb_places.specs.declared.public_names.PublicNames.{PublicNames}
 use Rattle.pdb_resolve.specs.declared.tables.Tables.{Tables}
 use Rattle.pdb_resolve.specs.declared.kept_file.KeptFile.{KeptFile}
-use Rattle.pdb_resolve.specs.AsIfEmpty.{if_read}
+use Rattle.pdb_places.specs.AsIfEmpty.{if_read}
 use Rattle.pdb_resolve.specs.FileParts.{items_listed, modules_listed}
 use Rattle.pdb_resolve.specs.KeptParts.{IsAskedOf, IsMadeOf, IsPublicsOf, AreTablesOf, AreModulesOf, AreGlobalsOf, AreRead, codes_of, streams_of}
 use Rattle.pdb_resolve.specs.KeptNames.{AreNamesOf, IsFileKept}

@@ -12,7 +12,7 @@ use Rattle.pdb.specs.Modules.{ModuleEntry}
 use Rattle.pdb.specs.Answers.{module_info_in}
 use Rattle.pdb.specs.ModuleStream.{ModuleBytes, exports_of, imports_of}
 use Rattle.pdb.specs.CrossModule.{ImportedModule, Reference, reference_of, number_in, nothing, global_of}
-use Rattle.pdb_resolve.specs.AsIfEmpty.{if_found, if_read, read_or}
+use Rattle.pdb_places.specs.AsIfEmpty.{if_found, if_read, read_or}
 use Rattle.pdb_resolve.specs.FileParts.{module_read}
 use Rattle.pdb_resolve.specs.AcrossModules.{exported_id, exports_where, global_id, is_imported, reference_in}
 use Rattle.pdb_resolve.specs.ImportTables.{ImportTable, exports_for, id_among, ids_by, imports_or_none}

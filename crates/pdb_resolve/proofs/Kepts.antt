@@ -11,7 +11,7 @@ use Rattle.pdb.specs.Source.{State}
 use Rattle.pdb.specs.Modules.{ModuleEntry}
 use Rattle.pdb.specs.ModuleStream.{ModuleBytes}
 use Rattle.pdb.specs.Answers.{module_info_in}
-use Rattle.pdb_resolve.specs.AsIfEmpty.{if_found}
+use Rattle.pdb_places.specs.AsIfEmpty.{if_found}
 use Rattle.pdb_resolve.specs.declared.modules.Modules.{Modules}
 use Rattle.pdb_resolve.specs.FileParts.{modules_listed, module_read, module_numbered}
 use Rattle.pdb_resolve.specs.KeptParts.{boxed, codes_of, code_kept, streams_of, unkept, rooms_left, AreRead, AreModulesOf}

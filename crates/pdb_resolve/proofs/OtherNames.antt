@@ -4,14 +4,13 @@ use Rattle.std.specs.Option.{option_map}
 use Rattle.pdb.specs.PdbInternalSectionOffset.{PdbInternalSectionOffset}
 use Rattle.pdb.specs.ModuleStream.{ModuleBytes}
 use Rattle.pdb.specs.Qualified.{Qualified}
-use Rattle.pdb_resolve.specs.declared.function_names.FunctionName.{FunctionName}
+use Rattle.pdb_code.specs.declared.function_names.FunctionName.{FunctionName}
 use Rattle.pdb_resolve.specs.declared.modules.Modules.{Modules}
-use Rattle.pdb_resolve.specs.Frames.{plain}
-use Rattle.pdb_resolve.specs.PublicNames.{NamedPlace}
-use Rattle.pdb_resolve.specs.declared.function_names.Naming.{Naming}
-use Rattle.pdb_resolve.specs.KeptFrames.{IsNamed, IsNameOf, name_shown, shown_function_name}
+use Rattle.pdb_code.specs.Namings.{plain, IsNamed, IsNameOf, name_shown, shown_function_name}
+use Rattle.pdb_places.specs.PublicNames.{NamedPlace}
+use Rattle.pdb_code.specs.declared.function_names.Naming.{Naming}
 use Rattle.pdb_resolve.specs.KeptParts.{code_kept, code_where}
-use Rattle.pdb_resolve.specs.ModuleCode.{Leading}
+use Rattle.pdb_code.specs.ModuleCode.{Leading}
 use Rattle.pdb_resolve.specs.Resolved.{leading_where, named_by_public, public_named}
 
 -- a name that isn't qualified has these bytes

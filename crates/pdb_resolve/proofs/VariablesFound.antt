@@ -3,8 +3,9 @@ use Rattle.std.proofs.Common.{◌≡◌, ℕ, [], Option, Some, None, sym, ap, �
 use Rattle.pdb.specs.Inlinees.{InlineeEntry, inlinee_with}
 use Rattle.pdb.specs.ModuleStream.{ModuleBytes}
 use Rattle.pdb.specs.PdbInternalSectionOffset.{PdbInternalSectionOffset}
-use Rattle.pdb_resolve.specs.ModuleCode.{Code, function_at, inlinees_in, procedure_at, symbols_in}
-use Rattle.pdb_resolve.specs.Variables.{records_behind, records_if, variables_among, variables_at}
+use Rattle.pdb_places.specs.Pieces.{Code}
+use Rattle.pdb_code.specs.ModuleCode.{function_at, inlinees_in, procedure_at, symbols_in}
+use Rattle.pdb_variables.specs.Variables.{records_behind, records_if, variables_among, variables_at}
 
 pub none_found : (q : PdbInternalSectionOffset) (m : ModuleBytes) → function_at q m ≡ None → [] ≡ variables_at q m
 unfolding variables_at

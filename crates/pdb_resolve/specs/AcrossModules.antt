@@ -7,7 +7,7 @@ use Rattle.pdb.specs.Modules.{ModuleEntry}
 use Rattle.pdb.specs.ModuleStream.{ModuleBytes, imports_of, exports_of}
 use Rattle.pdb.specs.CrossModule.{Reference, reference_of, global_of}
 use Rattle.pdb.specs.Answers.{string_table_in}
-use Rattle.pdb_resolve.specs.AsIfEmpty.{if_read, read_or}
+use Rattle.pdb_places.specs.AsIfEmpty.{if_read, read_or}
 use Rattle.pdb.specs.Items.{ItemEntry}
 use Rattle.pdb.specs.Qualified.{Qualified}
 use Rattle.pdb_resolve.specs.Frames.{named_id, string_in}

@@ -7,7 +7,7 @@ use Rattle.pdb.specs.Items.{ItemEntry, known_items_in}
 use Rattle.pdb.specs.Modules.{ModuleEntry, modules_in}
 use Rattle.pdb.specs.ModuleStream.{ModuleBytes}
 use Rattle.pdb.specs.Answers.{debug_information_in, module_info_in, string_table_in}
-use Rattle.pdb_resolve.specs.AsIfEmpty.{items_of, if_read, if_found, read_or}
+use Rattle.pdb_places.specs.AsIfEmpty.{items_of, if_read, if_found, read_or}
 use Rattle.pdb_resolve.specs.Frames.{Names}
 
 -- the list of modules, where the DBI stream is there

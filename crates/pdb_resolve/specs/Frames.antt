@@ -12,8 +12,9 @@ use Rattle.pdb.specs.LineInfo.{LineInfo}
 use Rattle.pdb.specs.LineProgram.{ProgramOf}
 use Rattle.pdb.specs.Files.{FileOf, file_at}
 use Rattle.pdb_text.specs.OneLine.{one_line}
-use Rattle.pdb_resolve.specs.AsIfEmpty.{if_read}
-use Rattle.pdb_resolve.specs.ModuleCode.{program_in, Call, Named, unnamed, named_in, function_at, line_at, inlined_at}
+use Rattle.pdb_places.specs.AsIfEmpty.{if_read}
+use Rattle.pdb_code.specs.ModuleCode.{program_in, Call, Named, unnamed, named_in, function_at, line_at, inlined_at}
+use Rattle.pdb_code.specs.Namings.{plain}
 
 -- a frame: its function, with the name before it, how far the place is behind the record that has the name, its file, and its line and column
 pub record Frame : Type 0 where
@@ -46,10 +47,6 @@ file_in None index = None
 file_in (Some program) index = if_read (file_at program.checksums index)
 
 -- ---- frames
-
--- the name of a function that isn't qualified
-abbrev pub plain : List ℕ → Qualified
-plain name = record { scope = None; name = name }
 
 -- a frame with a line record, and without one
 abbrev pub frame_of : Option (List ℕ) → Option ProgramOf → Option Qualified → Option ℕ → Option LineInfo → Frame

@@ -3,7 +3,7 @@ use Rattle.std.specs.Prelude.{ℕ, ◌/◌, ◌%◌, ◌^◌, if◌then◌else�
 use Rattle.pdb.specs.Error.{Error}
 use Rattle.pdb.specs.Modules.{ModuleEntry}
 use Rattle.pdb.specs.CrossModule.{ImportedModule, Reference, reference_of, global_of}
-use Rattle.pdb_resolve.specs.AsIfEmpty.{if_read, read_or}
+use Rattle.pdb_places.specs.AsIfEmpty.{if_read, read_or}
 use Rattle.pdb_resolve.specs.AcrossModules.{exports_named, is_imported}
 use Rattle.pdb_resolve.specs.Frames.{string_in}
 

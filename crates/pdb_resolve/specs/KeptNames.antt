@@ -2,7 +2,7 @@
 use Rattle.std.specs.Prelude.{◌≡◌, true}
 use Rattle.pdb.specs.Source.{State}
 use Rattle.pdb.specs.Answers.{string_table_in, debug_information_in}
-use Rattle.pdb_resolve.specs.AsIfEmpty.{if_read}
+use Rattle.pdb_places.specs.AsIfEmpty.{if_read}
 use Rattle.pdb_resolve.specs.declared.tables.Tables.{Tables}
 use Rattle.pdb_resolve.specs.declared.kept_file.KeptFile.{KeptFile}
 use Rattle.pdb_resolve.specs.KeptParts.{IsAskedOf, AreModulesOf, AreTablesOf, AreGlobalsOf}

@@ -9,9 +9,9 @@ use Rattle.pdb_resolve.specs.declared.part.Part.{Part}
 use Rattle.pdb_resolve.specs.declared.name_tables.NameTables.{NameTables}
 use Rattle.pdb_resolve.specs.declared.modules.Modules.{Modules}
 use Rattle.pdb_resolve.specs.declared.global_names.GlobalNames.{GlobalNames}
-use Rattle.pdb_resolve.specs.declared.public_names.PublicNames.{PublicNames}
+use Rattle.pdb_places.specs.declared.public_names.PublicNames.{PublicNames}
 use Rattle.pdb.specs.Answers.{debug_information_in, global_symbols_in}
-use Rattle.pdb_resolve.specs.AsIfEmpty.{if_read}
+use Rattle.pdb_places.specs.AsIfEmpty.{if_read}
 use Rattle.pdb_resolve.specs.FileParts.{items_listed, modules_listed, module_numbered}
 
 -- what is kept of a part that was asked for is what was read; there is room for one that wasn't

@@ -4,15 +4,16 @@ use Rattle.std.specs.Option.{option_or}
 use Rattle.pdb.specs.PdbInternalSectionOffset.{PdbInternalSectionOffset}
 use Rattle.pdb.specs.ModuleStream.{ModuleBytes}
 use Rattle.pdb.specs.Answers.{address_map_in, debug_information_in, global_symbols_in}
-use Rattle.pdb_resolve.specs.AsIfEmpty.{if_read}
-use Rattle.pdb_resolve.specs.AddressPlaces.{place_at}
+use Rattle.pdb_places.specs.AsIfEmpty.{if_read}
+use Rattle.pdb_places.specs.AddressPlaces.{place_at}
 use Rattle.pdb_names.specs.Spelling.{spelled, text_of}
-use Rattle.pdb_resolve.specs.ModuleCode.{Code, Leading, Named, begins, begun_name, function_at, leading_at, named, procedure_at, procedures_in, unnamed}
-use Rattle.pdb_resolve.specs.ModulePlaces.{contributions_known, reaches, module_number_at}
-use Rattle.pdb_resolve.specs.Machines.{x86_by}
-use Rattle.pdb_resolve.specs.Leading.{leading_text}
-use Rattle.pdb_resolve.specs.PublicNames.{NamedPlace, public_at}
-use Rattle.pdb_resolve.specs.Variables.{Variable, variables_at}
+use Rattle.pdb_places.specs.Pieces.{Code}
+use Rattle.pdb_code.specs.ModuleCode.{Leading, Named, begins, begun_name, function_at, leading_at, named, procedure_at, procedures_in, unnamed}
+use Rattle.pdb_places.specs.ModulePlaces.{contributions_known, reaches, module_number_at}
+use Rattle.pdb_code.specs.Machines.{x86_by}
+use Rattle.pdb_code.specs.Leading.{leading_text}
+use Rattle.pdb_places.specs.PublicNames.{NamedPlace, public_at}
+use Rattle.pdb_variables.specs.Variables.{Variable, variables_at}
 use Rattle.pdb_resolve.specs.FileParts.{module_numbered, names_in}
 use Rattle.pdb_resolve.specs.AcrossModules.{global_id_in}
 use Rattle.pdb_resolve.specs.Frames.{Frame, frames_in, frame_without, no_frame}

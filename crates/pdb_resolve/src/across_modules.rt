@@ -8,17 +8,17 @@ ghost use Rattle.pdb.specs.Refusal.{Gives};
 ghost use Rattle.pdb.specs.Source.{Continues, MayFail};
 ghost use Rattle.pdb.specs.Text.{name_bytes};
 ghost use Rattle.pdb.specs.CrossModule.{global_of};
-ghost use Rattle.pdb_resolve.specs.AsIfEmpty.{OnlyFails};
+ghost use Rattle.pdb_places.specs.AsIfEmpty.{OnlyFails};
 ghost use Rattle.pdb_resolve.specs.Frames.{string_in};
 ghost use Rattle.pdb_resolve.specs.FileParts.{module_read, modules_where};
 ghost use Rattle.pdb_resolve.specs.AcrossModules.{exported_id, exports_named, exports_where, global_id, module_named, pairs_or_none, reference_in};
 
-use crate::as_if_empty::{if_read, read_or};
 use crate::modules::module_info;
 use pdb::{
     CrossModuleExports, CrossModuleRef, DebugInformation, Error, FallibleIterator, IdIndex, Local,
     Module, ModuleInfo, ModuleIter, ModuleRef, PDB, RawString, Result, Source, StringTable,
 };
+use pdb_places::as_if_empty::{if_read, read_or};
 use std::alloc::Global;
 
 /// What the imports of a module say of an id; none where they don't have it, or have an error.

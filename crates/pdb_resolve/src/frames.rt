@@ -5,22 +5,23 @@ ghost use Rattle.std.specs.Option.{option_map};
 ghost use Rattle.pdb.specs.FileViews.{shown_file};
 ghost use Rattle.pdb.specs.Qualified.{shown_qualified};
 ghost use Rattle.pdb.specs.Source.{Continues, MayFail};
-ghost use Rattle.pdb_resolve.specs.AsIfEmpty.{OnlyFails};
+ghost use Rattle.pdb_places.specs.AsIfEmpty.{OnlyFails};
 ghost use Rattle.pdb.specs.Text.{name_bytes};
-ghost use Rattle.pdb_resolve.specs.ModuleCode.{Named, program_in, line_at};
-ghost use Rattle.pdb_resolve.specs.Frames.{file_name as file_name_of, frame_named_by, frame_of, frame_without, inlined_frame, named_id, no_frame, plain};
-ghost use Rattle.pdb_resolve.specs.Kept.{shown_call};
-ghost use Rattle.pdb_resolve.specs.KeptFrames.{shown_frame, shown_function_name, names_of, global_of_call, frame_named, IsNamed, IsNamedIn};
+ghost use Rattle.pdb_code.specs.ModuleCode.{Named, program_in, line_at};
+ghost use Rattle.pdb_resolve.specs.Frames.{file_name as file_name_of, frame_named_by, frame_of, frame_without, inlined_frame, named_id, no_frame};
+ghost use Rattle.pdb_code.specs.Namings.{plain, shown_function_name, IsNamed};
+ghost use Rattle.pdb_code.specs.Kept.{shown_call};
+ghost use Rattle.pdb_resolve.specs.KeptFrames.{shown_frame, names_of, global_of_call, frame_named, IsNamedIn};
 
 use crate::across_modules::imported_id;
-use crate::calls::InlinedCall;
-use crate::function_names::{FunctionName, Naming};
 use crate::module_code::ModuleCode;
 use pdb::{
     DebugInformation, Error, FileIndex, FileInfo, IdIndex, ItemFinder, LineInfo, PDB,
     PdbInternalSectionOffset, QualifiedName, RawString, Result, Source, StringTable,
     qualified_name,
 };
+use pdb_code::calls::InlinedCall;
+use pdb_code::function_names::{FunctionName, Naming};
 use std::alloc::Global;
 
 /// A function whose code stands at a place, and the line there. Names are bytes as the file has them.

@@ -9,18 +9,18 @@ ghost use Rattle.pdb.specs.Refusal.{Gives};
 ghost use Rattle.pdb.specs.Qualified.{shown_qualified};
 ghost use Rattle.pdb.specs.Source.{Continues, MayFail};
 ghost use Rattle.pdb_modules.specs.ImportViews.{module_of};
-ghost use Rattle.pdb_resolve.specs.AsIfEmpty.{if_read, OnlyFails};
+ghost use Rattle.pdb_places.specs.AsIfEmpty.{if_read, OnlyFails};
 ghost use Rattle.pdb_resolve.specs.FileParts.{modules_where};
 ghost use Rattle.pdb_resolve.specs.AcrossModules.{global_id_in, is_imported, names_by};
 ghost use Rattle.pdb_resolve.specs.ImportTables.{exports_for, ids_by, imports_or_none};
 
 use crate::across_modules::{exports_named, name_of};
-use crate::as_if_empty::{if_read, read_or};
 use pdb::{
     CrossModuleExports, CrossModuleImports, DebugInformation, Error, IdIndex, ItemFinder,
     ModuleInfo, PDB, QualifiedName, Result, Source, StringTable, qualified_name,
 };
 use pdb_modules::Imported;
+use pdb_places::as_if_empty::{if_read, read_or};
 use std::alloc::Global;
 use std::marker::Model;
 

@@ -4,14 +4,14 @@ ghost use Rattle.std.specs.Prelude.{◌≡◌, option_copied, IfOk, IfErr, IsSom
 ghost use Rattle.std.specs.Option.{option_map};
 ghost use Rattle.pdb.specs.Source.{Continues, MayFail};
 ghost use Rattle.pdb.specs.Answers.{global_symbols_in};
-ghost use Rattle.pdb_resolve.specs.AsIfEmpty.{if_read, OnlyFails};
+ghost use Rattle.pdb_places.specs.AsIfEmpty.{if_read, OnlyFails};
 ghost use Rattle.pdb_resolve.specs.Resolved.{public_before_file};
 ghost use Rattle.pdb_resolve.specs.KeptParts.{IsAskedOf, AreGlobalsOf};
-ghost use Rattle.pdb_resolve.specs.PublicTable.{shown_found};
+ghost use Rattle.pdb_places.specs.PublicTable.{shown_found};
 
 use crate::part::Part;
-use crate::public_names::{PublicName, PublicNames};
 use pdb::{Error, PDB, PdbInternalSectionOffset, Result, Source, SymbolTable};
+use pdb_places::public_names::{PublicName, PublicNames};
 use std::alloc::Global;
 
 /// The stream of global symbols, and what is found by it.

@@ -6,33 +6,34 @@ ghost use Rattle.pdb.specs.Text.{name_bytes};
 ghost use Rattle.pdb.specs.ModuleStream.{ModuleBytes};
 ghost use Rattle.pdb.specs.Source.{Continues, MayFail, State};
 ghost use Rattle.pdb.specs.Answers.{debug_information_in};
-ghost use Rattle.pdb_resolve.specs.AsIfEmpty.{if_read, OnlyFails};
-ghost use Rattle.pdb_resolve.specs.ModulePlaces.{module_number_at};
+ghost use Rattle.pdb_places.specs.AsIfEmpty.{if_read, OnlyFails};
+ghost use Rattle.pdb_places.specs.ModulePlaces.{module_number_at};
 ghost use Rattle.pdb_resolve.specs.FileParts.{module_numbered};
-ghost use Rattle.pdb_resolve.specs.Frames.{frame_without, plain};
+ghost use Rattle.pdb_resolve.specs.Frames.{frame_without};
+ghost use Rattle.pdb_code.specs.Namings.{plain, IsNamed, IsNameOf, shown_function_name};
 ghost use Rattle.pdb_resolve.specs.Resolved.{begun_where, frames_of_file, function_where, leading_named, leading_where, module_of_place, named_by_public, other_of_file, procedure_where, procedures_where, public_counted, public_there, spelled_by, target_name, variables_where};
-ghost use Rattle.pdb_resolve.specs.ModuleCode.{Named, begins};
-ghost use Rattle.pdb_resolve.specs.Kept.{shown_leading};
-ghost use Rattle.pdb_resolve.specs.PublicTable.{shown_found};
-ghost use Rattle.pdb_resolve.specs.KeptFrames.{IsNamed, IsNameOf, shown_frame, shown_function_name};
-ghost use Rattle.pdb_resolve.specs.Listed.{shown_procedure};
-ghost use Rattle.pdb_resolve.specs.VariableViews.{shown_variable};
-ghost use Rattle.pdb_resolve.specs.Whole.{is_whole_at};
+ghost use Rattle.pdb_code.specs.ModuleCode.{Named, begins};
+ghost use Rattle.pdb_code.specs.Kept.{shown_leading};
+ghost use Rattle.pdb_places.specs.PublicTable.{shown_found};
+ghost use Rattle.pdb_resolve.specs.KeptFrames.{shown_frame};
+ghost use Rattle.pdb_code.specs.Listed.{shown_procedure};
+ghost use Rattle.pdb_variables.specs.VariableViews.{shown_variable};
+ghost use Rattle.pdb_resolve.specs.WholeModules.{is_whole_at};
 ghost use Rattle.pdb_resolve.specs.KeptParts.{code_kept, code_where, codes_of};
 
 use crate::frames::{Frame, frame_without, push_frame};
-use crate::function_names::{
+use crate::module_code::ModuleCode;
+use crate::modules::Modules;
+use crate::tables::Tables;
+use pdb::{Error, ModuleInfo, PDB, PdbInternalSectionOffset, RawString, Result, Source};
+use pdb_code::function_names::{
     FunctionName, Naming, is_x86, leading_name, name_read, naming_at, nothing, spelled_name,
 };
-use crate::leading::Leading;
-use crate::module_code::ModuleCode;
-use crate::module_places::ModulePlaces;
-use crate::modules::Modules;
-use crate::procedures::ListedProcedure;
-use crate::public_names::PublicName;
-use crate::tables::Tables;
-use crate::variables::VariableAt;
-use pdb::{Error, ModuleInfo, PDB, PdbInternalSectionOffset, RawString, Result, Source};
+use pdb_code::leading::Leading;
+use pdb_code::procedures::ListedProcedure;
+use pdb_places::module_places::ModulePlaces;
+use pdb_places::public_names::PublicName;
+use pdb_variables::variables::VariableAt;
 use std::alloc::Global;
 
 /// What is kept of a file: which modules are where, their code, and what names are found by.

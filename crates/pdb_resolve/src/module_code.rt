@@ -6,31 +6,32 @@ ghost use Rattle.pdb.specs.Data.{shown};
 ghost use Rattle.pdb.specs.FileViews.{shown_file};
 ghost use Rattle.pdb.specs.Text.{name_bytes};
 ghost use Rattle.pdb_resolve.specs.Frames.{file_in};
-ghost use Rattle.pdb_resolve.specs.Kept.{shown_call, shown_leading, IsListed};
-ghost use Rattle.pdb_resolve.specs.SaidNames.{name_said};
-ghost use Rattle.pdb_resolve.specs.KeptFrames.{shown_naming};
-ghost use Rattle.pdb_resolve.specs.Listed.{shown_procedure};
-ghost use Rattle.pdb_resolve.specs.Variables.{variables_at};
-ghost use Rattle.pdb_resolve.specs.VariableViews.{shown_variable};
-ghost use Rattle.pdb_resolve.specs.Whole.{is_whole};
-ghost use Rattle.pdb_resolve.specs.ModuleCode.{AreCodesApart, begins, begins_at, begun_name, function_at, further_in, index_of, inlined_at, leading_at, least_in, line_at, managed_at, managed_in, managed_named, name_at, named_by, named_in, other_at, others_in, procedure_at, procedure_name, procedure_name_at, procedures_in, program_in, says_at, symbols_in, trampolines_in};
+ghost use Rattle.pdb_code.specs.Kept.{shown_call, shown_leading, IsListed};
+ghost use Rattle.pdb_code.specs.SaidNames.{name_said};
+ghost use Rattle.pdb_code.specs.Namings.{shown_naming};
+ghost use Rattle.pdb_code.specs.Listed.{shown_procedure};
+ghost use Rattle.pdb_variables.specs.Variables.{variables_at};
+ghost use Rattle.pdb_variables.specs.VariableViews.{shown_variable};
+ghost use Rattle.pdb_code.specs.Whole.{is_whole};
+ghost use Rattle.pdb_places.specs.Pieces.{AreCodesApart, begins_at, index_of};
+ghost use Rattle.pdb_code.specs.ModuleCode.{begins, begun_name, function_at, further_in, inlined_at, leading_at, least_in, line_at, managed_at, managed_in, managed_named, name_at, named_by, named_in, other_at, others_in, procedure_at, procedure_name, procedure_name_at, procedures_in, program_in, says_at, symbols_in, trampolines_in};
 
-use crate::calls::{InlinedCall, calls_of, count_upto};
-use crate::function_names::{NamedCode, named_code};
-use crate::leading::{Leading, least_of};
-use crate::module_parts::{
-    KnownInlinees, are_all, first_managed, first_name, first_said, read_inlinees, read_program,
-    read_rows, starts_of,
-};
-use crate::open_scopes::CodePlace;
-use crate::procedures::{ListedProcedure, procedure_with, ranges_of};
-use crate::ranges::Ranges;
-use crate::site::{KeptSite, measure};
-use crate::variables::{VariableAt, variables_of};
 use pdb::{
     Error, FileIndex, FileInfo, InlineeFinder, LineInfo, LinePlaces, ModuleInfo,
     PdbInternalSectionOffset, RawString, Result, Steps, SymbolData, SymbolIndex,
 };
+use pdb_code::calls::{InlinedCall, calls_of, count_upto};
+use pdb_code::function_names::{NamedCode, named_code};
+use pdb_code::leading::{Leading, least_of};
+use pdb_code::module_parts::{
+    KnownInlinees, are_all, first_managed, first_name, first_said, read_inlinees, read_program,
+    read_rows, starts_of,
+};
+use pdb_code::procedures::{ListedProcedure, procedure_with, ranges_of};
+use pdb_code::site::{KeptSite, measure};
+use pdb_places::ranges::Ranges;
+use pdb_variables::open_scopes::CodePlace;
+use pdb_variables::variables::{VariableAt, variables_of};
 use std::alloc::Global;
 use std::collections::BTreeMap;
 use std::marker::Model;
@@ -59,12 +60,13 @@ pub struct ModuleCode<'a> {
 impl<'a> Model for ModuleCode<'a> {
     ghost use Rattle.std.specs.Prelude.{◌≡◌};
     ghost use Rattle.pdb.specs.ModuleStream.{ModuleBytes};
-    ghost use Rattle.pdb_resolve.specs.ModuleCode.{procedures_in, others_in, managed_in, trampolines_in, program_in, inlinees_in};
+    ghost use Rattle.pdb_code.specs.ModuleCode.{procedures_in, others_in, managed_in, trampolines_in, program_in, inlinees_in};
     ghost use Rattle.pdb.specs.Inlinees.{inlinee_with};
     ghost use Rattle.std.specs.Prelude.{map};
-    ghost use Rattle.pdb_resolve.specs.Kept.{AreLeastIn, AreStartsIfMade, IsKeptOf, sites_in};
-    ghost use Rattle.pdb_resolve.specs.Listed.{shown_procedure, entry_of, AreBounded};
-    ghost use Rattle.pdb_resolve.specs.Whole.{is_whole};
+    ghost use Rattle.pdb_code.specs.Kept.{AreLeastIn, sites_in};
+    ghost use Rattle.pdb_places.specs.Pieces.{AreStartsIfMade, IsKeptOf};
+    ghost use Rattle.pdb_code.specs.Listed.{shown_procedure, entry_of, AreBounded};
+    ghost use Rattle.pdb_code.specs.Whole.{is_whole};
 
     ghost Value = { ModuleBytes };
 
@@ -243,7 +245,7 @@ impl<'a> ModuleCode<'a> {
 
     /// The variables that are in scope at a place, in the order of their records. They are those of the function there
     /// and of the calls that are inlined there. It fails with out of memory alone.
-    #[tactic(auto, unfolding(crate::specs::Variables::variables_at))]
+    #[tactic(auto, unfolding(pdb_variables::specs::Variables::variables_at))]
     pub fn variables_at(
         &self,
         alloc: Global,

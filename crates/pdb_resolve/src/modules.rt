@@ -6,24 +6,24 @@ ghost use Rattle.pdb.specs.ModuleStream.{ModuleBytes};
 ghost use Rattle.pdb.specs.Answers.{module_info_in, debug_information_in};
 ghost use Rattle.pdb.specs.Source.{Continues, MayFail, State};
 ghost use Rattle.pdb.specs.DbiViews.{modules_left};
-ghost use Rattle.pdb_resolve.specs.AsIfEmpty.{if_found, if_read, OnlyFails};
+ghost use Rattle.pdb_places.specs.AsIfEmpty.{if_found, if_read, OnlyFails};
 ghost use Rattle.pdb_resolve.specs.FileParts.{module_numbered, modules_where};
-ghost use Rattle.pdb_resolve.specs.ModuleCode.{begins};
+ghost use Rattle.pdb_code.specs.ModuleCode.{begins};
 ghost use Rattle.pdb_resolve.specs.Resolved.{begun_where, procedure_where, procedures_where};
-ghost use Rattle.pdb_resolve.specs.Listed.{shown_procedure};
+ghost use Rattle.pdb_code.specs.Listed.{shown_procedure};
 ghost use Rattle.std.specs.Option.{option_map};
 ghost use Rattle.pdb.specs.Text.{name_bytes};
-ghost use Rattle.pdb_resolve.specs.Whole.{is_whole_numbered};
+ghost use Rattle.pdb_resolve.specs.WholeModules.{is_whole_numbered};
 ghost use Rattle.pdb_resolve.specs.KeptParts.{AreModulesOf, boxed, code_kept, codes_of, rooms_left, stream_kept, streams_of};
 
-use crate::as_if_empty::if_read;
 use crate::module_code::ModuleCode;
 use crate::part::put_down;
-use crate::procedures::ListedProcedure;
 use pdb::{
     DebugInformation, Error, FallibleIterator, Module, ModuleInfo, ModuleIter, PDB,
     PdbInternalSectionOffset, RawString, Result, Source,
 };
+use pdb_code::procedures::ListedProcedure;
+use pdb_places::as_if_empty::if_read;
 use std::alloc::Global;
 
 /// Whether a listed module has no stream.

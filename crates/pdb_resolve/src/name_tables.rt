@@ -6,16 +6,16 @@ ghost use Rattle.pdb.specs.Items.{ItemEntry};
 ghost use Rattle.pdb.specs.Refusal.{Gives};
 ghost use Rattle.pdb.specs.Source.{Continues, MayFail};
 ghost use Rattle.pdb.specs.Container.{stream_of};
-ghost use Rattle.pdb_resolve.specs.AsIfEmpty.{if_read, OnlyFails};
+ghost use Rattle.pdb_places.specs.AsIfEmpty.{if_read, OnlyFails};
 ghost use Rattle.pdb_resolve.specs.FileParts.{items_or_none, items_where};
 ghost use Rattle.pdb_resolve.specs.KeptParts.{IsAskedOf, AreTablesOf};
 
-use crate::as_if_empty::read_or;
 use crate::frames::FunctionNames;
 use crate::part::Part;
 use pdb::{
     DebugInformation, Error, IdInformation, ItemFinder, PDB, Result, Source, TypeInformation,
 };
+use pdb_places::as_if_empty::read_or;
 use std::alloc::Global;
 
 /// The streams of ids and of types, and the tables of both, each made where the first inlined function is met.

@@ -2,12 +2,12 @@
 
 ghost use Rattle.std.specs.Prelude.{◌≡◌, ◌⊎◌, ◌+◌, false, true, length, Result, option_copied, Err, IfOk, IfErr, OnOk};
 ghost use Rattle.pdb.specs.Refusal.{Gives};
-ghost use Rattle.pdb_resolve.specs.AsIfEmpty.{if_read};
+ghost use Rattle.pdb_places.specs.AsIfEmpty.{if_read};
 ghost use Rattle.pdb.specs.Error.{Error};
 ghost use Rattle.pdb.specs.Error.TheVariants.{IoError, OutOfMemory};
 
-use crate::as_if_empty::if_read;
 use pdb::{Error, Result};
+use pdb_places::as_if_empty::if_read;
 
 /// A part of a file. It is asked for once, and what is there is kept in a buffer outside.
 #[derive(Drop)]

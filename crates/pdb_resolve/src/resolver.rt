@@ -3,30 +3,30 @@
 ghost use Rattle.std.specs.Prelude.{◌≡◌, ◌++◌, false, map, option_copied, IfOk, IfErr, OnOk, OnErr, true};
 ghost use Rattle.pdb.specs.Source.{Continues, MayFail};
 ghost use Rattle.pdb.specs.Answers.{address_map_in, debug_information_in};
-ghost use Rattle.pdb_resolve.specs.AsIfEmpty.{if_read, OnlyFails};
+ghost use Rattle.pdb_places.specs.AsIfEmpty.{if_read, OnlyFails};
 ghost use Rattle.pdb_resolve.specs.Frames.{displaced_frames, frames_text};
 ghost use Rattle.pdb_resolve.specs.Resolved.{place_of_file, frames_of_file, module_of_place, variables_of_file};
 ghost use Rattle.pdb_resolve.specs.KeptFrames.{shown_frame};
-ghost use Rattle.pdb_resolve.specs.VariableViews.{shown_variable};
-ghost use Rattle.pdb_resolve.specs.Whole.{is_whole_at};
+ghost use Rattle.pdb_variables.specs.VariableViews.{shown_variable};
+ghost use Rattle.pdb_resolve.specs.WholeModules.{is_whole_at};
 
-use crate::address_places::AddressPlaces;
-use crate::as_if_empty::if_read;
 use crate::frames::{Frame, frame_nowhere, push_frame};
 use crate::global_names::GlobalNames;
 use crate::kept_file::KeptFile;
-use crate::module_places::ModulePlaces;
 use crate::modules::modules_from;
 use crate::name_tables::NameTables;
 use crate::part::Part;
 use crate::streams::Streams;
 use crate::tables::Tables;
 use crate::text::{put_displaced_frames, put_frames};
-use crate::variables::VariableAt;
 use pdb::{
     AddressMap, DebugInformation, Error, Meaning, ModuleInfo, PDB, PdbInternalSectionOffset,
     Result, Source,
 };
+use pdb_places::address_places::AddressPlaces;
+use pdb_places::as_if_empty::if_read;
+use pdb_places::module_places::ModulePlaces;
+use pdb_variables::variables::VariableAt;
 use std::alloc::Global;
 use std::marker::Model;
 use std::slice;
@@ -60,7 +60,7 @@ impl<'a, 's, S: Meaning> Model for Resolver<'a, 's, S> {
     ghost use Rattle.std.specs.Prelude.{◌≡◌, true};
     ghost use Rattle.pdb.specs.Source.{State};
     ghost use Rattle.pdb.specs.Answers.{address_map_in};
-    ghost use Rattle.pdb_resolve.specs.AsIfEmpty.{if_read};
+    ghost use Rattle.pdb_places.specs.AsIfEmpty.{if_read};
     ghost use Rattle.pdb_resolve.specs.KeptNames.{IsFileKept};
 
     ghost Value = { State };

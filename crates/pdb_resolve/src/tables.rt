@@ -4,23 +4,24 @@ ghost use Rattle.std.specs.Prelude.{◌≡◌, ◌++◌, [], ◌∷◌, map, rev
 ghost use Rattle.std.specs.Option.{option_map};
 ghost use Rattle.pdb.specs.Source.{Continues, MayFail};
 ghost use Rattle.pdb.specs.Answers.{string_table_in};
-ghost use Rattle.pdb_resolve.specs.AsIfEmpty.{if_read, OnlyFails};
+ghost use Rattle.pdb_places.specs.AsIfEmpty.{if_read, OnlyFails};
 ghost use Rattle.pdb_resolve.specs.FileParts.{names_in};
 ghost use Rattle.pdb_resolve.specs.AcrossModules.{global_id_in};
 ghost use Rattle.pdb_resolve.specs.Frames.{frames_in, inlined_frame, outer_named};
-ghost use Rattle.pdb_resolve.specs.ModuleCode.{Named, program_in, inlined_at, procedure_at};
-ghost use Rattle.pdb_resolve.specs.Listed.{shown_procedure};
-ghost use Rattle.pdb_resolve.specs.KeptFrames.{shown_frame, IsNamed};
+ghost use Rattle.pdb_code.specs.ModuleCode.{Named, program_in, inlined_at, procedure_at};
+ghost use Rattle.pdb_code.specs.Listed.{shown_procedure};
+ghost use Rattle.pdb_resolve.specs.KeptFrames.{shown_frame};
+ghost use Rattle.pdb_code.specs.Namings.{IsNamed};
 ghost use Rattle.pdb_resolve.specs.KeptParts.{IsAskedOf, AreTablesOf};
 
 use crate::frames::{Frame, push_inlined, push_outer};
-use crate::function_names::{Naming, nothing};
 use crate::global_names::GlobalNames;
 use crate::module_code::ModuleCode;
 use crate::name_tables::NameTables;
 use crate::part::Part;
-use crate::procedures::ListedProcedure;
 use pdb::{Error, PDB, PdbInternalSectionOffset, Result, Source, StringTable};
+use pdb_code::function_names::{Naming, nothing};
+use pdb_code::procedures::ListedProcedure;
 use std::alloc::Global;
 
 /// The string table, the names of functions, and the public symbols.

@@ -6,11 +6,12 @@ ghost use Rattle.std.specs.Option.{option_map};
 ghost use Rattle.pdb.specs.Qualified.{shown_qualified};
 ghost use Rattle.pdb.specs.Text.{name_bytes};
 ghost use Rattle.pdb_resolve.specs.Frames.{known_text, scoped_text, name_text, file_text, frame_text, frames_text, displacement_text, displaced_text, displaced_frames};
-ghost use Rattle.pdb_resolve.specs.KeptFrames.{shown_frame, shown_function_name};
+ghost use Rattle.pdb_resolve.specs.KeptFrames.{shown_frame};
+ghost use Rattle.pdb_code.specs.Namings.{shown_function_name};
 
 use crate::frames::Frame;
-use crate::function_names::FunctionName;
 use pdb::{QualifiedName, RawString};
+use pdb_code::function_names::FunctionName;
 use pdb_text::{put_decimal, put_line_end, put_one_line, put_short_hex};
 use std::alloc::AllocError;
 

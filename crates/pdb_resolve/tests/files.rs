@@ -35,47 +35,6 @@ pub fn numbers(alloc: Global, numbers: &[u32]) -> Result<Vec<u8>> {
     Ok(bytes)
 }
 
-/// Twelve pages of 512 bytes: 1 has the directory's list, 2 the directory, and each of the others one of nine streams,
-/// of which 3, 5, 7 and 8 are given, and have 1 to 512 bytes each; 6 is empty, and the others are too.
-pub fn file_of(
-    alloc: Global,
-    dbi: &[u8],
-    table: &[u8],
-    sections: &[u8],
-    original: &[u8],
-) -> Result<Vec<u8>> {
-    let mut bytes = vec![in alloc; 0u8; 6144]?;
-    let dbi_size = dbi.len().min(512) as u32;
-    let table_size = table.len().min(512) as u32;
-    let sections_size = sections.len().min(512) as u32;
-    let original_size = original.len().min(512) as u32;
-    let directory = [
-        9,
-        0,
-        0,
-        0,
-        dbi_size,
-        0,
-        table_size,
-        0,
-        sections_size,
-        original_size,
-        6,
-        8,
-        10,
-        11,
-    ];
-    put(&mut bytes, 0, b"Microsoft C/C++ MSF 7.00\r\n\x1aDS\0\0\0");
-    put_numbers(&mut bytes, 32, &[512, 1, 12, 56, 0, 1]);
-    put_numbers(&mut bytes, 512, &[2]);
-    put_numbers(&mut bytes, 1024, &directory);
-    put(&mut bytes, 3072, dbi);
-    put(&mut bytes, 4096, table);
-    put(&mut bytes, 5120, sections);
-    put(&mut bytes, 5632, original);
-    Ok(bytes)
-}
-
 /// A file of nine streams of at most a page each, which stand in the pages from 3 on; 1 has the directory's list, and 2
 /// the directory.
 pub fn file_of_streams(alloc: Global, streams: [&[u8]; 9]) -> Result<Vec<u8>> {

@@ -11,7 +11,7 @@ use Rattle.pdb.specs.LineInfo.{LineInfo}
 use Rattle.pdb.specs.PdbInternalSectionOffset.{PdbInternalSectionOffset}
 use Rattle.pdb.specs.Qualified.{Qualified}
 use Rattle.pdb.specs.Tables.{Addresses}
-use Rattle.pdb_resolve.specs.PlaceAddresses.{address_for}
+use Rattle.pdb_places.specs.PlaceAddresses.{address_for}
 use Rattle.tool_check.specs.Findings.{finding_value, sound_value}
 use Rattle.tool_search.specs.FoundObjects.{HasRecord, address_value, found_value, where_value}
 use Rattle.tool_output.specs.Objects.{optional_value}

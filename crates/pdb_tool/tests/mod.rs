@@ -1,5 +1,6 @@
 //! Texts of small streams that are made by hand.
 
+mod absent;
 mod asked;
 mod checks;
 mod each_file;

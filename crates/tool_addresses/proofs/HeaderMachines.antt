@@ -6,7 +6,7 @@ use Rattle.pdb.specs.Error.{Error}
 use Rattle.pdb.specs.Header.{header_of}
 use Rattle.pdb.specs.Refusal.{◌>>=◌}
 use Rattle.pdb_records.specs.Machines.{machine_of_image}
-use Rattle.pdb_resolve.specs.AsIfEmpty.{if_read}
+use Rattle.pdb_places.specs.AsIfEmpty.{if_read}
 use Rattle.tool_fields.specs.ModuleMachines.{file_machine, machine_of_header}
 
 read_of : (r : Result (List ℕ) Error) (b : List ℕ) (h : DBIHeader) → Some b ≡ if_read r → header_of b ≡ Ok h → machine_of_image h.machine_type ≡ machine_of_header (r >>= header_of)

@@ -9,7 +9,7 @@ use Rattle.std.proofs.lemmas.List.{append-nil, append_assoc, drop_all, length-dr
 use Rattle.std.proofs.lemmas.List.FromFn.{map-range_with_len_more}
 use Rattle.pdb_records.specs.declared.machine.Machine.{Machine}
 use Rattle.pdb_resolve.specs.Frames.{Frame, frame_text}
-use Rattle.pdb_resolve.specs.Variables.{Variable}
+use Rattle.pdb_variables.specs.Variables.{Variable}
 use Rattle.tool_addresses.specs.OwnedLines.{Keeps, call_texts, calls_behind, first_text, further_texts, last_texts, lines_of_calls, own_behind, with_line}
 use Rattle.tool_addresses.specs.declared.variable_texts.OwnedLines.{OwnedLines}
 use Rattle.tool_addresses.specs.VariableTexts.{framed, is_owner, line_of, lines_of, owner_before, variable_line}

@@ -3,7 +3,7 @@ use Rattle.std.specs.Prelude.{ℕ, List, Bool, true, Option, Some, None}
 use Rattle.pdb.specs.PdbInternalSectionOffset.{PdbInternalSectionOffset}
 use Rattle.pdb_resolve.specs.Frames.{displaced_frames, frames_text}
 use Rattle.pdb_resolve.specs.Resolved.{place_of_file, frames_of_file}
-use Rattle.pdb_resolve.specs.Whole.{is_whole_at}
+use Rattle.pdb_resolve.specs.WholeModules.{is_whole_at}
 use Rattle.tool_addresses.specs.VariableTexts.{variables_text}
 use Rattle.tool_arguments.specs.declared.asked.Asked.{Asked}
 use Rattle.tool_arguments.specs.declared.asked.Asked.TheVariants.{Address, Place, Nowhere}

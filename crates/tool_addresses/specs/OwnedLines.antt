@@ -2,7 +2,7 @@
 use Rattle.std.specs.Prelude.{◌≡◌, ℕ, zero, suc, List, [], ◌∷◌, ◌++◌, map, reverse, Option, Some, None}
 use Rattle.std.specs.List.{range_with_len}
 use Rattle.pdb_records.specs.declared.machine.Machine.{Machine}
-use Rattle.pdb_resolve.specs.Variables.{Variable}
+use Rattle.pdb_variables.specs.Variables.{Variable}
 use Rattle.tool_addresses.specs.VariableTexts.{lines_of}
 use Rattle.tool_addresses.specs.declared.variable_texts.OwnedLines.{OwnedLines}
 

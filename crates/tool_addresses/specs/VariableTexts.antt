@@ -4,16 +4,16 @@ use Rattle.pdb.specs.ModuleStream.{ModuleBytes}
 use Rattle.pdb.specs.PdbInternalSectionOffset.{PdbInternalSectionOffset}
 use Rattle.pdb_records.specs.declared.machine.Machine.{Machine}
 use Rattle.pdb_resolve.specs.Frames.{Frame, frame_text}
-use Rattle.pdb_resolve.specs.ModuleCode.{symbols_in}
+use Rattle.pdb_code.specs.ModuleCode.{symbols_in}
 use Rattle.pdb_resolve.specs.Resolved.{frames_of_file, module_of_place, variables_of_file}
-use Rattle.pdb_resolve.specs.VariableRecords.{Place}
-use Rattle.pdb_resolve.specs.VariableRecords.Place.{Nowhere, Whole, Parts, At, Value}
-use Rattle.pdb_resolve.specs.Variables.{Variable}
-use Rattle.pdb_resolve.specs.declared.locations.Storage.{Storage}
-use Rattle.pdb_resolve.specs.declared.locations.Storage.TheVariants.{Register, RegisterRelative, BasePointerRelative, FrameRelative, Program}
-use Rattle.pdb_resolve.specs.declared.locations.VariablePart.{VariablePart}
-use Rattle.pdb_resolve.specs.declared.variable_records.VariableKind.{VariableKind}
-use Rattle.pdb_resolve.specs.declared.variable_records.VariableKind.TheVariants.{Parameter, Local, Static, Thread, Constant}
+use Rattle.pdb_variables.specs.VariableRecords.{Place}
+use Rattle.pdb_variables.specs.VariableRecords.Place.{Nowhere, Whole, Parts, At, Value}
+use Rattle.pdb_variables.specs.Variables.{Variable}
+use Rattle.pdb_variables.specs.declared.locations.Storage.{Storage}
+use Rattle.pdb_variables.specs.declared.locations.Storage.TheVariants.{Register, RegisterRelative, BasePointerRelative, FrameRelative, Program}
+use Rattle.pdb_variables.specs.declared.locations.VariablePart.{VariablePart}
+use Rattle.pdb_variables.specs.declared.variable_records.VariableKind.{VariableKind}
+use Rattle.pdb_variables.specs.declared.variable_records.VariableKind.TheVariants.{Parameter, Local, Static, Thread, Constant}
 use Rattle.tool_fields.specs.ModuleMachines.{file_machine, module_machine}
 use Rattle.tool_symbols.specs.VariablePlaces.{base_pointer, in_frame, memory_text, part_text, program_text}
 use Rattle.tool_fields.specs.Values.{behind_blank, place_text}

@@ -3,9 +3,9 @@
 ghost use Rattle.std.specs.Prelude.{◌≡◌, ◌++◌, ℕ, List, [], map, option_copied, replicate, IfOk, IfErr, OnOk, true};
 ghost use Rattle.pdb.specs.Answers.{debug_information_in};
 ghost use Rattle.pdb.specs.Source.{Continues, MayFail};
-ghost use Rattle.pdb_resolve.specs.AsIfEmpty.{if_read};
+ghost use Rattle.pdb_places.specs.AsIfEmpty.{if_read};
 ghost use Rattle.pdb_resolve.specs.KeptFrames.{shown_frame};
-ghost use Rattle.pdb_resolve.specs.VariableViews.{shown_location, shown_variable};
+ghost use Rattle.pdb_variables.specs.VariableViews.{shown_location, shown_variable};
 ghost use Rattle.tool_fields.specs.ModuleMachines.{file_machine};
 ghost use Rattle.tool_addresses.specs.OwnedLines.{Keeps, call_texts, calls_behind, first_text, further_texts, last_texts, own_behind, with_line};
 ghost use Rattle.tool_addresses.specs.VariableTexts.{framed, framed_text, further_parts, kind_word, location_text, machine_at, parts_text, storage_text, stored_part, variable_line, variables_text};

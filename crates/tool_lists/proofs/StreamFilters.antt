@@ -4,7 +4,7 @@ use Rattle.std.specs.List.{filter, range_with_len}
 use Rattle.std.specs.List.Sorted.{IsNonDecreasingBy, IsStableByKey}
 use Rattle.std.specs.Ordering.{nat_cmp}
 use Rattle.pdb.specs.Container.{stream_size}
-use Rattle.pdb_resolve.specs.AsIfEmpty.{if_read}
+use Rattle.pdb_places.specs.AsIfEmpty.{if_read}
 use Rattle.tool_lists.specs.StreamOrder.{is_of, rises}
 use Rattle.tool_lists.specs.StreamRoles.{StreamRole, role_view, stream_number}
 use Rattle.tool_lists.specs.StreamTexts.{line_in, role_line, stream_line}

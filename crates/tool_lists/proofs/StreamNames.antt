@@ -10,7 +10,7 @@ use Rattle.tool_output.proofs.Refused.{refused_is}
 use Rattle.pdb.specs.Information.{Information}
 use Rattle.pdb.specs.Names.{Name, names_of}
 use Rattle.pdb.specs.Answers.{information_in}
-use Rattle.pdb_resolve.specs.AsIfEmpty.{if_read}
+use Rattle.pdb_places.specs.AsIfEmpty.{if_read}
 use Rattle.tool_output.specs.FileNames.{names_in}
 
 abbrev size : Option Information → ℕ

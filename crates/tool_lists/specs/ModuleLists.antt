@@ -8,7 +8,7 @@ use Rattle.pdb.specs.Contributions.{contributions_in}
 use Rattle.pdb.specs.Modules.{ModuleEntry, modules_in}
 use Rattle.pdb.specs.Answers.{debug_information_in}
 use Rattle.pdb_text.specs.OneLine.{one_line}
-use Rattle.pdb_resolve.specs.AsIfEmpty.{items_of}
+use Rattle.pdb_places.specs.AsIfEmpty.{items_of}
 use Rattle.tool_lists.specs.ModuleSizes.{bytes_of_module}
 use Rattle.tool_output.specs.Absent.{if_there}
 use Rattle.tool_output.specs.ErrorObjects.{fault_in, told_in}

@@ -4,7 +4,7 @@ use Rattle.std.specs.Fmt.{decimal}
 use Rattle.std.specs.List.{filter, range_with_len}
 use Rattle.json.specs.Json.{Json, null, array, object, Items, no_items, item, Members, no_members, member}
 use Rattle.pdb.specs.Error.{Error}
-use Rattle.pdb_resolve.specs.AsIfEmpty.{if_read}
+use Rattle.pdb_places.specs.AsIfEmpty.{if_read}
 use Rattle.pdb.specs.ExtraStreams.{extra_streams_in}
 use Rattle.pdb.specs.Left.{Left}
 use Rattle.pdb.specs.Names.{Name}

@@ -9,7 +9,7 @@ ghost use Rattle.pdb.specs.Contributions.{contributions_in};
 ghost use Rattle.pdb.specs.DbiViews.{modules_left, modules_steps};
 ghost use Rattle.pdb.specs.Error.{Error};
 ghost use Rattle.pdb.specs.Source.{Continues, MayFail, IsKnown};
-ghost use Rattle.pdb_resolve.specs.AsIfEmpty.{items_of};
+ghost use Rattle.pdb_places.specs.AsIfEmpty.{items_of};
 ghost use Rattle.pdb_text.specs.Written.{WroteFront};
 ghost use Rattle.tool_lists.specs.ModuleLists.{listed_in, listed_line, listed_value, module_list_text, modules_command, modules_of_stream, object_member, object_text, object_value};
 ghost use Rattle.tool_lists.specs.ModuleSizes.{bytes_of_module, size_in};

@@ -7,7 +7,7 @@ ghost use Rattle.std.specs.Option.{option_map};
 ghost use Rattle.pdb.specs.Container.{opens, stream_of, stream_size};
 ghost use Rattle.pdb.specs.Answers.{information_in};
 ghost use Rattle.pdb.specs.DbiViews.{information as information_said};
-ghost use Rattle.pdb_resolve.specs.AsIfEmpty.{if_read};
+ghost use Rattle.pdb_places.specs.AsIfEmpty.{if_read};
 ghost use Rattle.tool_output.specs.FileNames.{names_in};
 ghost use Rattle.pdb.specs.Error.{Error};
 ghost use Rattle.pdb.specs.Source.{Continues, MayFail, IsKnown};

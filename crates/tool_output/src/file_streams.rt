@@ -4,7 +4,7 @@ ghost use Rattle.std.specs.Prelude.{◌≡◌, None, true, IfOk, IfErr};
 ghost use Rattle.pdb.specs.Container.{stream_of};
 ghost use Rattle.pdb.specs.Answers.{string_table_in};
 ghost use Rattle.pdb.specs.Source.{Continues, MayFail};
-ghost use Rattle.pdb_resolve.specs.AsIfEmpty.{if_read};
+ghost use Rattle.pdb_places.specs.AsIfEmpty.{if_read};
 ghost use Rattle.tool_output.specs.Stops.{StopsComposing};
 
 use crate::stop::Stop;

@@ -18,15 +18,15 @@ use Rattle.pdb.specs.ModuleStream.{ModuleBytes, inlinees_of, symbols_of}
 use Rattle.pdb.specs.Qualified.{Qualified}
 use Rattle.pdb.specs.Tables.{Addresses}
 use Rattle.pdb.specs.Answers.{address_map_in, debug_information_in, global_symbols_in}
-use Rattle.pdb_resolve.specs.Machines.{x86_by}
+use Rattle.pdb_code.specs.Machines.{x86_by}
 use Rattle.pdb_names.specs.Spelling.{spelled, text_of}
 use Rattle.pdb_text.specs.OneLine.{one_line}
-use Rattle.pdb_resolve.specs.AsIfEmpty.{if_read}
+use Rattle.pdb_places.specs.AsIfEmpty.{if_read}
 use Rattle.pdb_resolve.specs.FileParts.{items_listed}
 use Rattle.pdb_resolve.specs.AcrossModules.{call_name}
 use Rattle.pdb_resolve.specs.Frames.{qualified_text}
-use Rattle.pdb_resolve.specs.ModuleCode.{inlinees_in}
-use Rattle.pdb_resolve.specs.PlaceAddresses.{address_for}
+use Rattle.pdb_code.specs.ModuleCode.{inlinees_in}
+use Rattle.pdb_places.specs.PlaceAddresses.{address_for}
 use Rattle.tool_output.specs.Absent.{if_there, there_in}
 use Rattle.tool_output.specs.ErrorObjects.{fault_in, fault_of, list_fault_of, told_in, told_of}
 use Rattle.tool_search.specs.FoundObjects.{found_value}

@@ -8,7 +8,7 @@ use Rattle.pdb.specs.LineInfo.{LineInfo}
 use Rattle.pdb.specs.PdbInternalSectionOffset.{PdbInternalSectionOffset}
 use Rattle.pdb.specs.Qualified.{Qualified}
 use Rattle.pdb.specs.Tables.{Addresses}
-use Rattle.pdb_resolve.specs.PlaceAddresses.{address_for}
+use Rattle.pdb_places.specs.PlaceAddresses.{address_for}
 use Rattle.tool_search.specs.FrameObjects.{file_value, name_value}
 use Rattle.tool_output.specs.Objects.{number_value, optional_value, text_value}
 use Rattle.tool_fields.specs.Values.{address_text, place_text}

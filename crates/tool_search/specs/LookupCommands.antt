@@ -1,7 +1,7 @@
 -- The texts of the commands that look names and files up.
 use Rattle.std.specs.Prelude.{ℕ, List, ◌++◌}
 use Rattle.pdb.specs.Answers.{string_table_in}
-use Rattle.pdb_resolve.specs.AsIfEmpty.{if_read}
+use Rattle.pdb_places.specs.AsIfEmpty.{if_read}
 use Rattle.tool_search.specs.SourceTexts.{sources_text}
 use Rattle.tool_search.specs.FindTexts.{Finding, find_in, finding_in, globals_found}
 use Rattle.tool_arguments.specs.SourcesAsked.{SourceOf}

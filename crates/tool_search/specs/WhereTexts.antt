@@ -17,11 +17,12 @@ use Rattle.pdb.specs.ModuleStream.{ModuleBytes, inlinees_of, line_program_of, sy
 use Rattle.pdb.specs.Qualified.{Qualified}
 use Rattle.pdb.specs.Tables.{Addresses}
 use Rattle.pdb.specs.Answers.{address_map_in, string_table_in}
-use Rattle.pdb_resolve.specs.AsIfEmpty.{if_read}
+use Rattle.pdb_places.specs.AsIfEmpty.{if_read}
 use Rattle.pdb_resolve.specs.FileParts.{items_listed}
 use Rattle.pdb_resolve.specs.AcrossModules.{call_name}
-use Rattle.pdb_resolve.specs.Frames.{file_in, file_name, file_text, name_text, plain}
-use Rattle.pdb_resolve.specs.ModuleCode.{inlinees_in, name_at, program_in}
+use Rattle.pdb_resolve.specs.Frames.{file_in, file_name, file_text, name_text}
+use Rattle.pdb_code.specs.Namings.{plain}
+use Rattle.pdb_code.specs.ModuleCode.{inlinees_in, name_at, program_in}
 use Rattle.tool_output.specs.ErrorObjects.{fault_of, list_fault_of, told_of}
 use Rattle.tool_search.specs.FindTexts.{Parent, has_bytes, parent_said, site_records, stretch_text}
 use Rattle.tool_search.specs.FoundObjects.{where_value}

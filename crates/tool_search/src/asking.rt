@@ -6,7 +6,7 @@ ghost use Rattle.std.specs.Fmt.{decimal};
 ghost use Rattle.pdb.specs.Qualified.{shown_qualified};
 ghost use Rattle.pdb.specs.Text.{name_bytes};
 ghost use Rattle.pdb_resolve.specs.Frames.{file_text, name_text};
-ghost use Rattle.pdb_resolve.specs.ModuleCode.{name_at};
+ghost use Rattle.pdb_code.specs.ModuleCode.{name_at};
 ghost use Rattle.tool_search.specs.FindTexts.{has_bytes as has_bytes_in};
 ghost use Rattle.tool_arguments.specs.SourceViews.{source_view};
 ghost use Rattle.tool_search.specs.WhereTexts.{asks_for_file, file_of_record, is_wanted, position_text, where_line, where_line_in};

@@ -6,7 +6,7 @@ ghost use Rattle.json.specs.Token.{begin_object, key};
 ghost use Rattle.json.specs.Tree.{json_tokens, members_tokens};
 ghost use Rattle.pdb.specs.Qualified.{shown_qualified};
 ghost use Rattle.pdb.specs.Text.{name_bytes};
-ghost use Rattle.pdb_resolve.specs.PlaceAddresses.{address_for};
+ghost use Rattle.pdb_places.specs.PlaceAddresses.{address_for};
 ghost use Rattle.tool_search.specs.FoundObjects.{address_value, found_value, function_member, position_members, stretch_tokens, where_value};
 ghost use Rattle.tool_output.specs.Objects.{Adds, json_line, optional_value, text_value};
 ghost use Rattle.tool_fields.specs.Values.{place_text};

@@ -8,7 +8,8 @@ ghost use Rattle.json.specs.Tree.{json_tokens, members_tokens};
 ghost use Rattle.pdb.specs.Qualified.{shown_qualified};
 ghost use Rattle.pdb.specs.Text.{name_bytes};
 ghost use Rattle.pdb_resolve.specs.Frames.{qualified_text};
-ghost use Rattle.pdb_resolve.specs.KeptFrames.{shown_frame, shown_function_name};
+ghost use Rattle.pdb_resolve.specs.KeptFrames.{shown_frame};
+ghost use Rattle.pdb_code.specs.Namings.{shown_function_name};
 ghost use Rattle.tool_search.specs.FrameObjects.{asked_value, file_value, frame_items, frame_value, frames_member, line_members, name_value, unasked_value};
 ghost use Rattle.tool_output.specs.Objects.{Adds, json_line, text_value};
 

@@ -7,7 +7,7 @@ ghost use Rattle.pdb.specs.Error.{Error};
 ghost use Rattle.pdb.specs.Answers.{address_map_in, debug_information_in, global_symbols_in, string_table_in};
 ghost use Rattle.pdb.specs.Header.{header_of};
 ghost use Rattle.pdb.specs.Source.{Continues, MayFail, IsKnown};
-ghost use Rattle.pdb_resolve.specs.AsIfEmpty.{if_read};
+ghost use Rattle.pdb_places.specs.AsIfEmpty.{if_read};
 ghost use Rattle.pdb_resolve.specs.FileParts.{items_where};
 ghost use Rattle.pdb_text.specs.Written.{WroteFront};
 ghost use Rattle.tool_search.specs.FindTexts.{globals_found, x86_in};

@@ -12,8 +12,9 @@ ghost use Rattle.pdb.specs.Qualified.{shown_qualified};
 ghost use Rattle.pdb.specs.Text.{name_bytes};
 ghost use Rattle.pdb.specs.Views.{symbol_of, symbols_left};
 ghost use Rattle.pdb_resolve.specs.CallViews.{names_of_calls};
-ghost use Rattle.pdb_resolve.specs.Frames.{file_in, file_name, name_text, plain};
-ghost use Rattle.pdb_resolve.specs.ModuleCode.{name_at, program_in};
+ghost use Rattle.pdb_resolve.specs.Frames.{file_in, file_name, name_text};
+ghost use Rattle.pdb_code.specs.Namings.{plain};
+ghost use Rattle.pdb_code.specs.ModuleCode.{name_at, program_in};
 ghost use Rattle.tool_search.specs.FindTexts.{parent_said};
 ghost use Rattle.tool_search.specs.Finders.{parent_view};
 ghost use Rattle.tool_search.specs.WhereTexts.{asks_for_file, call_text, calls_text, file_of_record, is_wanted, lines_text, position_text, record_text, records_text, site_text, sites_left_text, where_line_in, where_text};
@@ -224,7 +225,7 @@ fn put_sites(
 }
 
 /// The text of `where` of module `k`: its line records that are asked for, and then those of its inlined calls.
-#[tactic(auto, unfolding(crate::specs::WhereTexts::where_text, crate::specs::WhereTexts::lines_text, pdb_resolve::specs::ModuleCode::program_in))]
+#[tactic(auto, unfolding(crate::specs::WhereTexts::where_text, crate::specs::WhereTexts::lines_text, pdb_code::specs::ModuleCode::program_in))]
 pub fn put_where<'a>(
     alloc: Global,
     out: &mut Vec<u8>,

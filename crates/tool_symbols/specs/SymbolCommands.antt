@@ -2,7 +2,7 @@
 use Rattle.std.specs.Prelude.{ℕ, List, [], ◌∷◌, None}
 use Rattle.pdb.specs.ModuleStream.{ModuleBytes}
 use Rattle.pdb.specs.Answers.{global_symbols_in, string_table_in}
-use Rattle.pdb_resolve.specs.AsIfEmpty.{if_read}
+use Rattle.pdb_places.specs.AsIfEmpty.{if_read}
 use Rattle.pdb.specs.Container.{stream_of}
 use Rattle.pdb_resolve.specs.AcrossModules.{global_id_in}
 use Rattle.pdb_resolve.specs.ImportTables.{ImportTable, ids_by}

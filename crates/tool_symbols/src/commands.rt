@@ -6,7 +6,7 @@ ghost use Rattle.pdb.specs.Container.{opens, stream_of};
 ghost use Rattle.pdb.specs.Error.{Error};
 ghost use Rattle.pdb.specs.Answers.{global_symbols_in, string_table_in};
 ghost use Rattle.pdb.specs.Source.{Continues, MayFail, IsKnown};
-ghost use Rattle.pdb_resolve.specs.AsIfEmpty.{if_read};
+ghost use Rattle.pdb_places.specs.AsIfEmpty.{if_read};
 ghost use Rattle.pdb_resolve.specs.FileParts.{items_where};
 ghost use Rattle.pdb_resolve.specs.ImportTables.{ids_by};
 ghost use Rattle.pdb_text.specs.Written.{WroteFront};

@@ -20,7 +20,7 @@ ghost use Rattle.pdb.specs.Left.{Left};
 ghost use Rattle.pdb.specs.ModuleStream.{symbols_of};
 ghost use Rattle.pdb.specs.SymbolList.{Entry};
 ghost use Rattle.pdb_records.specs.RecordReading.{further_at};
-ghost use Rattle.pdb_resolve.specs.ModuleCode.{symbols_in};
+ghost use Rattle.pdb_code.specs.ModuleCode.{symbols_in};
 ghost use Rattle.tool_fields.specs.Values.{behind_blank};
 ghost use Rattle.tool_fields.specs.ValueTexts.{kind_text};
 
@@ -372,7 +372,7 @@ fn put_symbol_list(
 }
 
 /// The machine of a module's symbols; the header's where they have an error.
-#[tactic(auto, unfolding(pdb_resolve::specs::ModuleCode::symbols_in))]
+#[tactic(auto, unfolding(pdb_code::specs::ModuleCode::symbols_in))]
 pub fn machine_in(
     alloc: Global,
     header: Option<Machine>,

@@ -1,5 +1,5 @@
 use Rattle.std.proofs.Common.{◌+◌, drop, length}
-use Rattle.pdb_resolve.specs.VariableViews.{shown_variable}
+use Rattle.pdb_variables.specs.VariableViews.{shown_variable}
 use Rattle.pdb_c.specs.VariableRows.{part_row}
 use Rattle.pdb_c.proofs.Putting.{drop_next}
 use Rattle.pdb_c.proofs.VariableSteps.{parts_counted, parts_next}

@@ -1,5 +1,5 @@
 use Rattle.std.proofs.Common.{◌≡◌, ◌+◌, length, drop, map}
-use Rattle.pdb_resolve.specs.VariableViews.{shown_variable}
+use Rattle.pdb_variables.specs.VariableViews.{shown_variable}
 use Rattle.pdb_c.specs.Rooms.{put}
 use Rattle.pdb_c.specs.VariableRows.{part_row}
 use Rattle.pdb_c.proofs.variables.put_part_rows.Given as goal

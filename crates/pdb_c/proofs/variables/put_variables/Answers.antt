@@ -1,5 +1,5 @@
 use Rattle.std.proofs.Common.{◌≡◌, ◌+◌, ◌∷◌, drop, sym, ap, ◌∙◌}
-use Rattle.pdb_resolve.specs.declared.variables.VariableAt.{VariableAt}
+use Rattle.pdb_variables.specs.declared.variables.VariableAt.{VariableAt}
 use Rattle.pdb_c.proofs.Putting.{drop_next}
 use Rattle.pdb_c.proofs.VariableSteps.{names_next, sizes_next, variables_counted, variables_next}
 use Rattle.pdb_c.proofs.variables.put_variables.Goals as goal

@@ -1,9 +1,9 @@
 use Rattle.std.proofs.Common.{◌≡◌, true, ◌++◌, length, map, reverse}
 use Rattle.std.specs.Prelude.{option_copied}
 use Rattle.pdb.specs.Source.{Continues}
-use Rattle.pdb_resolve.specs.ModuleCode.{program_in}
+use Rattle.pdb_code.specs.ModuleCode.{program_in}
 use Rattle.pdb_resolve.specs.Frames.{inlined_frame}
-use Rattle.pdb_resolve.specs.Kept.{shown_call}
+use Rattle.pdb_code.specs.Kept.{shown_call}
 use Rattle.pdb_resolve.specs.KeptFrames.{shown_frame, names_of, global_of_call, IsNamedIn}
 use Rattle.pdb_resolve.proofs.frames.push_inlined.Given as goal
 

@@ -1,7 +1,7 @@
 use Rattle.std.proofs.Common.{sym, ap}
 use Rattle.std.specs.Prelude.{None}
 use Rattle.pdb.specs.Container.{stream_of}
-use Rattle.pdb_resolve.specs.AsIfEmpty.{if_read}
+use Rattle.pdb_places.specs.AsIfEmpty.{if_read}
 use Rattle.pdb_resolve.proofs.Continuing.{asked_more}
 use Rattle.pdb_resolve.proofs.Asking.{told, asked_then, room_then}
 use Rattle.pdb_resolve.proofs.name_tables.ids_asked.Goals as goal

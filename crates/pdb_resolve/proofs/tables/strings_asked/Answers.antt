@@ -1,6 +1,6 @@
 use Rattle.std.proofs.Common.{sym, ap}
 use Rattle.pdb.specs.Answers.{string_table_in}
-use Rattle.pdb_resolve.specs.AsIfEmpty.{if_read}
+use Rattle.pdb_places.specs.AsIfEmpty.{if_read}
 use Rattle.pdb_resolve.proofs.Continuing.{asked_more}
 use Rattle.pdb_resolve.proofs.Asking.{told, asked_then, room_then}
 use Rattle.pdb_resolve.proofs.tables.strings_asked.Goals as goal

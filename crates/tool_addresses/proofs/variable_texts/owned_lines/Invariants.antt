@@ -1,5 +1,5 @@
 use Rattle.std.proofs.Common.{map, take}
-use Rattle.pdb_resolve.specs.VariableViews.{shown_variable}
+use Rattle.pdb_variables.specs.VariableViews.{shown_variable}
 use Rattle.tool_addresses.specs.OwnedLines.{Keeps}
 use Rattle.tool_addresses.proofs.variable_texts.owned_lines.Given as goal
 

@@ -1,6 +1,6 @@
 use Rattle.std.proofs.Common.{◌+◌, ◌-◌, length, map}
 use Rattle.pdb_resolve.specs.KeptFrames.{shown_frame}
-use Rattle.pdb_resolve.specs.VariableViews.{shown_variable}
+use Rattle.pdb_variables.specs.VariableViews.{shown_variable}
 use Rattle.tool_addresses.proofs.OwnedLines.{frame_put, kept_fewer, kept_last, next_frame}
 use Rattle.tool_addresses.proofs.variable_texts.put_framed.Goals as goal
 

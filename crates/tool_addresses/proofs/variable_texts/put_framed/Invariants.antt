@@ -1,6 +1,6 @@
 use Rattle.std.proofs.Common.{◌≡◌, ◌++◌, ◌+◌, ◌-◌, map, drop, length}
 use Rattle.pdb_resolve.specs.KeptFrames.{shown_frame}
-use Rattle.pdb_resolve.specs.VariableViews.{shown_variable}
+use Rattle.pdb_variables.specs.VariableViews.{shown_variable}
 use Rattle.tool_addresses.specs.OwnedLines.{Keeps}
 use Rattle.tool_addresses.specs.VariableTexts.{framed}
 use Rattle.tool_addresses.proofs.variable_texts.put_framed.Given as goal

@@ -1,6 +1,6 @@
 use Rattle.std.proofs.Common.{sym}
 use Rattle.std.proofs.lemmas.Bool.{ltb-false, ltb-true}
-use Rattle.pdb_resolve.specs.VariableViews.{shown_variable}
+use Rattle.pdb_variables.specs.VariableViews.{shown_variable}
 use Rattle.tool_addresses.specs.VariableTexts.{variable_line}
 use Rattle.tool_addresses.proofs.OwnedLines.{put_nowhere, put_there}
 use Rattle.tool_fields.proofs.Results.{on_ok}

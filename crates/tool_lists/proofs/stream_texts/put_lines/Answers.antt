@@ -1,6 +1,6 @@
 use Rattle.std.proofs.Common.{ap, map, ◌∙◌}
 use Rattle.pdb.specs.Container.{stream_size}
-use Rattle.pdb_resolve.specs.AsIfEmpty.{if_read}
+use Rattle.pdb_places.specs.AsIfEmpty.{if_read}
 use Rattle.tool_lists.specs.StreamRoles.{role_view, stream_number}
 use Rattle.tool_lists.specs.StreamTexts.{line_in, role_line}
 use Rattle.tool_lists.proofs.StreamOrder.{here_is, one_more, rises_next, same_next}

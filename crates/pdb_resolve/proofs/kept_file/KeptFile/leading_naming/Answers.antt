@@ -1,9 +1,8 @@
 use Rattle.std.proofs.Common.{◌≡◌, ℕ, List, Option, ap, ◌∙◌}
 use Rattle.std.specs.Prelude.{option_copied}
 use Rattle.std.specs.Option.{option_map}
-use Rattle.pdb_resolve.specs.Frames.{plain}
-use Rattle.pdb_resolve.specs.KeptFrames.{name_shown}
-use Rattle.pdb_resolve.specs.Leading.{leading_text}
+use Rattle.pdb_code.specs.Namings.{plain, name_shown}
+use Rattle.pdb_code.specs.Leading.{leading_text}
 use Rattle.pdb_resolve.specs.Resolved.{target_name}
 use Rattle.pdb_resolve.proofs.OtherNames.{bytes_of_name}
 use Rattle.pdb_resolve.proofs.kept_file.KeptFile.leading_naming.Goals as goal

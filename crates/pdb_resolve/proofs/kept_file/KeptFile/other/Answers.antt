@@ -1,6 +1,6 @@
 use Rattle.std.proofs.Common.{sym, ap, ◌∙◌}
 use Rattle.std.specs.Option.{option_map}
-use Rattle.pdb_resolve.specs.Kept.{shown_leading}
+use Rattle.pdb_code.specs.Kept.{shown_leading}
 use Rattle.pdb_resolve.proofs.OtherNames.{still_where}
 use Rattle.pdb_resolve.proofs.kept_file.KeptFile.other.Goals as goal
 

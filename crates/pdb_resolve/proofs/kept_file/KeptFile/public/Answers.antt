@@ -1,7 +1,7 @@
 use Rattle.std.proofs.Common.{sym, ap, ◌∙◌}
 use Rattle.std.specs.Option.{option_map}
 use Rattle.pdb.specs.Text.{name_bytes}
-use Rattle.pdb_resolve.specs.PublicTable.{shown_found}
+use Rattle.pdb_places.specs.PublicTable.{shown_found}
 use Rattle.pdb_resolve.specs.Resolved.{spelled_by}
 use Rattle.pdb_resolve.proofs.OtherNames.{public_names}
 use Rattle.pdb_resolve.proofs.kept_file.KeptFile.public.Goals as goal

@@ -1,11 +1,11 @@
 use Rattle.std.proofs.Common.{◌≡◌, ℕ, List, Option, Some, sym, ap, subst, ◌∙◌, map, drop}
 use Rattle.std.specs.Option.{option_map}
 use Rattle.pdb.specs.Inlinees.{InlineeEntry, inlinee_with}
-use Rattle.pdb_resolve.specs.declared.site.KeptSite.{KeptSite}
-use Rattle.pdb_resolve.specs.ModuleCode.{inlined_at, procedure_at}
-use Rattle.pdb_resolve.specs.Kept.{calls_until, AreRising, IsBehind}
-use Rattle.pdb_resolve.specs.Listed.{shown_procedure, entry_of}
-use Rattle.pdb_resolve.proofs.SiteCalls.{on_ok, calls_found, sites_rise}
+use Rattle.pdb_code.specs.declared.site.KeptSite.{KeptSite}
+use Rattle.pdb_code.specs.ModuleCode.{inlined_at, procedure_at}
+use Rattle.pdb_code.specs.Kept.{calls_until, AreRising, IsBehind}
+use Rattle.pdb_code.specs.Listed.{shown_procedure, entry_of}
+use Rattle.pdb_code.proofs.SiteCalls.{on_ok, calls_found, sites_rise}
 use Rattle.pdb_resolve.proofs.module_code.ModuleCode.inlined_in.Goals as goal
 
 pub count_upto-requires : goal.count_upto-requires

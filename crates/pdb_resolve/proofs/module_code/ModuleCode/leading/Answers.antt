@@ -1,8 +1,8 @@
 use Rattle.std.proofs.Common.{sym, subst, ◌∙◌}
 use Rattle.pdb.specs.ModuleStream.{ModuleBytes}
-use Rattle.pdb_resolve.specs.ModuleCode.{symbols_in}
-use Rattle.pdb_resolve.specs.Kept.{IsListed}
-use Rattle.pdb_resolve.proofs.SiteCalls.{trampoline_listed}
+use Rattle.pdb_code.specs.ModuleCode.{symbols_in}
+use Rattle.pdb_code.specs.Kept.{IsListed}
+use Rattle.pdb_code.proofs.SiteCalls.{trampoline_listed}
 use Rattle.pdb_resolve.proofs.module_code.ModuleCode.leading.Goals as goal
 
 pub said-requires : goal.said-requires

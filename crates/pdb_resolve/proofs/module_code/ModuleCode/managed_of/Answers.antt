@@ -1,8 +1,8 @@
 use Rattle.std.proofs.Common.{sym, ap, ◌∙◌}
 use Rattle.pdb.specs.Views.{symbols_left}
 use Rattle.pdb.specs.ModuleStream.{symbols_at_of}
-use Rattle.pdb_resolve.specs.ModuleCode.{managed_named}
-use Rattle.pdb_resolve.proofs.SiteCalls.{further_there, not_there}
+use Rattle.pdb_code.specs.ModuleCode.{managed_named}
+use Rattle.pdb_code.proofs.SiteCalls.{further_there, not_there}
 use Rattle.pdb_resolve.proofs.module_code.ModuleCode.managed_of.Goals as goal
 
 pub returns-in-Ok : goal.returns-in-Ok

@@ -1,6 +1,6 @@
 use Rattle.std.proofs.Common.{sym, subst}
-use Rattle.pdb_resolve.specs.Kept.{AreRising}
-use Rattle.pdb_resolve.proofs.SiteCalls.{sites_rise}
+use Rattle.pdb_code.specs.Kept.{AreRising}
+use Rattle.pdb_code.proofs.SiteCalls.{sites_rise}
 use Rattle.pdb_resolve.proofs.module_code.ModuleCode.measure.Goals as goal
 
 pub count_upto-from-requires : goal.count_upto-from-requires

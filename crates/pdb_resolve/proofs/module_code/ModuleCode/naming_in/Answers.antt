@@ -1,5 +1,5 @@
 use Rattle.std.proofs.Common.{sym}
-use Rattle.pdb_resolve.proofs.SiteCalls.{function_listed}
+use Rattle.pdb_code.proofs.SiteCalls.{function_listed}
 use Rattle.pdb_resolve.proofs.module_code.ModuleCode.naming_in.Goals as goal
 
 pub said-requires : goal.said-requires

@@ -1,6 +1,6 @@
 use Rattle.std.proofs.Common.{ap, arith}
-use Rattle.pdb_resolve.specs.ModuleCode.{others_in, managed_in}
-use Rattle.pdb_resolve.proofs.Pieces.{looks_halved}
+use Rattle.pdb_code.specs.ModuleCode.{others_in, managed_in}
+use Rattle.pdb_places.proofs.Pieces.{looks_halved}
 use Rattle.pdb_resolve.proofs.module_code.ModuleCode.other_counted.Goals as goal
 
 pub returns-in-Some-clause-halved : goal.returns-in-Some-clause-halved

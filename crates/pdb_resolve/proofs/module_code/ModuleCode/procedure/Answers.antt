@@ -1,11 +1,11 @@
 use Rattle.std.proofs.Common.{List, sym, ap, subst, ◌∙◌}
 use Rattle.std.specs.Option.{option_map}
-use Rattle.pdb_resolve.specs.declared.procedures.ListedProcedure.{ListedProcedure}
-use Rattle.pdb_resolve.specs.ModuleCode.{procedure_at, procedures_in}
-use Rattle.pdb_resolve.specs.Listed.{shown_procedure, listed_with, AreNumbersRising}
-use Rattle.pdb_resolve.proofs.FoundProcedures.{procedure_found, numbers_rise}
-use Rattle.pdb_resolve.proofs.Scopes.{CodesRise}
-use Rattle.pdb_resolve.proofs.SiteCalls.{procedures_rise}
+use Rattle.pdb_code.specs.declared.procedures.ListedProcedure.{ListedProcedure}
+use Rattle.pdb_code.specs.ModuleCode.{procedure_at, procedures_in}
+use Rattle.pdb_code.specs.Listed.{shown_procedure, listed_with, AreNumbersRising}
+use Rattle.pdb_code.proofs.FoundProcedures.{procedure_found, numbers_rise}
+use Rattle.pdb_code.proofs.Scopes.{CodesRise}
+use Rattle.pdb_code.proofs.SiteCalls.{procedures_rise}
 use Rattle.pdb_resolve.proofs.module_code.ModuleCode.procedure.Goals as goal
 
 pub procedure_with-requires : goal.procedure_with-requires

@@ -1,9 +1,9 @@
 use Rattle.std.proofs.Common.{Some, None, sym, ap, ◌∙◌}
 use Rattle.std.specs.Option.{option_map}
 use Rattle.pdb.specs.Text.{name_bytes}
-use Rattle.pdb_resolve.specs.Listed.{shown_procedure}
-use Rattle.pdb_resolve.specs.ModuleCode.{Named}
-use Rattle.pdb_resolve.proofs.ProcedureNames.{procedure_named, procedure_there}
+use Rattle.pdb_code.specs.Listed.{shown_procedure}
+use Rattle.pdb_code.specs.ModuleCode.{Named}
+use Rattle.pdb_code.proofs.ProcedureNames.{procedure_named, procedure_there}
 use Rattle.pdb_resolve.proofs.module_code.ModuleCode.procedure_naming.Goals as goal
 
 pub titled-requires : goal.titled-requires

@@ -1,7 +1,7 @@
 use Rattle.std.proofs.Common.{sym, ap, ◌∙◌}
 use Rattle.pdb.specs.Views.{symbols_left}
 use Rattle.pdb.specs.ModuleStream.{symbols_at_of}
-use Rattle.pdb_resolve.proofs.SiteCalls.{on_ok, said_there, not_there}
+use Rattle.pdb_code.proofs.SiteCalls.{on_ok, said_there, not_there}
 use Rattle.pdb_resolve.proofs.module_code.ModuleCode.said.Goals as goal
 
 pub returns-in-Ok-clause-says : goal.returns-in-Ok-clause-says

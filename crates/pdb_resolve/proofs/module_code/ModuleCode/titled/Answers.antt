@@ -1,8 +1,8 @@
 use Rattle.std.proofs.Common.{sym, ap, ◌∙◌}
 use Rattle.pdb.specs.Views.{symbols_left}
 use Rattle.pdb.specs.ModuleStream.{symbols_at_of}
-use Rattle.pdb_resolve.specs.SaidNames.{name_said}
-use Rattle.pdb_resolve.proofs.SiteCalls.{on_ok, said_there, not_there}
+use Rattle.pdb_code.specs.SaidNames.{name_said}
+use Rattle.pdb_code.proofs.SiteCalls.{on_ok, said_there, not_there}
 use Rattle.pdb_resolve.proofs.module_code.ModuleCode.titled.Goals as goal
 
 pub returns-in-Ok-clause-name : goal.returns-in-Ok-clause-name

@@ -1,10 +1,10 @@
 use Rattle.std.proofs.Common.{◌≡◌, Some, map, sym, ap, subst, ◌∙◌}
 use Rattle.pdb.specs.ModuleStream.{ModuleBytes}
-use Rattle.pdb_resolve.specs.Kept.{IsListed}
-use Rattle.pdb_resolve.specs.ModuleCode.{function_at, procedure_at, symbols_in}
-use Rattle.pdb_resolve.specs.Variables.{variables_at}
-use Rattle.pdb_resolve.specs.VariableViews.{shown_variable}
-use Rattle.pdb_resolve.proofs.SiteCalls.{function_listed, on_ok}
+use Rattle.pdb_code.specs.Kept.{IsListed}
+use Rattle.pdb_code.specs.ModuleCode.{function_at, procedure_at, symbols_in}
+use Rattle.pdb_variables.specs.Variables.{variables_at}
+use Rattle.pdb_variables.specs.VariableViews.{shown_variable}
+use Rattle.pdb_code.proofs.SiteCalls.{function_listed, on_ok}
 use Rattle.pdb_resolve.proofs.VariablesFound.{none_found, those_found}
 use Rattle.pdb_resolve.proofs.module_code.ModuleCode.variables_at.Goals as goal
 

@@ -1,6 +1,6 @@
 use Rattle.std.proofs.Common.{sym, ap, ◌∙◌}
 use Rattle.std.specs.Prelude.{option_copied}
-use Rattle.pdb_resolve.proofs.WholeParts.{whole_absent, whole_read, whole_unread}
+use Rattle.pdb_resolve.proofs.WholeModules.{whole_absent, whole_read, whole_unread}
 use Rattle.pdb_resolve.proofs.modules.Modules.is_whole.Goals as goal
 
 pub returns-in-Some : goal.returns-in-Some

@@ -2,7 +2,7 @@ use Rattle.std.proofs.Common.{sym, ap, ◌∙◌}
 use Rattle.pdb.specs.Container.{stream_of}
 use Rattle.pdb.specs.Answers.{debug_information_in}
 use Rattle.std.specs.Prelude.{None}
-use Rattle.pdb_resolve.specs.AsIfEmpty.{if_read}
+use Rattle.pdb_places.specs.AsIfEmpty.{if_read}
 use Rattle.pdb_resolve.specs.FileParts.{items_where, items_listed}
 use Rattle.pdb_resolve.proofs.Continuing.{asked_on}
 use Rattle.pdb_resolve.proofs.name_tables.NameTables.make.Goals as goal

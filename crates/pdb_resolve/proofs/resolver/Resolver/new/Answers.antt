@@ -1,7 +1,7 @@
 use Rattle.std.proofs.Common.{◌≡◌, true, sym, ap, ◌∙◌, arith}
 use Rattle.std.specs.Prelude.{option_copied}
 use Rattle.pdb.specs.Answers.{address_map_in, debug_information_in}
-use Rattle.pdb_resolve.specs.AsIfEmpty.{if_read}
+use Rattle.pdb_places.specs.AsIfEmpty.{if_read}
 use Rattle.pdb_resolve.proofs.Continuing.{unasked_is}
 use Rattle.pdb_resolve.proofs.resolver.Resolver.new.Goals as goal
 

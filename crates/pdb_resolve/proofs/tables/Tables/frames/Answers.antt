@@ -2,10 +2,10 @@ use Rattle.std.proofs.Common.{ℕ, List, [], ◌∷◌, ◌++◌, Option, map, r
 use Rattle.std.specs.Prelude.{option_copied}
 use Rattle.pdb.specs.Answers.{string_table_in}
 use Rattle.pdb_resolve.specs.AcrossModules.{global_id_in}
-use Rattle.pdb_resolve.specs.AsIfEmpty.{if_read}
+use Rattle.pdb_places.specs.AsIfEmpty.{if_read}
 use Rattle.pdb_resolve.specs.FileParts.{names_in}
 use Rattle.pdb_resolve.specs.Frames.{Frame, frame_named_by, frames_in, inlined_frame, outer_named}
-use Rattle.pdb_resolve.specs.ModuleCode.{inlined_at, line_at, program_in}
+use Rattle.pdb_code.specs.ModuleCode.{inlined_at, line_at, program_in}
 use Rattle.pdb_resolve.proofs.tables.Tables.frames.Goals as goal
 
 pub returns-clause-frames : goal.returns-clause-frames

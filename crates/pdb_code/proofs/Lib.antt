@@ -1,0 +1,12 @@
+pub mod VariableKinds
+pub mod Scopes
+pub mod LeastOffsets
+pub mod FoundProcedures
+pub mod Extents
+pub mod SiteCalls
+pub mod CodeRecords
+pub mod CodeKinds
+pub mod Sites
+pub mod ProcedureNames
+pub mod WholeParts
+pub mod ProcedureRecords

@@ -1,0 +1,9 @@
+pub mod ModuleCode
+pub mod Leading
+pub mod Machines
+pub mod CodeRecords
+pub mod SaidNames
+pub mod Kept
+pub mod Listed
+pub mod Whole
+pub mod Namings

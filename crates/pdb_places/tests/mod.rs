@@ -1,0 +1,7 @@
+//! Tests.
+
+mod addresses;
+mod contributions;
+mod files;
+mod names;
+mod ranges;

@@ -1,9 +1,0 @@
-use Rattle.std.proofs.Common.{◌-◌}
-use Rattle.pdb_resolve.proofs.CutHalves.{AreHalved}
-use Rattle.pdb_resolve.proofs.painted.find_painted.Given as goal
-
-abbrev pub invariant-loop-low : goal.invariant-loop-low
-invariant-loop-low l = AreHalved l.fn.at l.cuts l.low l.high l.found l.fn.steps.count l.steps.count
-
-abbrev pub decreases-loop-low : goal.decreases-loop-low
-decreases-loop-low l = l.high - l.low

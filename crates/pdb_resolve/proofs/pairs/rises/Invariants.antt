@@ -1,7 +1,0 @@
-use Rattle.pdb_resolve.proofs.Keyed.{NeverFalls}
-use Rattle.pdb_resolve.proofs.TablePairs.{start_in}
-use Rattle.pdb_resolve.proofs.pairs.rises.Given as goal
-
--- the pairs so far never fall
-abbrev pub invariant-loop-pair : goal.invariant-loop-pair
-invariant-loop-pair l = NeverFalls (start_in l.table) l.pair

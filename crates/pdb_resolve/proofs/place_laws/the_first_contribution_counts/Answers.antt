@@ -1,5 +1,0 @@
-use Rattle.pdb_resolve.proofs.FirstContributions.{first_contributes, none_contributes}
-use Rattle.pdb_resolve.proofs.place_laws.the_first_contribution_counts.Goals as goal
-
-pub returns : goal.returns
-returns c = record { first = first_contributes; none = none_contributes }

@@ -1,0 +1,4 @@
+pub mod VariableRecords
+pub mod Variables
+pub mod VariableWalk
+pub mod VariableViews
