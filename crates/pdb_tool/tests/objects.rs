@@ -3,6 +3,7 @@
 use super::parts::{both, small};
 use crate::file_texts::FileText;
 use crate::tests::fakes::{Narrow, is};
+use json::Writer;
 use pdb::{MemorySource, PdbInternalSectionOffset, QualifiedName, RawString};
 use pdb_resolve::{Frame, FunctionName};
 use pdb_text::CountedWriter;
@@ -12,6 +13,7 @@ use tool_addresses::resolve::resolve_lines;
 use tool_arguments::asked::Asked;
 use tool_arguments::options::{Detail, Form, Options};
 use tool_arguments::question::{Answer, Question};
+use tool_lists::module_lists::put_size;
 use tool_search::frame_objects::{put_asked_line, put_unasked_line};
 
 #[test]
@@ -98,5 +100,23 @@ fn objects_of_lines(rt: HostRuntime) -> Result<(), Fail> {
     let wanted: &[u8] =
         b"{\"asked\":\"1:50\",\"frames\":[{\"name\":\"f\",\"file\":null,\"line\":0,\"column\":0}]}\n{\"asked\":\"x \",\"frames\":null}\n{\"asked\":\"\",\"frames\":null}\n{\"asked\":\"1:5f\",\"frames\":[{\"name\":\"f\",\"file\":null,\"line\":0,\"column\":0}]}\n";
     is(&rt, "out", &out.taken(), &wanted);
+    Ok(())
+}
+
+#[test]
+fn sums_above_2_to_the_53_are_strings(rt: HostRuntime) -> Result<(), AllocError> {
+    let cases: [(u64, &[u8]); 4] = [
+        (0, b"{\"bytes\":0}"),
+        (9_007_199_254_740_992, b"{\"bytes\":9007199254740992}"),
+        (9_007_199_254_740_993, b"{\"bytes\":\"9007199254740993\"}"),
+        (u64::MAX, b"{\"bytes\":\"18446744073709551615\"}"),
+    ];
+    for (bytes, wanted) in &cases {
+        let mut writer = Writer::new(Vec::new(rt.alloc()));
+        writer.begin_object()?;
+        put_size(rt.alloc(), &mut writer, *bytes)?;
+        writer.end_object()?;
+        is(&rt, "a size", &writer.into_inner().as_slice(), wanted);
+    }
     Ok(())
 }

@@ -1,5 +1,5 @@
 -- The text of `modules`: the list of modules, and how many bytes of the image came from each.
-use Rattle.std.specs.Prelude.{ℕ, ◌+◌, List, [], ◌∷◌, ◌++◌, ◌||◌, if◌then◌else◌, codes}
+use Rattle.std.specs.Prelude.{ℕ, ◌+◌, List, [], ◌∷◌, ◌++◌, ◌||◌, nat_le, if◌then◌else◌, codes}
 use Rattle.std.specs.Str.{bytes_eq}
 use Rattle.std.specs.Fmt.{decimal}
 use Rattle.json.specs.Json.{Json, null, object, Members, no_members, member}
@@ -32,11 +32,15 @@ object_value m = if bytes_eq m.object_file_name [] || bytes_eq m.object_file_nam
 abbrev pub object_member : ModuleEntry → Members
 object_member m = member (codes "object") (object_value m) no_members
 
+-- a sum of sizes: a number up to 2^53, which each reader of JSON has exactly, and above it a string of its digits
+unfoldable pub size_value : ℕ → Json
+size_value n = if nat_le n 0x20000000000000 then number_value n else text_value (decimal n)
+
 -- the JSON object of module k
 abbrev pub listed_value : (ℕ → ℕ) → ℕ → ModuleEntry → Json
 listed_value size k m =
     object (member (codes "module") (number_value k)
-    (member (codes "bytes") (number_value (size k))
+    (member (codes "bytes") (size_value (size k))
     (member (codes "name") (text_value m.module_name) (object_member m))))
 
 abbrev pub listed_in : Form → (ℕ → ℕ) → ℕ → ModuleEntry → List ℕ

@@ -11,7 +11,7 @@ ghost use Rattle.pdb.specs.Error.{Error};
 ghost use Rattle.pdb.specs.Source.{Continues, MayFail, IsKnown};
 ghost use Rattle.pdb_places.specs.AsIfEmpty.{items_of};
 ghost use Rattle.pdb_text.specs.Written.{WroteFront};
-ghost use Rattle.tool_lists.specs.ModuleLists.{listed_in, listed_line, listed_value, module_list_text, modules_command, modules_of_stream, object_member, object_text, object_value};
+ghost use Rattle.tool_lists.specs.ModuleLists.{listed_in, listed_line, listed_value, size_value, module_list_text, modules_command, modules_of_stream, object_member, object_text, object_value};
 ghost use Rattle.tool_lists.specs.ModuleSizes.{bytes_of_module, size_in};
 ghost use Rattle.tool_output.specs.Objects.{Adds, json_line};
 ghost use Rattle.tool_output.specs.Stops.{StopsCommand, StopsComposing};
@@ -32,6 +32,9 @@ use tool_output::objects::{
 };
 use tool_output::opening::opened;
 use tool_output::stop::Stop;
+
+/// The greatest number up to which each reader of JSON has all of them exactly: 2^53.
+const GREATEST_NUMBER: u64 = 0x20_0000_0000_0000;
 
 /// How many bytes each module of a file has; none where the contributions can't be read.
 #[tactic(auto, using(crate::proofs::SameSizes::same_sizes))]
@@ -103,6 +106,20 @@ fn put_object_member(
     writer.end_object()
 }
 
+/// How many bytes a module has, as a member of an object: a number where each reader of JSON has it exactly, and else a
+/// string of its digits.
+#[tactic(auto, unfolding(crate::specs::ModuleLists::size_value))]
+pub fn put_size(alloc: Global, writer: &mut Writer, bytes: u64) -> Result<(), AllocError>
+    ensures { Adds result writer.old writer.new (key (codes "bytes") ∷ json_tokens (size_value bytes)) }
+{
+    if bytes <= GREATEST_NUMBER {
+        return put_number(writer, "bytes", bytes);
+    }
+    let mut digits = Vec::new(alloc);
+    put_decimal(&mut digits, bytes)?;
+    put_member(alloc, writer, "bytes", &digits)
+}
+
 /// The JSON object of module `k`.
 fn put_listed_value(
     alloc: Global,
@@ -114,7 +131,7 @@ fn put_listed_value(
     ensures { Adds result writer.old writer.new (json_tokens (listed_value (size_in sizes.now) k listed.now)) }
 {
     begin_numbered(writer, "module", k)?;
-    put_number(writer, "bytes", size_of_module(sizes, k))?;
+    put_size(alloc, writer, size_of_module(sizes, k))?;
     put_member(alloc, writer, "name", listed.raw_module_name().as_bytes())?;
     put_object_member(alloc, writer, listed)?;
     Ok(())

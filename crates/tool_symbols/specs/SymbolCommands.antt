@@ -46,8 +46,11 @@ abbrev pub global_symbols_of : List ℕ → List ℕ → List ℕ
 global_symbols_of file b = global_symbols_text (names_by_tables (file_tables file) (ids_by no_imports)) (file_machine file) b
 
 -- a text of the global symbols of a file; nothing where it has none
+abbrev pub globals_there : List ℕ → (List ℕ → List ℕ) → List ℕ
+globals_there file text = there_in Text (global_symbols_in file) text
+
 abbrev pub globals_told : List ℕ → (List ℕ → List ℕ) → List ℕ
-globals_told file text = if_there file 3 (there_in Text (global_symbols_in file) text)
+globals_told file text = if_there file 3 (globals_there file text)
 
 abbrev pub symbols_command : List ℕ → List ℕ → List ℕ
 symbols_command file [] = globals_told file (global_symbols_of file)

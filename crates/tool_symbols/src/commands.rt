@@ -4,7 +4,7 @@ ghost use Rattle.std.specs.Prelude.{◌≡◌, ◌++◌, [], true, false, flat_m
 ghost use Rattle.std.specs.Io.KnownBytes.{Appends};
 ghost use Rattle.pdb.specs.Container.{opens, stream_of};
 ghost use Rattle.pdb.specs.Error.{Error};
-ghost use Rattle.pdb.specs.Answers.{global_symbols_in, string_table_in};
+ghost use Rattle.pdb.specs.Answers.{string_table_in};
 ghost use Rattle.pdb.specs.Source.{Continues, MayFail, IsKnown};
 ghost use Rattle.pdb_places.specs.AsIfEmpty.{if_read};
 ghost use Rattle.pdb_resolve.specs.FileParts.{items_where};
@@ -17,7 +17,7 @@ ghost use Rattle.tool_symbols.specs.LineTexts.{lines_text};
 ghost use Rattle.tool_types.specs.LineViews.{names_of_lines};
 ghost use Rattle.tool_symbols.specs.SymbolTexts.{global_symbols_text};
 ghost use Rattle.tool_output.specs.ModuleTexts.{in_file, modules_text, place_text};
-ghost use Rattle.tool_symbols.specs.SymbolCommands.{all_symbols_command, globals_told, lines_command, no_imports, scopes_command, symbols_command};
+ghost use Rattle.tool_symbols.specs.SymbolCommands.{all_symbols_command, globals_there, globals_told, lines_command, no_imports, scopes_command, symbols_command};
 ghost use Rattle.tool_fields.specs.ModuleMachines.{file_machine};
 ghost use Rattle.tool_output.specs.Stops.{StopsCommand, StopsComposing, StopsWriting};
 ghost use Rattle.tool_output.specs.WriteFailures.{failures_after};
@@ -266,8 +266,8 @@ fn write_listed_globals<'s, S: Source<'s>, W: CountedWrite>(
     ensures opened { (e : Error) → IsErrOf result (Stop.Open e) → ⊥ }
     ensures stops { IfErr result (StopsWriting (MayFail pdb.old pdb.new)) }
     ensures failures { W.failures out.new ≡ failures_after (W.failures out.old) result }
-    ensures ok { pdb.new.told ≡ true → OnOk result (Appends (W.contents out.old) (W.contents out.new) (there_in Text (global_symbols_in pdb.old.file) (global_symbols_text (names_from tables.now.ids tables.now.types (first_definition tables.now.definitions) (ids_by no_imports)) tables.now.header))) }
-    ensures front { pdb.new.told ≡ true → OnErr result (WroteFront (W.contents out.old) (W.contents out.new) (there_in Text (global_symbols_in pdb.old.file) (global_symbols_text (names_from tables.now.ids tables.now.types (first_definition tables.now.definitions) (ids_by no_imports)) tables.now.header))) }
+    ensures ok { pdb.new.told ≡ true → OnOk result (Appends (W.contents out.old) (W.contents out.new) (globals_there pdb.old.file (global_symbols_text (names_from tables.now.ids tables.now.types (first_definition tables.now.definitions) (ids_by no_imports)) tables.now.header))) }
+    ensures front { pdb.new.told ≡ true → OnErr result (WroteFront (W.contents out.old) (W.contents out.new) (globals_there pdb.old.file (global_symbols_text (names_from tables.now.ids tables.now.types (first_definition tables.now.definitions) (ids_by no_imports)) tables.now.header))) }
 {
     let symbols = match pdb.global_symbols() {
         Ok(symbols) => symbols,
