@@ -261,12 +261,12 @@ class Record:
         return self.frame()
 
     def value_strings(self):
-        return b",".join(self.strings()) or b"-"
+        return b",".join(map(one_line, self.strings())) or b"-"
 
     def value_strings16(self):
         count = self.number("H")
         found = [self.zero_ended() for _ in range(count)]
-        return b",".join(found) if found else b"-"
+        return b",".join(map(one_line, found)) if found else b"-"
 
     def text(self):
         """The fields and the name."""
