@@ -1,6 +1,6 @@
 -- The JSON values of lists, of keys and of errors read back.
 use Rattle.std.proofs.Common.{◌≡◌, ℕ, ◌<◌, ◌^◌, List, [], ◌∷◌, Bool, true, false, cond, Option, Some, None, decimal, refl, arith}
-use Rattle.std.specs.Prelude.{◌||◌}
+use Rattle.std.specs.Prelude.{◌||◌, nat_le}
 use Rattle.std.specs.Option.{unwrap_or}
 use Rattle.std.specs.Str.{bytes_eq}
 use Rattle.json.specs.Json.{document, null}
@@ -17,11 +17,11 @@ use Rattle.pdb_image.specs.Images.{Said}
 use Rattle.pdb_image.specs.Debug.{Reference}
 use Rattle.tool_output.specs.ErrorObjects.{error_value, none_value}
 use Rattle.pdb_tool.specs.KeyLines.{image_value, pdb_value}
-use Rattle.tool_lists.specs.ModuleLists.{listed_value, object_value}
+use Rattle.tool_lists.specs.ModuleLists.{listed_value, object_value, size_value}
 use Rattle.tool_output.specs.Objects.{number_value, text_value}
 use Rattle.tool_lists.specs.SectionTexts.{section_value}
 use Rattle.tool_lists.specs.StreamRoles.{StreamRole}
-use Rattle.tool_lists.specs.StreamTexts.{size_value, stream_value, what_items}
+use Rattle.tool_lists.specs.StreamTexts.{size_value as size_in_stream, stream_value, what_items}
 use Rattle.pdb_tool.proofs.ReadBack.{number_below}
 
 -- ---- errors
@@ -81,22 +81,38 @@ object_numbers m = null_or_text (bytes_eq m.object_file_name [] || bytes_eq m.ob
 object_depth : (m : ModuleEntry) → depth (object_value m) ≡ 0
 object_depth m = null_or_text_depth (bytes_eq m.object_file_name [] || bytes_eq m.object_file_name m.module_name) m.object_file_name
 
+sum_numbers_by : (t : Bool) (n : ℕ) → n < 2 ^ 64 → HasNumbers (cond t (number_value n) (text_value (decimal n)))
+sum_numbers_by true n h = IsNumber-decimal n h
+sum_numbers_by false n h = tt
+
+sum_depth_by : (t : Bool) (n : ℕ) → depth (cond t (number_value n) (text_value (decimal n))) ≡ 0
+sum_depth_by true n = refl
+sum_depth_by false n = refl
+
+sum_numbers : (n : ℕ) → n < 2 ^ 64 → HasNumbers (size_value n)
+unfolding size_value
+sum_numbers n h = sum_numbers_by (nat_le n 0x20000000000000) n h
+
+sum_depth : (n : ℕ) → depth (size_value n) ≡ 0
+unfolding size_value
+sum_depth n = sum_depth_by (nat_le n 0x20000000000000) n
+
 listed_depth : (size : ℕ → ℕ) (k : ℕ) (m : ModuleEntry) → depth (listed_value size k m) ≡ 1
-listed_depth size k m = rw (object_depth m) refl
+listed_depth size k m = rw (sum_depth (size k), object_depth m) refl
 
 pub module_reads_back : (size : ℕ → ℕ) (k : ℕ) (m : ModuleEntry) → k < 2 ^ 64 → size k < 2 ^ 64 → document (print (json_tokens (listed_value size k m))) ≡ Some (listed_value size k m)
-module_reads_back size k m h s = document-print (listed_value size k m) (IsNumber-decimal k h, (IsNumber-decimal (size k) s, (tt, (object_numbers m, tt)))) (omega (arith, listed_depth size k m))
+module_reads_back size k m h s = document-print (listed_value size k m) (IsNumber-decimal k h, (sum_numbers (size k) s, (tt, (object_numbers m, tt)))) (omega (arith, listed_depth size k m))
 
 -- ---- sections and streams
 
 pub section_reads_back : (n : ℕ) (h : ImageSectionHeader) → n < 2 ^ 64 → h.virtual_size < 2 ^ 32 → document (print (json_tokens (section_value n h))) ≡ Some (section_value n h)
 section_reads_back n h l s = document-print (section_value n h) (IsNumber-decimal n l, (tt, (number_below h.virtual_size s, (tt, (tt, tt))))) (omega arith)
 
-size_numbers : (size : Option ℕ) → unwrap_or size 0 < 2 ^ 32 → HasNumbers (size_value size)
+size_numbers : (size : Option ℕ) → unwrap_or size 0 < 2 ^ 32 → HasNumbers (size_in_stream size)
 size_numbers None h = tt
 size_numbers (Some n) h = number_below n h
 
-size_depth : (size : Option ℕ) → depth (size_value size) ≡ 0
+size_depth : (size : Option ℕ) → depth (size_in_stream size) ≡ 0
 size_depth None = refl
 size_depth (Some n) = refl
 
