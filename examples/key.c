@@ -14,9 +14,9 @@ static void upper(uint32_t n) {
     put(digits, (size_t)snprintf(digits, sizeof digits, "%X", n));
 }
 
-/* The path, in which the end of a line is a blank. */
+/* The path, in which each control character is a blank. */
 static void path_of(pdb_bytes path) {
-    for (size_t i = 0; i < path.size; i++) put(path.data[i] == '\n' || path.data[i] == '\r' ? (const uint8_t *)" " : path.data + i, 1);
+    for (size_t i = 0; i < path.size; i++) put(path.data[i] < 32 || path.data[i] == 127 ? (const uint8_t *)" " : path.data + i, 1);
 }
 
 static pdb_code key_of_image(const uint8_t *bytes, size_t size, const char *name) {

@@ -17,7 +17,7 @@ def line_of(data, file):
     it = pdbreader.image(data)
     if it.pdb is None:
         return b"%s %s - -" % (it.key.encode(), file)
-    path = it.pdb.path.replace(b"\n", b" ").replace(b"\r", b" ")
+    path = bytes(32 if byte < 32 or byte == 127 else byte for byte in it.pdb.path)
     return b"%s %s %s %s" % (it.key.encode(), file, it.pdb.key.encode(), path)
 
 
