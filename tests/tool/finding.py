@@ -4,7 +4,7 @@ import os
 import random
 import re
 
-from program import FILES, LIST, REAL, compare, damage_notice, ran, tell, wrong
+from program import FILES, LIST, NO_MODULE, NO_SOURCE, REAL, compare, damage_notice, ran, tell, wrong
 
 FIND = b"""public 0001:00000100 0x1100 - main
 data 0003:00000010 - - g
@@ -93,8 +93,8 @@ def arguments(sample):
             tell(said[0] == 0 and not said[2] and usage[7:].strip() in said[1], f"{words}", said)
         compare(f"{topic} without a file", wrong(b"FILE is missing", usage), topic)
         compare(f"{topic} of no file", (3, b"", b"pdb_tool: /nowhere: cannot read file: no such file\n"), topic, "/nowhere", *EVERYTHING[topic])
-        compare(f"an option of {topic}", wrong(topic.encode() + b" has no option --all", usage), topic, "--all", sample, *EVERYTHING[topic])
-    why = {"find": b"NAME is empty", "where": b"%s names no source file", "sources": b"%s is no index of a module: pdb_tool modules FILE lists them"}
+        compare(f"an option of {topic}", wrong(b"unknown option --all: " + topic.encode() + b" has --json", usage), topic, "--all", sample, *EVERYTHING[topic])
+    why = {"find": b"NAME is empty", "where": NO_SOURCE, "sources": NO_MODULE}
     for topic, bad in [("find", ""), ("where", ""), ("where", ":1"), ("where", ":1-2"), ("sources", "x"), ("sources", "4294967296"), ("modules", "0"), ("sections", "1")]:
         words = [sample, *EVERYTHING[topic], bad]
         compare(f"{topic} with {bad!r}", wrong(why.get(topic, topic.encode() + b" takes one FILE, and not %s").replace(b"%s", bad.encode()), USAGES[topic]), topic, *words)

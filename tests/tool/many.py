@@ -4,7 +4,7 @@ import os
 import shutil
 import subprocess
 
-from program import TOOL, compare, notice_of, ran, tell, wrong
+from program import NO_ADDRESS, NO_MODULE, TOOL, compare, notice_of, ran, tell, usage_of, wrong
 
 MANY = 2000
 LINES = 1_000_001
@@ -32,10 +32,8 @@ def many_lines(sample):
 
 def order_of_faults(sample):
     """Arguments are judged before a file is opened; one file's error is told, and the next follows."""
-    usage = b"usage: pdb_tool resolve [--base=HEX] [--key=KEY | --image=IMAGE] [--addresses] [--offsets] [--json] FILE [ADDRESS..]\n"
-    compare("a bad word and no file", wrong(b"address zz is none: write HEX, 0xHEX, HEXh, or SECTION:OFFSET", usage), "resolve", "nowhere.pdb", "zz")
-    usage = b"usage: pdb_tool lines FILE [K..]\n"
-    compare("a bad number and no file", wrong(b"zz is no index of a module: pdb_tool modules FILE lists them", usage), "lines", "nowhere.pdb", "0", "zz")
+    compare("a bad word and no file", wrong(NO_ADDRESS % b"zz", usage_of("resolve")), "resolve", "nowhere.pdb", "zz")
+    compare("a bad number and no file", wrong(NO_MODULE % b"zz", usage_of("lines")), "lines", "nowhere.pdb", "0", "zz")
     ok = f"{sample}: ok\n".encode()
     unread = b"pdb_tool: nowhere.pdb: cannot read file: no such file\n"
     for words, out in ((["nowhere.pdb", sample], ok), ([sample, "nowhere.pdb"], ok), (["nowhere.pdb", sample, sample], ok + ok)):
@@ -50,7 +48,7 @@ def names_of_every_kind(sample, room):
         file = os.path.join(room, name)
         shutil.copyfile(sample, file)
         compare(f"the key of {name!r}", (0, key + b" " + file.encode() + b"\n", b""), "key", file)
-        done = subprocess.run([TOOL, "check", name], cwd=room, capture_output=True, check=False)
+        done = subprocess.run([TOOL, "check", "--", name], cwd=room, capture_output=True, check=False)
         tell((done.returncode, done.stdout) == (0, f"{name}: ok\n".encode()), f"check of {name!r}", done)
 
 

@@ -180,14 +180,15 @@ def same(what, command, *words, given=b""):
 
 
 def options(sample):
-    once = b"--json: --json takes no value, and is given once"
+    once = b"--json is given twice"
     compare("--json twice", wrong(once, USAGES["resolve"]), "resolve", "--json", sample, "--json", "1")
     compare("--json of key twice", wrong(once, USAGES["key"]), "key", "--json", "--json", sample)
-    compare("a value of --json", wrong(b"--json=1: --json takes no value, and is given once", USAGES["modules"]), "modules", "--json=1", sample)
+    compare("a value of --json", wrong(b"--json takes no value", USAGES["modules"]), "modules", "--json=1", sample)
     compare("--json of find twice", wrong(once, USAGES["find"]), "find", "--json", sample, "--json", "g")
     compare("--json of check twice", wrong(once, USAGES["check"]), "check", "--json", "--json", sample)
-    for command in "lines", "symbols":
-        compare(f"--json of {command}", wrong(command.encode() + b" has no option --json", USAGES[command]), command, "--json", sample)
+    for command, has in ("lines", b"no options"), ("symbols", b"--all"):
+        why = b"unknown option --json: " + command.encode() + b" has " + has
+        compare(f"--json of {command}", wrong(why, USAGES[command]), command, "--json", sample)
     compare("--json without a file", wrong(b"FILE is missing", USAGES["modules"]), "modules", "--json")
     compare("--json behind --", (1, b"", b"pdb_tool: --json: cannot read file: no such file\n"), "key", "--", "--json")
 

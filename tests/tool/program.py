@@ -46,7 +46,18 @@ def stored(name):
 
 
 COMMANDS = b"resolve variables find where lines scopes symbols types sources modules sections streams key check help version"
-USAGE = b"usage: pdb_tool COMMAND [OPTION..] FILE [ARGUMENT..]; pdb_tool help prints more\n"
+NO_ADDRESS = b"'%s' is not an address: write 1108, 0x1108 or 1:108; find prints the addresses of names"
+NO_MODULE = b"'%s' is not the index of a module: pdb_tool modules FILE lists them"
+NO_TYPE = b"'%s' is not the index of a type: write HEX, as in 1000"
+NO_SOURCE = b"'%s' names no source file: write SOURCE, SOURCE:63 or SOURCE:63-70"
+NO_BASE = b"%s: HEX is 1 to 16 hex digits"
+NO_KEY = b"%s: KEY is 33 to 40 hex digits"
+OPTIONS_OF_RESOLVE = b"resolve has --base --key --image --addresses --offsets --json"
+
+
+def usage_of(command):
+    """How a command is written: the first line of its help."""
+    return b"usage: " + stored(f"help-{command}.stdout").split(b"\n")[0] + b"\n"
 
 
 def wrong(why, usage):
@@ -64,10 +75,13 @@ def notice_of(file):
     return f"pdb_tool: {file}: a part of the file is damaged: see pdb_tool check\n".encode()
 
 
+# The line of an error, which of members of types stands behind two blanks.
+ERROR_LINE = re.compile(rb"(?m)^(?:  )?error \d+ ")
+
+
 def damage_notice(file, out):
     """What is printed on standard error where a text has the line of an error."""
-    has_error = out.startswith(b"error ") or b"\nerror " in out
-    return notice_of(file) if has_error else b""
+    return notice_of(file) if ERROR_LINE.search(out) else b""
 
 
 # A line of `check` on what `resolve` reads of a module.

@@ -515,7 +515,7 @@ def compare_types(what, path):
     some = [0, 0x74, 0x103, 0x674, 0xFFF, 0x1000, 0x1001, 0x7FFFFFFF, 0xFFFFFFFF] + [index for index, _ in listed[::97]]
     wanted = b"".join(line + b"\n" for index in some for line in types.lines(index))
     found = ran("types", path, *(f"{index:x}" for index in some))
-    tell((found[0], found[2]) == (0, b"") and found[1] == wanted, f"some types of {what}", found[1][:99])
+    tell((found[0], found[2]) == (0, damage_notice(path, found[1])) and found[1] == wanted, f"some types of {what}", found[1][:99])
     # The lines of `check` on members: the error that ends the members of a type, which `types` puts behind them.
     wanted = []
     for index, _ in listed:

@@ -3,7 +3,7 @@ and where each is. The frames are those of `resolve`. The sums of the texts are 
 goes unnoticed."""
 from hashlib import sha256
 
-from program import FILES, REAL, compare, is_notice, ran, stored, tell, wrong
+from program import FILES, NO_ADDRESS, NO_BASE, REAL, compare, is_notice, ran, stored, tell, wrong
 from scopes import named
 from streams import File
 from variables_read import module_list, module_of, pieces_of_code
@@ -79,9 +79,9 @@ def variables(sample):
     compare("variables from a base", (0, b"1:10\n" + MANY["1:10"], b""), "variables", "--base", "7000", "--addresses", file, "1:10")
     compare("variables of nowhere", (0, b"??\n??:0:0\n\n", b""), "variables", "--base=1000", sample, "fff")
     compare("variables without a file", wrong(b"FILE is missing", USAGE), "variables")
-    compare("variables without a base", wrong(b"the load address behind --base is missing", USAGE), "variables", sample, "--base")
-    compare("a base that is none", wrong(b"x behind --base isn't 1 to 16 hex digits", USAGE), "variables", "--base", "x", sample)
-    compare("no address", wrong(b"address x is none: write HEX, 0xHEX, HEXh, or SECTION:OFFSET", USAGE), "variables", sample, "x")
+    compare("variables without a base", wrong(b"--base needs a value: --base=HEX", USAGE), "variables", sample, "--base")
+    compare("a base that is none", wrong(NO_BASE % b"x", USAGE), "variables", "--base", "x", sample)
+    compare("no address", wrong(NO_ADDRESS % b"x", USAGE), "variables", sample, "x")
     for option in b"--json", b"--offsets", b"--all":
-        compare(f"variables with {option}", wrong(b"variables has no option " + option, USAGE), "variables", sample, option)
+        compare(f"variables with {option}", wrong(b"unknown option " + option + b": variables has --base --key --image --addresses", USAGE), "variables", sample, option)
     tell(stored("help-variables.stdout").startswith(USAGE[7:]), "the usage of variables is its help's")

@@ -1,6 +1,7 @@
 //! A file that is read where it is needed: `ReadingSource` keeps what it read, and views borrow from it.
 #![tactic(auto)]
 
+mod bytes;
 mod counted;
 mod held;
 mod reading;
@@ -8,6 +9,7 @@ mod run;
 mod source;
 mod whole;
 
+pub use bytes::{FileBytes, bytes_of};
 pub use counted::{CountedRead, CountedReader, ReadFailed};
 pub use held::Held;
 pub use reading::{FetchError, ReadAt};

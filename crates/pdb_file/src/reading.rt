@@ -1,6 +1,6 @@
 //! What isn't held, read from a file.
 
-ghost use Rattle.std.specs.Prelude.{◌≡◌, ◌+◌, ◌<◌, ◌≤◌, ◌^◌, ℕ, Bool, true, false, min, List, length, take, drop, vec_len, IfOk, IfErr, IsErrOf, IsOkAnd, OnOk, None, Some, Option};
+ghost use Rattle.std.specs.Prelude.{◌≡◌, ◌+◌, ◌<◌, ◌≤◌, ◌^◌, ℕ, Bool, true, false, min, List, length, take, drop, vec_len, IfOk, IfErr, IfSome, IsErrOf, IsOkAnd, OnOk, None, Some, Option};
 ghost use Rattle.std.specs.Option.{ForSome};
 ghost use Rattle.std.specs.List.{All};
 ghost use Rattle.std.specs.List.Sorted.{IsNonDecreasingBy, IsPermutation};
@@ -31,6 +31,11 @@ pub trait ReadAt {
         ensures told { IfOk result (λ n. ForSome (known self.now) (λ F. at ≤ length F → IsPart F at (take n buf.new))) }
         ensures steady { is_steady self.now ≡ true → ForSome (known self.now) (λ F. at < length F → 0 < length buf.new → IsOkAnd result (λ n. 0 < n)) };
 
+    /// So many bytes from an offset on, where they are in memory already: none is read then.
+    fn lent_at(&self, at: u64, size: usize) -> Option<&[u8]>
+        ensures size { IfSome result (λ p. length p.now ≡ size) }
+        ensures told { IfSome result (λ p. ForSome (known self.now) (λ F. at ≤ length F → IsPart F at p.now)) };
+
     /// How many bytes it has, where no read of them can fail and each one in front of their end gives some.
     fn steady_size(&self) -> Option<u64>
         ensures { result ≡ size_where_steady (is_steady self.now) (known self.now) };
@@ -43,6 +48,10 @@ impl ReadAt for File {
 
     fn read_bytes_at(&self, buf: &mut [u8], at: u64) -> io::Result<usize> {
         self.read_at(buf, at)
+    }
+
+    fn lent_at(&self, _at: u64, _size: usize) -> Option<&[u8]> {
+        None
     }
 
     fn steady_size(&self) -> Option<u64> {
@@ -64,6 +73,13 @@ impl ReadAt for Vec<u8> {
         let count = rest.len().min(buf.len());
         buf[..count].copy_from_slice(&rest[..count]);
         Ok(count)
+    }
+
+    fn lent_at(&self, at: u64, size: usize) -> Option<&[u8]> {
+        if at > self.len() as u64 {
+            return None;
+        }
+        self.as_slice().split_at(at as usize).1.get(..size)
     }
 
     fn steady_size(&self) -> Option<u64> {
@@ -126,10 +142,10 @@ fn zeros<'s>(arena: &'s Bump, size: usize) -> Result<Vec<u8, &'s Bump>, AllocErr
     Ok(bytes)
 }
 
-/// The bytes from an offset on, so many, which stay where they are as long as the arena.
+/// The bytes from an offset on, so many, which stay where they are as long as the arena and the reader.
 fn read_run<'s, R: ReadAt>(
     arena: &'s Bump,
-    input: &R,
+    input: &'s R,
     from: u64,
     size: usize,
 ) -> Result<&'s [u8], FetchError>
@@ -137,6 +153,9 @@ fn read_run<'s, R: ReadAt>(
     ensures len { IfOk result (λ v. length v.now ≡ size) }
     ensures steady { R.is_steady input.now ≡ true → ForSome (R.known input.now) (λ F. from + size ≤ length F → length F < 2 ^ 64 → IfErr result (λ e. e ≡ FetchError.Memory)) }
 {
+    if let Some(bytes) = input.lent_at(from, size) {
+        return Ok(bytes);
+    }
     let mut bytes = zeros(arena, size)?;
     let mut done = 0usize;
     while done < size {
@@ -156,7 +175,7 @@ fn read_run<'s, R: ReadAt>(
 fn fill<'s, R: ReadAt>(
     arena: &'s Bump,
     held: &mut Held<'s>,
-    input: &R,
+    input: &'s R,
     from: u64,
     end: u64,
     near: u64,
@@ -212,7 +231,7 @@ pub(crate) fn fetch<'s, R: ReadAt>(
     arena: &'s Bump,
     held: &mut Held<'s>,
     slices: &[SourceSlice],
-    input: &R,
+    input: &'s R,
 ) -> Result<(), FetchError>
     ensures told { ForSome (R.known input.now) (λ F. IsOf F held.old → IsOf F held.new) }
     ensures kept { (F : List ℕ) → IsOf F held.new → IsOf F held.old }

@@ -96,6 +96,10 @@ impl<'b> ReadAt for Places<'b> {
         Ok(count)
     }
 
+    fn lent_at(&self, _at: u64, _size: usize) -> Option<&[u8]> {
+        None
+    }
+
     fn steady_size(&self) -> Option<u64> {
         None
     }

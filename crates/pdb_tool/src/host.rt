@@ -1,23 +1,22 @@
-//! The files that operands name.
+//! The files of the machine that the program runs on, and its standard input.
 
-use crate::file_kind::{FRONT_SIZE, file_kind};
-use crate::report::{Kind, file_in_word, write_stop};
-use crate::wanted::{ImageWants, wants_in};
-use pdb_file::{CountedReader, ReadAt, read_all, size_of};
+use pdb_file::{FileBytes, ReadAt, bytes_of, size_of};
 use std::alloc::Global;
 use std::fs::{self, File};
-use std::io::{self, ErrorKind, Write};
+use std::io::{self, ErrorKind};
+use std::os::fd::AsRawFd;
 use std::rt::Files;
 use tool_arguments::operands::Operand;
-use tool_output::fault::Fault;
 use tool_output::stop::{Stop, Unopened};
+use tool_program::file_kind::FRONT_SIZE;
+use tool_program::host::Host;
 
-/// What opens files, and which arguments aren't UTF-8.
+/// The machine, and which arguments aren't UTF-8.
 #[derive(Drop)]
-pub struct Host<'a, R> {
+pub struct Machine<'a, R> {
     rt: &'a R,
-    /// The indices of the arguments that aren't UTF-8.
     not_text: &'a [usize],
+    is_asked_by_hand: bool,
 }
 
 /// Why a file can't be opened.
@@ -47,89 +46,73 @@ fn open_named(rt: &impl Files<File = File>, name: &str) -> Result<File, Stop> {
     }
 }
 
-impl<'a, R: Files<File = File> + AllocGlobal> Host<'a, R> {
-    /// What opens files, where the arguments of these indices aren't UTF-8.
-    pub fn new(rt: &'a R, not_text: &'a [usize]) -> Self {
-        Host { rt, not_text }
-    }
-
-    /// What reaches files and standard input.
-    pub fn rt(&self) -> &'a R {
-        self.rt
-    }
-
-    /// The allocator.
-    pub fn alloc(&self) -> Global {
-        self.rt.alloc()
-    }
-
-    /// Whether an argument is UTF-8.
-    fn is_text(&self, argument: usize) -> bool {
-        !self.not_text.contains(&argument)
-    }
-
-    /// The file that an operand names, or why it can't be opened.
-    pub fn opened(&self, name: Operand<'_>) -> Result<File, Stop> {
-        if !self.is_text(name.argument) {
-            return Err(Stop::Unopened(Unopened::NotText));
+impl<'a, R: Files<File = File> + AllocGlobal> Machine<'a, R> {
+    /// The machine, where the arguments of these indices aren't UTF-8; and whether standard input is a terminal.
+    pub fn new(rt: &'a R, not_text: &'a [usize], is_asked_by_hand: bool) -> Self {
+        Machine {
+            rt,
+            not_text,
+            is_asked_by_hand,
         }
-        open_named(self.rt, name.word)
-    }
-
-    /// The same, with the operand that is at fault.
-    pub fn open(&self, name: Operand<'_>) -> Result<File, Fault> {
-        self.opened(name)
-            .map_err(|stop| Fault::Stopped(stop, name.argument))
-    }
-
-    /// That operands which name no files are UTF-8.
-    pub fn all_text(&self, operands: &[Operand<'_>]) -> Result<(), Fault> {
-        for operand in operands {
-            if !self.is_text(operand.argument) {
-                return Err(Fault::NotText(operand.argument));
-            }
-        }
-        Ok(())
-    }
-
-    /// Writes why nothing is printed of a file among several.
-    pub fn pass_over<E: Write>(&self, stop: Stop, name: Operand<'_>, err: &mut E) {
-        let kind = self.kind_of(stop, name.word);
-        let _ = write_stop(self.alloc(), stop, name.word, kind, err);
-    }
-
-    /// What a file is that can't be opened as a PDB; none of one that has no size, such as a pipe.
-    pub fn kind_of(&self, stop: Stop, name: &str) -> Kind {
-        let Stop::Open(_) = stop else {
-            return None;
-        };
-        let Ok(file) = open_named(self.rt, name) else {
-            return None;
-        };
-        let size = size_of(&file)?;
-        let mut front = [0u8; FRONT_SIZE];
-        let Ok(count) = file.read_bytes_at(&mut front, 0) else {
-            return None;
-        };
-        let kind = file_kind(front.get(..count).unwrap_or(&[]), size)?;
-        Some((kind, size))
     }
 }
 
-/// What the image wants that the argument of an index names.
-pub fn image_wants<R: Files<File = File> + AllocGlobal>(
-    host: &Host<'_, R>,
-    word: &str,
-    argument: usize,
-) -> Result<ImageWants, Fault> {
-    let name = Operand {
-        argument,
-        word: file_in_word(word),
-    };
-    let file = host.open(name)?;
-    let wants = match read_all(host.alloc(), &mut CountedReader::counting(file)) {
-        Ok(bytes) => wants_in(host.alloc(), &bytes),
-        Err(e) => Err(Stop::from(e)),
-    };
-    wants.map_err(|stop| Fault::Stopped(stop, argument))
+impl<'a, R: Files<File = File> + AllocGlobal> Host for Machine<'a, R> {
+    ghost use Rattle.std.specs.Prelude.{false, Err};
+    ghost use Rattle.tool_output.specs.declared.stop.Stop.TheVariants.{Read};
+
+    type File = File;
+
+    ghost is_known = { λ _. false };
+
+    ghost file = { λ _ _. Err Read };
+
+    fn alloc(&self) -> Global {
+        self.rt.alloc()
+    }
+
+    fn open(&self, name: Operand<'_>) -> Result<FileBytes<File>, Stop> {
+        if self.not_text.contains(&name.argument) {
+            return Err(Stop::Unopened(Unopened::NotText));
+        }
+        let file = open_named(self.rt, name.word)?;
+        Ok(bytes_of(self.rt.alloc(), file)?)
+    }
+
+    fn front(&self, name: &str) -> Option<(Vec<u8>, u64)> {
+        // Opening a pipe once more would wait for another writer. Where a system has no kinds of files by their names, it
+        // has no such pipes.
+        if let Ok(metadata) = fs::metadata(self.rt, name) {
+            if !metadata.is_file() {
+                return None;
+            }
+        }
+        let file = open_named(self.rt, name).ok()?;
+        let size = size_of(&file)?;
+        let mut front = Vec::new(self.rt.alloc());
+        front.resize(FRONT_SIZE, 0).ok()?;
+        let count = file.read_bytes_at(&mut front, 0).ok()?;
+        front.truncate(count);
+        // A file of the system's own has bytes, and says that its size is 0.
+        if size < count as u64 {
+            return None;
+        }
+        Some((front, size))
+    }
+
+    fn has_input(&self) -> bool {
+        // Where standard input is closed, its descriptor is free, and the next file has it.
+        match fs::open(self.rt, "/") {
+            Ok(folder) => folder.as_raw_fd() != 0,
+            Err(_) => true,
+        }
+    }
+
+    fn is_asked_by_hand(&self) -> bool {
+        self.is_asked_by_hand
+    }
+
+    fn not_text(&self) -> &[usize] {
+        self.not_text
+    }
 }

@@ -1,5 +1,5 @@
 pub mod AnsweredLines
-pub mod QuestionTexts
+pub mod RequestTexts
 pub mod VariableTexts
 pub mod CodeTexts
 pub mod OwnedLines

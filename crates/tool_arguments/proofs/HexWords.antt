@@ -10,7 +10,7 @@ use Rattle.std.specs.List.{list_all}
 use Rattle.std.specs.Result.{OkIff, result_ok}
 use Rattle.std.specs.Str.{IsUtf8}
 use Rattle.std.specs.Str.Parse.{AllDigits, IsNumeral, ParsesUnsigned, digits_value, without_leading_plus}
-use Rattle.tool_arguments.specs.Asked.{is_hex, hex_in}
+use Rattle.tool_arguments.specs.CodeAddresses.{is_hex, hex_in}
 
 record HexByte (b : ℕ) : Type 0 where
   pub ascii : b < 128

@@ -1,10 +1,21 @@
 -- The operands of a command: its arguments that are no options.
-use Rattle.std.specs.Prelude.{ℕ, ◌+◌, List, [], ◌∷◌, Bool, true, false, not, Option, Some, None, Result, Ok, Err, if◌then◌else◌, nat_lt, option_and_then}
+use Rattle.std.specs.Prelude.{ℕ, ◌+◌, List, [], ◌∷◌, Bool, true, false, not, Option, Some, None, Result, Ok, Err, if◌then◌else◌, nat_lt}
 use Rattle.std.specs.Str.{bytes_eq}
-use Rattle.tool_arguments.specs.Asked.{address_number}
-use Rattle.tool_arguments.specs.Options.{is_option, is_base, is_dashes}
+use Rattle.pdb_text.specs.Numbers.{number_in}
+use Rattle.tool_arguments.specs.CodeAddresses.{address_number, code_address, spelled_in}
+use Rattle.tool_arguments.specs.Options.{behind_word, is_option_word}
+use Rattle.tool_arguments.specs.Requests.{AddressOf}
+use Rattle.tool_arguments.specs.SourcesAsked.{SourceOf, source_of}
+use Rattle.tool_arguments.specs.declared.code_address.CodeAddress.{CodeAddress}
+use Rattle.tool_arguments.specs.declared.code_address.SpelledAddress.{SpelledAddress}
+use Rattle.tool_arguments.specs.declared.mistakes.Mistake.{Mistake}
+use Rattle.tool_arguments.specs.declared.mistakes.Wrong.{Wrong}
+use Rattle.tool_arguments.specs.declared.mistakes.Wrong.TheVariants.{BadAddress, BadModule, BadSource, BadType, NeedsBase}
 use Rattle.tool_arguments.specs.declared.options.Next.{Next}
 use Rattle.tool_arguments.specs.declared.options.Next.TheVariants.{Word, Value, Operand}
+use Rattle.tool_arguments.specs.declared.options.Options.{Options}
+use Rattle.tool_arguments.specs.declared.options.Wanted.{Wanted}
+use Rattle.tool_arguments.specs.declared.options.Wanted.TheVariants.{Image}
 use Rattle.tool_arguments.specs.declared.operands.Operand.{Operand as Named}
 
 -- an argument, and its index among all
@@ -20,18 +31,9 @@ word_of o = o.word.now
 
 -- an argument is an operand by what is expected
 abbrev pub is_operand : Next → List ℕ → Bool
-is_operand Word word = not (is_option word)
-is_operand Value word = false
+is_operand Word word = not (is_option_word word)
+is_operand (Value name) word = false
 is_operand Operand word = true
-
--- what is expected behind an argument that is no value
-abbrev pub behind_plain : List ℕ → Next
-behind_plain word = if is_dashes word then Operand else if is_base word then Value else Word
-
-abbrev pub behind_word : Next → List ℕ → Next
-behind_word Word word = behind_plain word
-behind_word Value word = Word
-behind_word Operand word = Operand
 
 -- the arguments that are neither an option nor its value, of arguments of which the first has index p
 abbrev pub operands_of : Next → List (List ℕ) → ℕ → List WordAt
@@ -42,13 +44,13 @@ operands_of next (word ∷ words) p =
 
 -- ---- operands that are all of one kind
 
--- the values of operands, or the index of the first that has none
-abbrev pub with_first : {A : Type 0} → Option A → Result (List A) ℕ → ℕ → Result (List A) ℕ
-with_first None rest p = Err p
-with_first (Some x) (Ok xs) p = Ok (x ∷ xs)
-with_first (Some x) (Err q) p = Err q
+-- the values of operands, or the first that has none
+abbrev pub with_first : {A : Type 0} → Result A Wrong → Result (List A) Mistake → ℕ → Result (List A) Mistake
+with_first (Err wrong) rest p = Err (record { argument = p; wrong = wrong })
+with_first (Ok x) (Ok xs) p = Ok (x ∷ xs)
+with_first (Ok x) (Err mistake) p = Err mistake
 
-abbrev pub all_in : {A : Type 0} → (List ℕ → Option A) → List WordAt → Result (List A) ℕ
+abbrev pub all_in : {A : Type 0} → (List ℕ → Result A Wrong) → List WordAt → Result (List A) Mistake
 all_in of [] = Ok []
 all_in of (w ∷ ws) = with_first (of w.word) (all_in of ws) w.argument
 
@@ -57,11 +59,43 @@ abbrev pub first_empty : List WordAt → Option ℕ
 first_empty [] = None
 first_empty (w ∷ ws) = if bytes_eq w.word [] then Some w.argument else first_empty ws
 
--- ---- indices of types
+-- ---- addresses
 
-abbrev pub small_index : ℕ → Option ℕ
-small_index n = if nat_lt n 4294967296 then Some n else None
+-- the load address by which addresses are judged: an image that is still to be read has one
+abbrev pub base_beside : Option Wanted → Option ℕ → Option ℕ
+base_beside (Some (Image at)) None = Some 0
+base_beside wanted base = base
 
--- the index of a type that a word is: a number below 2^32, spelled as an address is
-abbrev pub type_index_in : List ℕ → Option ℕ
-type_index_in word = option_and_then small_index (address_number word)
+abbrev pub judging_base : Options → Option ℕ
+judging_base o = base_beside o.wanted o.base
+
+abbrev pub address_judged : List ℕ → SpelledAddress → Option CodeAddress → Result AddressOf Wrong
+address_judged word spelled None = Err NeedsBase
+address_judged word spelled (Some at) = Ok (record { word = word; address = spelled })
+
+abbrev pub address_by : Options → List ℕ → Option SpelledAddress → Result AddressOf Wrong
+address_by o word None = Err BadAddress
+address_by o word (Some spelled) = address_judged word spelled (code_address (judging_base o) spelled)
+
+abbrev pub address_in : Options → List ℕ → Result AddressOf Wrong
+address_in o word = address_by o word (spelled_in word)
+
+-- ---- modules, types and sources
+
+abbrev pub or_wrong : {A : Type 0} → Option A → Wrong → Result A Wrong
+or_wrong None wrong = Err wrong
+or_wrong (Some x) wrong = Ok x
+
+abbrev pub module_in : List ℕ → Result ℕ Wrong
+module_in word = or_wrong (number_in word) BadModule
+
+-- the index of a type: a number below 2^32, spelled as an address is
+abbrev pub small_index : Option ℕ → Result ℕ Wrong
+small_index None = Err BadType
+small_index (Some n) = if nat_lt n 4294967296 then Ok n else Err BadType
+
+abbrev pub type_in : List ℕ → Result ℕ Wrong
+type_in word = small_index (address_number word)
+
+abbrev pub source_in : List ℕ → Result SourceOf Wrong
+source_in word = or_wrong (source_of word) BadSource

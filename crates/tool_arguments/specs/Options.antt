@@ -1,149 +1,187 @@
--- The options of a command.
-use Rattle.std.specs.Prelude.{ℕ, ◌+◌, List, [], ◌∷◌, length, take, drop, codes, nat_lt, nat_le, Bool, true, false, not, ◌&&◌, Option, Some, None, Result, Ok, Err, if◌then◌else◌}
+-- What the options of a command say, read from left to right.
+use Rattle.std.specs.Prelude.{ℕ, ◌+◌, List, [], ◌∷◌, length, codes, count_by, get_or, nat_lt, nat_le, Bool, true, false, ◌&&◌, ◌||◌, ◌==◌, Option, Some, None, Result, Ok, Err, if◌then◌else◌}
 use Rattle.std.specs.Char.{is_ascii_hexdigit}
 use Rattle.std.specs.List.{list_all}
 use Rattle.std.specs.Option.{is_some, unwrap_or}
 use Rattle.std.specs.Str.{bytes_eq}
-use Rattle.tool_arguments.specs.Asked.{address_number}
-use Rattle.tool_arguments.specs.declared.words.Topic.{Topic}
-use Rattle.tool_arguments.specs.declared.words.Topic.TheVariants.{Resolve, Symbols, Find, Where, Sources, Modules, Sections, Streams, Key as KeyOf, Check, Variables}
+use Rattle.tool_arguments.specs.CodeAddresses.{address_number}
+use Rattle.tool_arguments.specs.OptionNames.{has_option, name_part, option_in, takes_value, value_part}
+use Rattle.tool_arguments.specs.declared.commands.Command.{Command}
+use Rattle.tool_arguments.specs.declared.mistakes.Mistake.{Mistake}
+use Rattle.tool_arguments.specs.declared.mistakes.Wrong.{Wrong}
+use Rattle.tool_arguments.specs.declared.mistakes.Wrong.TheVariants.{UnknownOption, NeedsValue, TakesNoValue, GivenTwice, KeyAndImage, BadBase, BadKey}
+use Rattle.tool_arguments.specs.declared.option_names.OptionName.{OptionName}
+use Rattle.tool_arguments.specs.declared.option_names.OptionName.TheVariants as option
 use Rattle.tool_arguments.specs.declared.options.Options.{Options}
+use Rattle.tool_arguments.specs.declared.options.Detail.{Detail}
 use Rattle.tool_arguments.specs.declared.options.Detail.TheVariants as detail
-use Rattle.tool_arguments.specs.declared.options.Form.{Form}
-use Rattle.tool_arguments.specs.declared.options.Form.TheVariants.{Text, Json}
+use Rattle.tool_arguments.specs.declared.options.OutputFormat.{OutputFormat}
+use Rattle.tool_arguments.specs.declared.options.OutputFormat.TheVariants.{Text, Json}
 use Rattle.tool_arguments.specs.declared.options.Given.{Given}
 use Rattle.tool_arguments.specs.declared.options.Next.{Next}
 use Rattle.tool_arguments.specs.declared.options.Next.TheVariants.{Word, Value, Operand}
+use Rattle.tool_arguments.specs.declared.options.ValueAt.{ValueAt}
 use Rattle.tool_arguments.specs.declared.options.Wanted.{Wanted}
 use Rattle.tool_arguments.specs.declared.options.Wanted.TheVariants.{Key, Image}
 
--- arguments like an option's
-abbrev pub is_option : List ℕ → Bool
-is_option word = bytes_eq (take 2 word) (codes "--")
-
--- the option whose value is the argument behind it
-abbrev pub is_base : List ℕ → Bool
-is_base word = bytes_eq word (codes "--base")
+-- an argument begins with `-`, and has another byte
+abbrev pub is_option_word : List ℕ → Bool
+is_option_word word = nat_lt 1 (length word) && (get_or word 0 0 == 45)
 
 -- the argument behind which none is an option
 abbrev pub is_dashes : List ℕ → Bool
 is_dashes word = bytes_eq word (codes "--")
 
--- with the next argument as the base; none where there is a base
-abbrev pub wanting_base : Given → Option Given
-wanting_base g = if is_some g.options.base then None else Some (record g { next = Value })
+-- ---- values
 
--- with this base; none where there is one, or where an argument is no number
-abbrev pub base_given : Given → Option ℕ → Option Given
-base_given g None = None
-base_given g (Some base) = Some (record g { options = record g.options { base = Some base }; next = Word })
+-- a byte of a key that counts; braces and dashes may stand there too
+abbrev pub is_key_digit : ℕ → Bool
+is_key_digit b = is_ascii_hexdigit b
 
-abbrev pub with_base : Given → Option ℕ → Option Given
-with_base g base = if is_some g.options.base then None else base_given g base
+abbrev pub is_key_byte : ℕ → Bool
+is_key_byte b = is_key_digit b || (b == 123) || (b == 125) || (b == 45)
 
 -- 33 to 40 hex digits
 abbrev pub is_key : List ℕ → Bool
-is_key word = nat_lt 32 (length word) && nat_le (length word) 40 && list_all is_ascii_hexdigit word
+is_key value = nat_lt 32 (count_by is_key_digit value) && nat_le (count_by is_key_digit value) 40 && list_all is_key_byte value
 
--- with what names the PDB that is wanted; none where something named it before
-abbrev pub with_wanted : Given → Wanted → Option Given
-with_wanted g wanted = if is_some g.options.wanted then None else Some (record g { options = record g.options { wanted = Some wanted } })
+abbrev pub base_given : Options → Option ℕ → Result Options Wrong
+base_given o None = Err BadBase
+base_given o (Some base) = Ok (record o { base = Some base })
 
--- with an option at p that names it
-unfoldable pub with_wanted_option : Given → ℕ → List ℕ → Option Given
-with_wanted_option g p word =
-    if bytes_eq (take 8 word) (codes "--image=") then with_wanted g (Image p)
-    else if bytes_eq (take 6 word) (codes "--key=") then (if is_key (drop 6 word) then with_wanted g (Key p) else None)
-    else None
+-- a base is given once
+abbrev pub with_base : Options → Option ℕ → Result Options Wrong
+with_base o base = if is_some o.base then Err (GivenTwice option.Base) else base_given o base
 
--- with an option at p of the commands that take addresses
-unfoldable pub with_address_option : Given → ℕ → List ℕ → Option Given
-with_address_option g p word =
-    if is_base word then wanting_base g
-    else if bytes_eq (take 7 word) (codes "--base=") then with_base g (address_number (drop 7 word))
-    else if bytes_eq word (codes "--addresses") then Some (record g { options = record g.options { addresses = true } })
-    else with_wanted_option g p word
+-- so is what names the PDB that is wanted
+abbrev pub wanted_behind : Options → OptionName → Wanted → Option Wanted → Result Options Wrong
+wanted_behind o name new None = Ok (record o { wanted = Some new })
+wanted_behind o name (Key p) (Some (Key q)) = Err (GivenTwice name)
+wanted_behind o name (Image p) (Some (Image q)) = Err (GivenTwice name)
+wanted_behind o name new (Some old) = Err KeyAndImage
 
--- with one of `resolve`
-unfoldable pub with_resolve_option : Given → ℕ → List ℕ → Option Given
-with_resolve_option g p word =
-    if bytes_eq word (codes "--offsets") then Some (record g { options = record g.options { detail = detail.Offsets } })
-    else with_address_option g p word
+abbrev pub with_wanted : Options → OptionName → Wanted → Result Options Wrong
+with_wanted o name new = wanted_behind o name new o.wanted
 
--- with one of `symbols`
-abbrev pub with_symbols_option : Given → List ℕ → Option Given
-with_symbols_option g word = if bytes_eq word (codes "--all") then Some (record g { options = record g.options { all = true } }) else None
+-- with an option that has this value
+abbrev pub with_value : Options → OptionName → ValueAt → List ℕ → Result Options Wrong
+with_value o option.Base at value = with_base o (address_number value)
+with_value o option.Key at value = if is_key value then with_wanted o option.Key (Key at) else Err BadKey
+with_value o option.Image at value = with_wanted o option.Image (Image at)
+with_value o name at value = Err (TakesNoValue name)
 
--- the commands that can write JSON
-abbrev pub takes_json : Topic → Bool
-takes_json Resolve = true
-takes_json Find = true
-takes_json Where = true
-takes_json Sources = true
-takes_json Modules = true
-takes_json Sections = true
-takes_json Streams = true
-takes_json KeyOf = true
-takes_json Check = true
-takes_json topic = false
+-- ---- options without a value, each given once
 
--- with output in JSON; none where that was given before
-abbrev pub json_after : Given → Form → Option Given
-json_after g Text = Some (record g { options = record g.options { form = Json } })
-json_after g Json = None
+abbrev pub with_offsets : Options → Detail → Result Options Wrong
+with_offsets o detail.Plain = Ok (record o { detail = detail.Offsets })
+with_offsets o other = Err (GivenTwice option.Offsets)
 
-abbrev pub with_json : Given → Option Given
-with_json g = json_after g g.options.form
+abbrev pub with_json : Options → OutputFormat → Result Options Wrong
+with_json o Text = Ok (record o { format = Json })
+with_json o Json = Err (GivenTwice option.Json)
 
--- with an option that not every command has
-abbrev pub with_own_option : Topic → Given → ℕ → List ℕ → Option Given
-with_own_option Resolve g p word = with_resolve_option g p word
-with_own_option Variables g p word = with_address_option g p word
-with_own_option Symbols g p word = with_symbols_option g word
-with_own_option topic g p word = None
+abbrev pub with_flag : Options → OptionName → Result Options Wrong
+with_flag o option.Addresses = if o.addresses then Err (GivenTwice option.Addresses) else Ok (record o { addresses = true })
+with_flag o option.Offsets = with_offsets o o.detail
+with_flag o option.All = if o.all then Err (GivenTwice option.All) else Ok (record o { all = true })
+with_flag o option.Json = with_json o o.format
+with_flag o name = Err (GivenTwice name)
 
-abbrev pub with_option : Topic → Given → ℕ → List ℕ → Option Given
-with_option topic g p word = if takes_json topic && bytes_eq word (codes "--json") then with_json g else with_own_option topic g p word
+-- ---- one argument behind another
 
--- with one that is no value, at p; none where it can't stand there
-abbrev pub with_plain : Topic → Given → ℕ → List ℕ → Option Given
-with_plain topic g p word =
-    if is_dashes word then Some (record g { next = Operand })
-    else if is_option word then with_option topic g p word
-    else Some (record g { has_file = true })
+-- the option that an argument names, where the command has it
+abbrev pub known_option : Command → Option OptionName → Result OptionName Wrong
+known_option command None = Err UnknownOption
+known_option command (Some name) = if has_option command name then Ok name else Err UnknownOption
 
--- with one more argument, at index p
-unfoldable pub with_word : Topic → Given → Next → ℕ → List ℕ → Option Given
-with_word topic g Word p word = with_plain topic g p word
-with_word topic g Value p word = with_base g (address_number word)
-with_word topic g Operand p word = Some (record g { has_file = true })
+abbrev pub option_of : Command → List ℕ → Result OptionName Wrong
+option_of command word = known_option command (option_in (name_part word))
+
+abbrev pub with_options : Given → Next → Result Options Wrong → Result Given Wrong
+with_options g next (Ok o) = Ok (record { options = o; next = next })
+with_options g next (Err wrong) = Err wrong
+
+-- an option of this name, with its value behind `=` where it has one; else the value is the next argument
+abbrev pub after_name : Given → ℕ → OptionName → Option (List ℕ) → Result Given Wrong
+after_name g p name (Some value) = with_options g g.next (with_value g.options name (record { argument = p; is_joined = true }) value)
+after_name g p name None = if takes_value name then Ok (record g { next = Value name }) else with_options g g.next (with_flag g.options name)
+
+abbrev pub after_known : Given → ℕ → List ℕ → Result OptionName Wrong → Result Given Wrong
+after_known g p word (Ok name) = after_name g p name (value_part word)
+after_known g p word (Err wrong) = Err wrong
+
+abbrev pub after_option : Command → Given → ℕ → List ℕ → Result Given Wrong
+after_option command g p word = after_known g p word (option_of command word)
+
+-- an argument at p, by what is expected there
+abbrev pub after_next : Command → Given → ℕ → List ℕ → Next → Result Given Wrong
+after_next command g p word Word =
+    if is_dashes word then Ok (record g { next = Operand })
+    else if is_option_word word then after_option command g p word
+    else Ok g
+after_next command g p word (Value name) = with_options g Word (with_value g.options name (record { argument = p; is_joined = false }) word)
+after_next command g p word Operand = Ok g
+
+unfoldable pub after_word : Command → Given → ℕ → List ℕ → Result Given Wrong
+after_word command g p word = after_next command g p word g.next
+
+-- ---- all arguments
 
 abbrev pub no_options : Options
-no_options = record { base = None; wanted = None; addresses = false; detail = detail.Plain; all = false; form = Text }
+no_options = record { base = None; wanted = None; addresses = false; detail = detail.Plain; all = false; format = Text }
+
+-- what is said before the first argument
+abbrev pub nothing_given : Given
+nothing_given = record { options = no_options; next = Word }
+
+-- behind the last argument an option may lack its value
+abbrev pub ends_with : Options → Next → ℕ → Result Options Mistake
+ends_with o (Value name) p = Err (record { argument = p; wrong = NeedsValue name })
+ends_with o next p = Ok o
+
+abbrev pub at_end : Given → ℕ → Result Options Mistake
+at_end g p = ends_with g.options g.next p
+
+abbrev pub or_wrong : Result Given Wrong → (Given → Result Options Mistake) → ℕ → Result Options Mistake
+or_wrong (Ok g) more p = more g
+or_wrong (Err wrong) more p = Err (record { argument = p; wrong = wrong })
+
+-- the options of arguments of which the first has index p, or the first that is wrong
+abbrev pub options_by : Command → Given → List (List ℕ) → ℕ → Result Options Mistake
+options_by command g [] p = at_end g p
+options_by command g (word ∷ words) p = or_wrong (after_word command g p word) (λ more. options_by command more words (p + 1)) p
+
+abbrev pub options_of : Command → List (List ℕ) → ℕ → Result Options Mistake
+options_of command words p = options_by command nothing_given words p
 
 -- with the load address of an image as the base, where no other is given
 abbrev pub with_base_of : Options → ℕ → Options
 with_base_of o own = record o { base = Some (unwrap_or o.base own) }
 
--- with the variables of each frame
-abbrev pub with_variables : Options → Options
-with_variables o = record o { detail = detail.Variables }
+-- ---- what is expected behind an argument
 
--- what is given before the first argument
-abbrev pub nothing_given : Given
-nothing_given = record { options = no_options; next = Word; has_file = false }
+abbrev pub value_of : Option OptionName → Next
+value_of None = Word
+value_of (Some name) = if takes_value name then Value name else Word
 
--- a value is still to come
-abbrev pub is_value : Next → Bool
-is_value Value = true
-is_value next = false
+-- an option whose value isn't behind `=`
+abbrev pub behind_option : List ℕ → Next
+behind_option word = value_of (option_in word)
 
-abbrev pub or_bad : {A : Type 0} → Option Given → (Given → Result A ℕ) → ℕ → Result A ℕ
-or_bad None more p = Err p
-or_bad (Some g) more p = more g
+abbrev pub behind_word : Next → List ℕ → Next
+behind_word Word word =
+    if is_dashes word then Operand
+    else if is_option_word word then behind_option word
+    else Word
+behind_word (Value name) word = Word
+behind_word Operand word = Operand
 
--- the options of arguments of which the first has index p, and of which one names a file; or the index of the one that is
--- wrong, or is missing at the end
-abbrev pub options_of : Topic → Given → List (List ℕ) → ℕ → Result Options ℕ
-options_of topic g [] p = if g.has_file && not (is_value g.next) then Ok g.options else Err p
-options_of topic g (word ∷ words) p = or_bad (with_word topic g g.next p word) (λ more. options_of topic more words (p + 1)) p
+-- ---- values again
+
+abbrev pub joined_or : Option (List ℕ) → List ℕ → List ℕ
+joined_or None word = word
+joined_or (Some value) word = value
+
+-- the value that stands there: behind the first `=` of an argument, or all of it
+abbrev pub value_in : List (List ℕ) → ValueAt → List ℕ
+value_in words at = if at.is_joined then joined_or (value_part (get_or words at.argument [])) (get_or words at.argument []) else get_or words at.argument []

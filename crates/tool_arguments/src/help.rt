@@ -1,29 +1,11 @@
 //! What the program says of itself.
 
-use crate::words::Topic;
+use crate::commands::Command;
+use crate::usage::put_usage;
+use std::alloc::{AllocError, Global};
 
 /// The program's version.
 pub const VERSION: &str = "pdb_tool 0.1.0\n";
-
-/// The commands, in the order of help.
-pub const COMMANDS: [&str; 16] = [
-    "resolve",
-    "variables",
-    "find",
-    "where",
-    "lines",
-    "scopes",
-    "symbols",
-    "types",
-    "sources",
-    "modules",
-    "sections",
-    "streams",
-    "key",
-    "check",
-    "help",
-    "version",
-];
 
 const OVERVIEW: &str = "\
 pdb_tool prints what Microsoft symbol files (PDB) say about a program.
@@ -53,14 +35,14 @@ K is the index of a module, counted from 0: modules lists them.
 With --json each command but variables, lines, scopes, symbols and types prints a JSON object on
 each line.
 
+-- ends the options: what stands behind it is an operand, whatever it begins with.
+
 Exit status: 0, success; 1, a file of several could not be read, a file is damaged, or nothing
 was found; 2, a wrong argument; 3, a file can't be read; 4, it is no symbol file; 5, out of memory;
 6, standard output failed; 7, the file has another key than the wanted one.
 ";
 
 const RESOLVE: &str = "\
-pdb_tool resolve [--base=HEX] [--key=KEY | --image=IMAGE] [--addresses] [--offsets] [--json] FILE [ADDRESS..]
-
 Prints the code at each ADDRESS, innermost function first: the inlined functions, and then the
 function that contains them. Each function is its name on one line, and FILE:LINE:COLUMN on the
 next. An empty line ends each address. An unknown name is ??, an unknown line or column 0. Where
@@ -84,9 +66,9 @@ linker made for incremental linking is ILT+N(NAME): it leads to NAME.
   --json      prints each ADDRESS and its frames as a JSON object on one line. An unknown name or
               file is null. A line of standard input that is no address has null for its frames
 
-Options stand before FILE or behind it. --base, --key, --image and --json are given at most once,
-and not both --key and --image. --base HEX is --base=HEX. If FILE has another key than the wanted
-one, nothing is printed, and the status is 7.
+Options stand before FILE or behind it, each at most once, and not both --key and --image. The value
+of an option may stand behind it: --base HEX is --base=HEX. Braces and dashes in KEY don't count. If
+FILE has another key than the wanted one, nothing is printed, and the status is 7.
 
 Without an ADDRESS each line of standard input is one. Its text is written before the next line is
 read. A line that is no address is printed as it is.
@@ -104,8 +86,6 @@ read. A line that is no address is printed as it is.
 ";
 
 const VARIABLES: &str = "\
-pdb_tool variables [--base=HEX] [--key=KEY | --image=IMAGE] [--addresses] FILE [ADDRESS..]
-
 Prints the code at each ADDRESS as resolve does. Behind the two lines of each function is a line for
 each of its variables that is in scope at ADDRESS: two blanks, a word, where the variable is while
 the code there runs, and its name. The variables of an inlined call stand behind that call.
@@ -131,8 +111,6 @@ ADDRESS, the options and standard input are those of resolve.
 ";
 
 const FIND: &str = "\
-pdb_tool find [--json] FILE NAME..
-
 Prints where the functions, inlined functions, data and labels are whose name is one of the NAMEs.
 In a NAME a * stands for any bytes, also none; case counts. Each line has a kind, SECTION:OFFSET in
 hex, the address relative to the load address, the size in bytes, and the name. - is a size or an
@@ -152,8 +130,6 @@ and text; module is null outside modules.
 ";
 
 const WHERE: &str = "\
-pdb_tool where [--json] FILE SOURCE[:LINE[-LINE]]..
-
 Prints the addresses of source lines. SOURCE is the name of a source file, or the end of its path:
 tour.h, src/main.cpp. / is the same as \\, and case doesn't count. Behind it :LINE is one line, and
 :LINE-LINE a range; without them all lines are printed. There is no search for the nearest line:
@@ -172,8 +148,6 @@ address or name is null.
 ";
 
 const LINES: &str = "\
-pdb_tool lines FILE [K..]
-
 Prints the line records of the modules with these indices, counted from 0, or else of all modules:
 SECTION:OFFSET in hex, the size in bytes, and FILE:LINE:COLUMN. An unknown size is -, an unknown
 file ??, an unknown column 0. Before each of several modules stands a line `module K NAME`. A
@@ -186,8 +160,6 @@ module that is not present or has no stream.
 ";
 
 const SCOPES: &str = "\
-pdb_tool scopes FILE [K..]
-
 Prints the scopes of the modules with these indices, counted from 0, or else of all modules:
 procedures, thunks, blocks and separated code with SECTION:OFFSET in hex and their size in bytes,
 data and labels with SECTION:OFFSET, inlined functions, and variables with the register or the
@@ -205,8 +177,6 @@ is indented by two blanks, up to 64. Several modules and damage are printed as b
 ";
 
 const SYMBOLS: &str = "\
-pdb_tool symbols [--all] FILE [K..]
-
 Prints the symbol records of the modules with these indices, counted from 0, with --all those of
 all modules, or else the global symbols. Each record is indented by its scopes, as by scopes: its
 index in hex, its kind as cvinfo.h names it, its fields, its name, and behind a colon its type, as
@@ -220,8 +190,6 @@ Several modules are printed as by lines.
 ";
 
 const TYPES: &str = "\
-pdb_tool types FILE [INDEX..]
-
 Prints the types with these indices, which are hex, or else all types of the file: the index, the
 kind as cvinfo.h names it, the size in bytes, and the name. A type that is only declared has
 `forward=` and the index of its definition, or - if the file has none. Behind the name of an
@@ -241,8 +209,6 @@ lines; a list of members is cut behind 1024 parts, and names are cut behind 6553
 ";
 
 const SOURCES: &str = "\
-pdb_tool sources [--json] FILE [K..]
-
 Prints the source files of the modules with these indices, counted from 0, or else of all modules:
 the kind of the checksum of the file's contents (none, md5, sha1, sha256), the checksum in hex or
 -, and the name. Several modules and damage are printed as by lines. With --json each object has the
@@ -256,8 +222,6 @@ is null.
 ";
 
 const MODULES: &str = "\
-pdb_tool modules [--json] FILE
-
 Prints the modules (object files) of which the image was linked: the index K, the number of bytes
 that came from the module, its name, and in brackets the library or the path that the linker read
 it from, if that is another one. With --json that one is null if it is the name or unknown. A list
@@ -270,8 +234,6 @@ that can't be read is a line `error N TEXT`, or an object with the members error
 ";
 
 const SECTIONS: &str = "\
-pdb_tool sections [--json] FILE
-
 Prints the section headers of the image: the number in hex, counted from 1, the address relative to
 the load address, the size in memory, the characteristics in hex, and the name. `none` is printed if
 the file has none.
@@ -283,8 +245,6 @@ the file has none.
 ";
 
 const STREAMS: &str = "\
-pdb_tool streams [--json] FILE
-
 Prints the streams of the file: the number, the size in bytes or - if the stream is absent, and what
 the stream is, or -. A stream can be several things: they are separated by commas.
 
@@ -299,8 +259,6 @@ the stream is, or -. A stream can be several things: they are separated by comma
 ";
 
 const KEY: &str = "\
-pdb_tool key [--json] FILE..
-
 Prints the key under which a symbol server stores each FILE: of a PDB its GUID in 32 hex digits and
 its age in hex digits, a blank, and FILE. An image (EXE or DLL) has another key: its time stamp in
 eight hex digits and its size in hex digits. Behind FILE follow the key and the path of the PDB that
@@ -316,8 +274,6 @@ which are null if it names no PDB.
 ";
 
 const CHECK: &str = "\
-pdb_tool check [--json] FILE..
-
 Reads each FILE to its end and prints what is damaged: FILE, the part, and the error, one line for
 each list, symbol or inlined call that can't be read, and for each type whose members can't. A file
 without damage is `ok`. What a file doesn't have is no damage, nor is a kind of symbol that isn't
@@ -334,77 +290,60 @@ the part and the error of a FILE without damage are null.
   {\"file\":\"app.pdb\",\"where\":null,\"text\":null}
 ";
 
-const RESOLVE_USAGE: &str =
-    "usage: pdb_tool resolve [--base=HEX] [--key=KEY | --image=IMAGE] [--addresses] [--offsets] [--json] FILE [ADDRESS..]\n";
+const HELP: &str = "\
+Prints what the program can do, or the arguments, the output and an example of a COMMAND. With list
+it prints the commands of pdb_list, and all errors.
 
-const VARIABLES_USAGE: &str =
-    "usage: pdb_tool variables [--base=HEX] [--key=KEY | --image=IMAGE] [--addresses] FILE [ADDRESS..]\n";
+  $ pdb_tool help find
+  $ pdb_tool find --help
+";
 
-const FIND_USAGE: &str = "usage: pdb_tool find [--json] FILE NAME..\n";
+const VERSION_HELP: &str = "\
+Prints the version of the program.
 
-const WHERE_USAGE: &str = "usage: pdb_tool where [--json] FILE SOURCE[:LINE[-LINE]]..\n";
+  $ pdb_tool version
+  pdb_tool 0.1.0
+";
 
-const SOURCES_USAGE: &str = "usage: pdb_tool sources [--json] FILE [K..]\n";
-
-const TYPES_USAGE: &str = "usage: pdb_tool types FILE [INDEX..]\n";
-
-const MODULES_USAGE: &str = "usage: pdb_tool modules [--json] FILE\n";
-
-const SECTIONS_USAGE: &str = "usage: pdb_tool sections [--json] FILE\n";
-
-const STREAMS_USAGE: &str = "usage: pdb_tool streams [--json] FILE\n";
-
-const LINES_USAGE: &str = "usage: pdb_tool lines FILE [K..]\n";
-
-const SCOPES_USAGE: &str = "usage: pdb_tool scopes FILE [K..]\n";
-
-const SYMBOLS_USAGE: &str = "usage: pdb_tool symbols [--all] FILE [K..]\n";
-
-const KEY_USAGE: &str = "usage: pdb_tool key [--json] FILE..\n";
-
-const CHECK_USAGE: &str = "usage: pdb_tool check [--json] FILE..\n";
-
-const USAGE: &str =
-    "usage: pdb_tool COMMAND [OPTION..] FILE [ARGUMENT..]; pdb_tool help prints more\n";
-
-/// The text of help: of all, or of a command.
-pub fn help_of(topic: Option<Topic>) -> &'static str {
-    match topic {
-        None => OVERVIEW,
-        Some(Topic::Resolve) => RESOLVE,
-        Some(Topic::Lines) => LINES,
-        Some(Topic::Scopes) => SCOPES,
-        Some(Topic::Symbols) => SYMBOLS,
-        Some(Topic::Key) => KEY,
-        Some(Topic::Check) => CHECK,
-        Some(Topic::Find) => FIND,
-        Some(Topic::Where) => WHERE,
-        Some(Topic::Sources) => SOURCES,
-        Some(Topic::Modules) => MODULES,
-        Some(Topic::Sections) => SECTIONS,
-        Some(Topic::Streams) => STREAMS,
-        Some(Topic::Types) => TYPES,
-        Some(Topic::Variables) => VARIABLES,
+/// What a command does, its arguments, its output and an example.
+fn body_of(command: Command) -> &'static str {
+    match command {
+        Command::Resolve => RESOLVE,
+        Command::Variables => VARIABLES,
+        Command::Find => FIND,
+        Command::Where => WHERE,
+        Command::Lines => LINES,
+        Command::Scopes => SCOPES,
+        Command::Symbols => SYMBOLS,
+        Command::Types => TYPES,
+        Command::Sources => SOURCES,
+        Command::Modules => MODULES,
+        Command::Sections => SECTIONS,
+        Command::Streams => STREAMS,
+        Command::Key => KEY,
+        Command::Check => CHECK,
+        Command::Help => HELP,
+        Command::Version => VERSION_HELP,
     }
 }
 
-/// The line that has the arguments of a command, or of the program.
-pub fn usage_of(topic: Option<Topic>) -> &'static str {
-    match topic {
-        None => USAGE,
-        Some(Topic::Resolve) => RESOLVE_USAGE,
-        Some(Topic::Lines) => LINES_USAGE,
-        Some(Topic::Scopes) => SCOPES_USAGE,
-        Some(Topic::Symbols) => SYMBOLS_USAGE,
-        Some(Topic::Key) => KEY_USAGE,
-        Some(Topic::Check) => CHECK_USAGE,
-        Some(Topic::Find) => FIND_USAGE,
-        Some(Topic::Where) => WHERE_USAGE,
-        Some(Topic::Sources) => SOURCES_USAGE,
-        Some(Topic::Modules) => MODULES_USAGE,
-        Some(Topic::Sections) => SECTIONS_USAGE,
-        Some(Topic::Streams) => STREAMS_USAGE,
-        Some(Topic::Types) => TYPES_USAGE,
-        Some(Topic::Variables) => VARIABLES_USAGE,
+/// The help on a command: how it is written, and what it does.
+fn command_help(alloc: Global, command: Command) -> Result<Vec<u8>, AllocError> {
+    let mut text = Vec::new(alloc);
+    put_usage(&mut text, command)?;
+    text.extend_from_slice(b"\n\n")?;
+    text.extend_from_slice(body_of(command).as_bytes())?;
+    Ok(text)
+}
+
+/// The text of help: of all, or of a command.
+pub fn help_text(alloc: Global, command: Option<Command>) -> Result<Vec<u8>, AllocError> {
+    match command {
+        Some(command) => command_help(alloc, command),
+        None => {
+            let mut text = Vec::new(alloc);
+            text.extend_from_slice(OVERVIEW.as_bytes())?;
+            Ok(text)
+        }
     }
 }

@@ -1,19 +1,19 @@
-//! The words of a command that are no options.
+//! The arguments of a command that are no options.
 
 ghost use Rattle.std.specs.Prelude.{◌≡◌, ◌+◌, ◌<◌, ◌^◌, map, string_bytes, length, IfOk};
-ghost use Rattle.pdb_text.specs.Numbers.{number_in};
-ghost use Rattle.tool_arguments.specs.Operands.{all_in, behind_plain, behind_word, first_empty, is_operand, operand_view, operands_of, type_index_in};
-ghost use Rattle.tool_arguments.specs.SourcesAsked.{source_of};
+ghost use Rattle.std.specs.Result.{result_map_both};
+ghost use Rattle.tool_arguments.specs.Mistakes.{Judges};
+ghost use Rattle.tool_arguments.specs.Operands.{address_in, all_in, first_empty, is_operand, judging_base, module_in, operand_view, operands_of, source_in, type_in};
+ghost use Rattle.tool_arguments.specs.Requests.{address_view};
 ghost use Rattle.tool_arguments.specs.SourceViews.{source_view};
-ghost use Rattle.tool_arguments.specs.Questions.{question_of, question_view};
-ghost use Rattle.pdb_text.specs.Arguments.{Tells};
 ghost use Rattle.tool_arguments.specs.declared.options.Next.{Next};
 
-use crate::asked::address_number;
-use crate::options::{Next, Options, is_base, is_dashes, is_option};
-use crate::question::{Question, question_of};
+use crate::code_address::{address_number, code_address, spelled_in};
+use crate::mistakes::{Mistake, TaskError, Wrong};
+use crate::options::{Next, Options, Wanted, behind_word, is_option_word};
+use crate::requests::AddressWord;
 use crate::sources_asked::{SourceAsked, source_of};
-use pdb_text::{WordsError, number_in};
+use pdb_text::number_in;
 use std::alloc::{AllocError, Global};
 
 /// An argument that is no option.
@@ -25,38 +25,27 @@ pub struct Operand<'w> {
     pub word: &'w str,
 }
 
+impl Operand<'_> {
+    /// That it is wrong.
+    fn mistake(self, wrong: Wrong) -> Mistake
+        ensures arg { result.argument ≡ self.entry.argument }
+        ensures wrong { result.wrong ≡ wrong }
+    {
+        Mistake {
+            argument: self.argument,
+            wrong,
+        }
+    }
+}
+
 /// Whether an argument is an operand, by what is expected.
-fn is_operand(next: Next, word: &[u8]) -> bool
+fn is_operand(next: Next, word: &str) -> bool
     ensures { result ≡ is_operand next word.now }
 {
     match next {
-        Next::Word => !is_option(word),
-        Next::Value => false,
+        Next::Word => !is_option_word(word),
+        Next::Value(_) => false,
         Next::Operand => true,
-    }
-}
-
-/// What is expected behind an argument that is no value.
-fn behind_plain(word: &[u8]) -> Next
-    ensures { result ≡ behind_plain word.now }
-{
-    if is_dashes(word) {
-        Next::Operand
-    } else if is_base(word) {
-        Next::Value
-    } else {
-        Next::Word
-    }
-}
-
-/// What is expected behind an argument.
-fn behind_word(next: Next, word: &[u8]) -> Next
-    ensures { result ≡ behind_word next word.now }
-{
-    match next {
-        Next::Word => behind_plain(word),
-        Next::Value => Next::Word,
-        Next::Operand => Next::Operand,
     }
 }
 
@@ -73,96 +62,136 @@ pub fn operands_in<'w>(
     let mut all = Vec::new(alloc);
     let mut next = Next::Word;
     for (index, word) in words.iter().enumerate() {
-        if is_operand(next, word.as_bytes()) {
+        if is_operand(next, word.as_str()) {
             all.push(Operand {
                 argument: argument + index,
                 word: word.as_str(),
             })?;
         }
-        next = behind_word(next, word.as_bytes());
+        next = behind_word(next, word.as_str());
     }
     Ok(all)
 }
 
-/// The questions of operands.
-#[tactic(auto, using(crate::proofs::AllWords::all_there, crate::proofs::AllWords::begins, crate::proofs::AllWords::none_there, crate::proofs::AllWords::one_more))]
-pub fn all_questions<'w>(
+/// The load address by which addresses are judged before an image is read: any will do.
+fn judging_base(options: Options) -> Option<u64>
+    ensures { result ≡ judging_base options }
+{
+    match (options.base, options.wanted) {
+        (None, Some(Wanted::Image(_))) => Some(0),
+        (base, _) => base,
+    }
+}
+
+/// The address that an operand is.
+fn address_in(options: Options, word: &[u8]) -> Result<AddressWord<'_>, Wrong>
+    ensures { result_map_both address_view (λ wrong. wrong) result ≡ address_in options word.now }
+{
+    let Some(address) = spelled_in(word) else {
+        return Err(Wrong::BadAddress);
+    };
+    match code_address(judging_base(options), address) {
+        Some(_) => Ok(AddressWord { word, address }),
+        None => Err(Wrong::NeedsBase),
+    }
+}
+
+/// The addresses that operands are.
+#[tactic(auto, using(crate::proofs::AllWords::all_there, crate::proofs::AllWords::begins, crate::proofs::AllWords::wrong_there, crate::proofs::AllWords::one_more))]
+pub fn all_addresses<'w>(
     alloc: Global,
     options: Options,
-    words: &[Operand<'w>],
-) -> Result<Vec<Question<'w>>, WordsError>
-    ensures { Tells (λ v. map question_view v.items) result (all_in (question_of options) (map operand_view words.now)) }
+    operands: &[Operand<'w>],
+) -> Result<Vec<AddressWord<'w>>, TaskError>
+    ensures { Judges (λ v. map address_view v.items) result (all_in (address_in options) (map operand_view operands.now)) }
 {
     let mut all = Vec::new(alloc);
-    for operand in words {
-        match question_of(options, operand.word.as_bytes()) {
-            Some(question) => all.push(question)?,
-            None => return Err(WordsError::BadWord(operand.argument)),
+    for operand in operands {
+        match address_in(options, operand.word.as_bytes()) {
+            Ok(address) => all.push(address)?,
+            Err(wrong) => return Err(TaskError::Mistake(operand.mistake(wrong))),
         }
     }
     Ok(all)
 }
 
-/// The numbers that operands are.
-#[tactic(auto, using(crate::proofs::AllWords::all_there, crate::proofs::AllWords::begins, crate::proofs::AllWords::none_there, crate::proofs::AllWords::one_more))]
-pub fn all_numbers(alloc: Global, words: &[Operand<'_>]) -> Result<Vec<u32>, WordsError>
-    ensures { Tells (λ v. v.items) result (all_in number_in (map operand_view words.now)) }
+/// The index of a module that an operand is.
+fn module_in(word: &str) -> Result<u32, Wrong>
+    ensures { result ≡ module_in word.now }
+{
+    number_in(word).ok_or(Wrong::BadModule)
+}
+
+/// The indices of modules that operands are.
+#[tactic(auto, using(crate::proofs::AllWords::all_there, crate::proofs::AllWords::begins, crate::proofs::AllWords::wrong_there, crate::proofs::AllWords::one_more))]
+pub fn all_modules(alloc: Global, operands: &[Operand<'_>]) -> Result<Vec<u32>, TaskError>
+    ensures { Judges (λ v. v.items) result (all_in module_in (map operand_view operands.now)) }
 {
     let mut all = Vec::new(alloc);
-    for operand in words {
-        match number_in(operand.word) {
-            Some(number) => all.push(number)?,
-            None => return Err(WordsError::BadWord(operand.argument)),
+    for operand in operands {
+        match module_in(operand.word) {
+            Ok(index) => all.push(index)?,
+            Err(wrong) => return Err(TaskError::Mistake(operand.mistake(wrong))),
         }
     }
     Ok(all)
 }
 
-/// The index of a type that a word is: a number below 2^32, spelled as an address is.
-fn type_index_in(word: &[u8]) -> Option<u32>
-    ensures { result ≡ type_index_in word.now }
+/// The index of a type that an operand is: a number below 2^32, spelled as an address is.
+fn type_in(word: &[u8]) -> Result<u32, Wrong>
+    ensures { result ≡ type_in word.now }
 {
-    u32::try_from(address_number(word)?).ok()
+    match address_number(word) {
+        Some(number) => u32::try_from(number).map_err(|_| Wrong::BadType),
+        None => Err(Wrong::BadType),
+    }
 }
 
 /// The indices of types that operands are.
-#[tactic(auto, using(crate::proofs::AllWords::all_there, crate::proofs::AllWords::begins, crate::proofs::AllWords::none_there, crate::proofs::AllWords::one_more))]
-pub fn all_indices(alloc: Global, words: &[Operand<'_>]) -> Result<Vec<u32>, WordsError>
-    ensures { Tells (λ v. v.items) result (all_in type_index_in (map operand_view words.now)) }
+#[tactic(auto, using(crate::proofs::AllWords::all_there, crate::proofs::AllWords::begins, crate::proofs::AllWords::wrong_there, crate::proofs::AllWords::one_more))]
+pub fn all_types(alloc: Global, operands: &[Operand<'_>]) -> Result<Vec<u32>, TaskError>
+    ensures { Judges (λ v. v.items) result (all_in type_in (map operand_view operands.now)) }
 {
     let mut all = Vec::new(alloc);
-    for operand in words {
-        match type_index_in(operand.word.as_bytes()) {
-            Some(index) => all.push(index)?,
-            None => return Err(WordsError::BadWord(operand.argument)),
+    for operand in operands {
+        match type_in(operand.word.as_bytes()) {
+            Ok(index) => all.push(index)?,
+            Err(wrong) => return Err(TaskError::Mistake(operand.mistake(wrong))),
         }
     }
     Ok(all)
 }
 
+/// The lines of a source file that an operand names.
+fn source_in(word: &[u8]) -> Result<SourceAsked<'_>, Wrong>
+    ensures { result_map_both source_view (λ wrong. wrong) result ≡ source_in word.now }
+{
+    source_of(word).ok_or(Wrong::BadSource)
+}
+
 /// The lines of source files that operands name.
-#[tactic(auto, using(crate::proofs::AllWords::all_there, crate::proofs::AllWords::begins, crate::proofs::AllWords::none_there, crate::proofs::AllWords::one_more))]
+#[tactic(auto, using(crate::proofs::AllWords::all_there, crate::proofs::AllWords::begins, crate::proofs::AllWords::wrong_there, crate::proofs::AllWords::one_more))]
 pub fn all_sources<'w>(
     alloc: Global,
-    words: &[Operand<'w>],
-) -> Result<Vec<SourceAsked<'w>>, WordsError>
-    ensures { Tells (λ v. map source_view v.items) result (all_in source_of (map operand_view words.now)) }
+    operands: &[Operand<'w>],
+) -> Result<Vec<SourceAsked<'w>>, TaskError>
+    ensures { Judges (λ v. map source_view v.items) result (all_in source_in (map operand_view operands.now)) }
 {
     let mut all = Vec::new(alloc);
-    for operand in words {
-        match source_of(operand.word.as_bytes()) {
-            Some(source) => all.push(source)?,
-            None => return Err(WordsError::BadWord(operand.argument)),
+    for operand in operands {
+        match source_in(operand.word.as_bytes()) {
+            Ok(source) => all.push(source)?,
+            Err(wrong) => return Err(TaskError::Mistake(operand.mistake(wrong))),
         }
     }
     Ok(all)
 }
 
 /// The index of the first operand that is empty.
-pub fn first_empty(words: &[Operand<'_>]) -> Option<usize>
-    ensures { result ≡ first_empty (map operand_view words.now) }
+pub fn first_empty(operands: &[Operand<'_>]) -> Option<usize>
+    ensures { result ≡ first_empty (map operand_view operands.now) }
 {
-    for operand in words {
+    for operand in operands {
         if operand.word.is_empty() {
             return Some(operand.argument);
         }

@@ -1,26 +1,36 @@
 //! What the options of a command say.
 
-ghost use Rattle.std.specs.Prelude.{◌≡◌, ◌≢◌, ◌+◌, ◌<◌, ◌^◌, IfErr, map, string_bytes, length};
-ghost use Rattle.tool_arguments.specs.Options.{is_base, is_dashes, is_option, is_key, is_value, nothing_given, options_of, takes_json, wanting_base, with_address_option, with_base, with_base_of, with_json, with_option, with_plain, with_resolve_option, with_symbols_option, with_variables, with_wanted, with_wanted_option, with_word};
-ghost use Rattle.std.specs.Char.{is_ascii_hexdigit};
-ghost use Rattle.pdb_text.specs.Arguments.{Tells};
+ghost use Rattle.std.specs.Prelude.{◌≡◌, ◌+◌, ◌<◌, ◌^◌, count_by, length, map, string_bytes};
+ghost use Rattle.std.specs.List.{list_all};
+ghost use Rattle.tool_arguments.specs.OptionNames.{takes_value};
+ghost use Rattle.tool_arguments.specs.Options.{after_option, after_word, at_end, behind_option, behind_word, is_dashes, is_key, is_key_byte, is_key_digit, is_option_word, option_of, options_of, value_in, with_base, with_base_of, with_flag, with_value, with_wanted};
 
-use crate::asked::{address_number, is_all_hex};
-use crate::words::Topic;
-use pdb_text::WordsError;
+use crate::code_address::address_number;
+use crate::commands::Command;
+use crate::mistakes::{Mistake, Wrong};
+use crate::option_names::{OptionName, has_option, name_part, option_in, value_part};
 
-/// What names the PDB that is wanted: an option, by its index among the program's arguments, counted from 0.
+/// Where the value of an option stands.
+#[derive(Clone, Copy, Debug, PartialEq, Eq)]
+pub struct ValueAt {
+    /// The index of the argument among the program's, counted from 0.
+    pub argument: usize,
+    /// Whether it stands behind the first `=` of that argument, or is all of it.
+    pub is_joined: bool,
+}
+
+/// What names the PDB that is wanted.
 #[derive(Clone, Copy, Debug, PartialEq, Eq)]
 pub enum Wanted {
     /// `--key=KEY`: the one of this key.
-    Key(usize),
+    Key(ValueAt),
     /// `--image=IMAGE`: the one that an image names.
-    Image(usize),
+    Image(ValueAt),
 }
 
 /// How the output of a command is written.
 #[derive(Clone, Copy, Debug, Default, PartialEq, Eq)]
-pub enum Form {
+pub enum OutputFormat {
     /// Text for people.
     #[default]
     Text,
@@ -54,7 +64,7 @@ pub struct Options {
     /// Whether the symbols of all modules are meant.
     pub all: bool,
     /// How the output is written.
-    pub form: Form,
+    pub format: OutputFormat,
 }
 
 impl Options {
@@ -67,16 +77,6 @@ impl Options {
             ..self
         }
     }
-
-    /// With the variables of each frame.
-    pub fn with_variables(self) -> Options
-        ensures { result ≡ with_variables self }
-    {
-        Options {
-            detail: Detail::Variables,
-            ..self
-        }
-    }
 }
 
 /// What the next argument is.
@@ -85,263 +85,278 @@ pub enum Next {
     /// An option or an operand.
     #[default]
     Word,
-    /// The value of `--base`.
-    Value,
+    /// The value of an option.
+    Value(OptionName),
     /// An operand: it stands behind `--`.
     Operand,
 }
 
-/// What the arguments so far give.
+/// What the arguments so far say.
 #[derive(Clone, Copy, Debug, Default, PartialEq, Eq)]
 pub struct Given {
     options: Options,
     next: Next,
-    /// Whether one of them names a file.
-    has_file: bool,
 }
 
-/// Whether an argument is an option's.
-pub fn is_option(word: &[u8]) -> bool
-    ensures { result ≡ is_option word.now }
+/// Whether an argument is spelled as an option is: it begins with `-`, and has another byte.
+pub fn is_option_word(word: &str) -> bool
+    ensures { result ≡ is_option_word word.now }
 {
-    word.starts_with(b"--")
-}
-
-/// Whether an argument is the option whose value is the argument behind it.
-pub fn is_base(word: &[u8]) -> bool
-    ensures { result ≡ is_base word.now }
-{
-    word == b"--base".as_slice()
+    word.len() > 1 && word.as_bytes()[0] == b'-'
 }
 
 /// Whether an argument ends the options.
-pub fn is_dashes(word: &[u8]) -> bool
+pub fn is_dashes(word: &str) -> bool
     ensures { result ≡ is_dashes word.now }
 {
-    word == b"--".as_slice()
+    word == "--"
 }
 
-/// With the next argument as the base; none where there is a base.
-fn wanting_base(given: Given) -> Option<Given>
-    ensures { result ≡ wanting_base given }
+/// Whether a byte of a key counts: braces and dashes don't.
+pub fn is_key_digit(byte: u8) -> bool
+    ensures { result ≡ is_key_digit byte }
 {
-    if given.options.base.is_some() {
-        return None;
-    }
-    Some(Given {
-        next: Next::Value,
-        ..given
-    })
+    byte.is_ascii_hexdigit()
 }
 
-/// With this base; none where there is one, or where an argument is no number.
-fn with_base(given: Given, base: Option<u64>) -> Option<Given>
-    ensures { result ≡ with_base given base }
+/// Whether a byte may stand in a key.
+fn is_key_byte(byte: u8) -> bool
+    ensures { result ≡ is_key_byte byte }
 {
-    if given.options.base.is_some() {
-        return None;
-    }
-    let options = Options {
-        base: Some(base?),
-        ..given.options
-    };
-    Some(Given {
-        options,
-        next: Next::Word,
-        ..given
-    })
+    is_key_digit(byte) || byte == b'{' || byte == b'}' || byte == b'-'
 }
 
-/// Whether an argument is a key: 33 to 40 hex digits.
-fn is_key(word: &[u8]) -> bool
-    ensures { result ≡ is_key word.now }
+/// How many bytes of a key count.
+fn key_digits(value: &[u8]) -> usize
+    ensures { result ≡ count_by is_key_digit value.now }
 {
-    32 < word.len() && word.len() <= 40 && is_all_hex(word)
+    value.iter().filter(|b| is_key_digit(**b)).count()
 }
 
-/// With what names the PDB that is wanted; none where something named it before.
-fn with_wanted(given: Given, wanted: Wanted) -> Option<Given>
-    ensures { result ≡ with_wanted given wanted }
+/// Whether all bytes may stand in a key.
+fn has_key_bytes(value: &[u8]) -> bool
+    ensures { result ≡ list_all is_key_byte value.now }
 {
-    if given.options.wanted.is_some() {
-        return None;
-    }
-    let options = Options {
-        wanted: Some(wanted),
-        ..given.options
-    };
-    Some(Given { options, ..given })
+    value.iter().all(|b| is_key_byte(*b))
 }
 
-/// With an option that names the PDB that is wanted.
-#[tactic(auto, unfolding(crate::specs::Options::with_wanted_option))]
-fn with_wanted_option(given: Given, argument: usize, word: &[u8]) -> Option<Given>
-    ensures { result ≡ with_wanted_option given argument word.now }
+/// Whether a value is a key: 33 to 40 hex digits, perhaps with braces and dashes.
+fn is_key(value: &[u8]) -> bool
+    ensures { result ≡ is_key value.now }
 {
-    if word.starts_with(b"--image=") {
-        return with_wanted(given, Wanted::Image(argument));
-    }
-    let key = word.strip_prefix(b"--key=")?;
-    if !is_key(key) {
-        return None;
-    }
-    with_wanted(given, Wanted::Key(argument))
+    let count = key_digits(value);
+    32 < count && count <= 40 && has_key_bytes(value)
 }
 
-/// With an option of the commands that take addresses.
-#[tactic(auto, unfolding(crate::specs::Options::with_address_option))]
-fn with_address_option(given: Given, argument: usize, word: &[u8]) -> Option<Given>
-    ensures { result ≡ with_address_option given argument word.now }
+/// With this base.
+fn with_base(options: Options, base: Option<u64>) -> Result<Options, Wrong>
+    ensures { result ≡ with_base options base }
 {
-    if is_base(word) {
-        return wanting_base(given);
+    if options.base.is_some() {
+        return Err(Wrong::GivenTwice(OptionName::Base));
     }
-    if let Some(base) = word.strip_prefix(b"--base=") {
-        return with_base(given, address_number(base));
-    }
-    if word != b"--addresses".as_slice() {
-        return with_wanted_option(given, argument, word);
-    }
-    let options = Options {
-        addresses: true,
-        ..given.options
-    };
-    Some(Given { options, ..given })
-}
-
-/// With an option of `resolve`.
-#[tactic(auto, unfolding(crate::specs::Options::with_resolve_option))]
-fn with_resolve_option(given: Given, argument: usize, word: &[u8]) -> Option<Given>
-    ensures { result ≡ with_resolve_option given argument word.now }
-{
-    if word != b"--offsets".as_slice() {
-        return with_address_option(given, argument, word);
-    }
-    let options = Options {
-        detail: Detail::Offsets,
-        ..given.options
-    };
-    Some(Given { options, ..given })
-}
-
-/// With an option of `symbols`.
-fn with_symbols_option(given: Given, word: &[u8]) -> Option<Given>
-    ensures { result ≡ with_symbols_option given word.now }
-{
-    if word != b"--all".as_slice() {
-        return None;
-    }
-    let options = Options {
-        all: true,
-        ..given.options
-    };
-    Some(Given { options, ..given })
-}
-
-/// Whether a command can write JSON.
-fn takes_json(topic: Topic) -> bool
-    ensures { result ≡ takes_json topic }
-{
-    match topic {
-        Topic::Resolve | Topic::Find | Topic::Where | Topic::Sources => true,
-        Topic::Modules | Topic::Sections | Topic::Streams | Topic::Key | Topic::Check => true,
-        _ => false,
+    match base {
+        Some(base) => Ok(Options {
+            base: Some(base),
+            ..options
+        }),
+        None => Err(Wrong::BadBase),
     }
 }
 
-/// With output in JSON; none where that was given before.
-fn with_json(given: Given) -> Option<Given>
-    ensures { result ≡ with_json given }
+/// With what names the PDB that is wanted.
+fn with_wanted(options: Options, option: OptionName, wanted: Wanted) -> Result<Options, Wrong>
+    ensures { result ≡ with_wanted options option wanted }
 {
-    match given.options.form {
-        Form::Json => None,
-        Form::Text => {
-            let options = Options {
-                form: Form::Json,
-                ..given.options
-            };
-            Some(Given { options, ..given })
+    match (options.wanted, wanted) {
+        (None, _) => Ok(Options {
+            wanted: Some(wanted),
+            ..options
+        }),
+        (Some(Wanted::Key(_)), Wanted::Key(_)) => Err(Wrong::GivenTwice(option)),
+        (Some(Wanted::Image(_)), Wanted::Image(_)) => Err(Wrong::GivenTwice(option)),
+        _ => Err(Wrong::KeyAndImage),
+    }
+}
+
+/// With an option that has a value.
+fn with_value(
+    options: Options,
+    option: OptionName,
+    at: ValueAt,
+    value: &str,
+) -> Result<Options, Wrong>
+    ensures { result ≡ with_value options option at value.now }
+{
+    match option {
+        OptionName::Base => with_base(options, address_number(value.as_bytes())),
+        OptionName::Key if !is_key(value.as_bytes()) => Err(Wrong::BadKey),
+        OptionName::Key => with_wanted(options, option, Wanted::Key(at)),
+        OptionName::Image => with_wanted(options, option, Wanted::Image(at)),
+        OptionName::Addresses | OptionName::Offsets | OptionName::All | OptionName::Json => {
+            Err(Wrong::TakesNoValue(option))
         }
     }
 }
 
-/// With an option of a command.
-fn with_option(topic: Topic, given: Given, argument: usize, word: &[u8]) -> Option<Given>
-    ensures { result ≡ with_option topic given argument word.now }
+/// With an option that has no value.
+fn with_flag(options: Options, option: OptionName) -> Result<Options, Wrong>
+    ensures { result ≡ with_flag options option }
 {
-    if takes_json(topic) && word == b"--json".as_slice() {
-        return with_json(given);
-    }
-    match topic {
-        Topic::Resolve => with_resolve_option(given, argument, word),
-        Topic::Variables => with_address_option(given, argument, word),
-        Topic::Symbols => with_symbols_option(given, word),
-        _ => None,
+    match (option, options.detail, options.format) {
+        (OptionName::Addresses, _, _) if !options.addresses => Ok(Options {
+            addresses: true,
+            ..options
+        }),
+        (OptionName::Offsets, Detail::Plain, _) => Ok(Options {
+            detail: Detail::Offsets,
+            ..options
+        }),
+        (OptionName::All, _, _) if !options.all => Ok(Options {
+            all: true,
+            ..options
+        }),
+        (OptionName::Json, _, OutputFormat::Text) => Ok(Options {
+            format: OutputFormat::Json,
+            ..options
+        }),
+        _ => Err(Wrong::GivenTwice(option)),
     }
 }
 
-/// With an argument that is no value; none where it can't stand there.
-fn with_plain(topic: Topic, given: Given, argument: usize, word: &[u8]) -> Option<Given>
-    ensures { result ≡ with_plain topic given argument word.now }
+/// Whether an option has a value.
+fn takes_value(option: OptionName) -> bool
+    ensures { result ≡ takes_value option }
 {
-    if is_dashes(word) {
-        return Some(Given {
+    matches!(
+        option,
+        OptionName::Base | OptionName::Key | OptionName::Image
+    )
+}
+
+/// The option that an argument names, where the command has it.
+fn option_of(command: Command, word: &str) -> Result<OptionName, Wrong>
+    ensures { result ≡ option_of command word.now }
+{
+    match option_in(name_part(word)) {
+        Some(option) if has_option(command, option) => Ok(option),
+        _ => Err(Wrong::UnknownOption),
+    }
+}
+
+/// What the arguments say with an option more.
+fn after_option(command: Command, given: Given, argument: usize, word: &str) -> Result<Given, Wrong>
+    ensures { result ≡ after_option command given argument word.now }
+{
+    let option = option_of(command, word)?;
+    let at = ValueAt {
+        argument,
+        is_joined: true,
+    };
+    let options = match value_part(word) {
+        Some(value) => with_value(given.options, option, at, value)?,
+        None if takes_value(option) => {
+            return Ok(Given {
+                next: Next::Value(option),
+                ..given
+            });
+        }
+        None => with_flag(given.options, option)?,
+    };
+    Ok(Given { options, ..given })
+}
+
+/// What the arguments say with one more.
+#[tactic(auto, unfolding(crate::specs::Options::after_word))]
+fn after_word(command: Command, given: Given, argument: usize, word: &str) -> Result<Given, Wrong>
+    ensures { result ≡ after_word command given argument word.now }
+{
+    let at = ValueAt {
+        argument,
+        is_joined: false,
+    };
+    match given.next {
+        Next::Word if is_dashes(word) => Ok(Given {
             next: Next::Operand,
             ..given
-        });
+        }),
+        Next::Word if is_option_word(word) => after_option(command, given, argument, word),
+        Next::Word | Next::Operand => Ok(given),
+        Next::Value(option) => {
+            let options = with_value(given.options, option, at, word)?;
+            Ok(Given {
+                options,
+                next: Next::Word,
+            })
+        }
     }
-    if is_option(word) {
-        return with_option(topic, given, argument, word);
-    }
-    Some(Given {
-        has_file: true,
-        ..given
-    })
 }
 
-/// With one more argument; none where it can't stand there.
-#[tactic(auto, unfolding(crate::specs::Options::with_word))]
-fn with_word(topic: Topic, given: Given, argument: usize, word: &[u8]) -> Option<Given>
-    ensures { result ≡ with_word topic given given.next argument word.now }
+/// What the arguments of a command say, of which there are no more.
+fn at_end(given: Given, argument: usize) -> Result<Options, Mistake>
+    ensures { result ≡ at_end given argument }
 {
     match given.next {
-        Next::Word => with_plain(topic, given, argument, word),
-        Next::Value => with_base(given, address_number(word)),
-        Next::Operand => Some(Given {
-            has_file: true,
-            ..given
+        Next::Value(option) => Err(Mistake {
+            argument,
+            wrong: Wrong::NeedsValue(option),
         }),
+        Next::Word | Next::Operand => Ok(given.options),
     }
 }
 
-/// Whether a value is still to come.
-fn is_value(next: Next) -> bool
-    ensures { result ≡ is_value next }
-{
-    match next {
-        Next::Value => true,
-        Next::Word | Next::Operand => false,
-    }
-}
-
-/// The options of a command, of whose arguments the first has the index `argument` among the program's. One of them has
-/// to name a file.
-#[tactic(auto, using(crate::proofs::OptionWords::bad_there, crate::proofs::OptionWords::begins, crate::proofs::OptionWords::ends, crate::proofs::OptionWords::one_more))]
-pub fn options_in(topic: Topic, words: &[String], argument: usize) -> Result<Options, WordsError>
+/// The options of a command, of whose arguments the first has the index `argument` among the program's.
+#[tactic(auto, using(crate::proofs::OptionWords::wrong_there, crate::proofs::OptionWords::begins, crate::proofs::OptionWords::ends, crate::proofs::OptionWords::one_more))]
+pub fn options_in(command: Command, words: &[String], argument: usize) -> Result<Options, Mistake>
     requires { argument + length words.now < 2 ^ 64 }
-    ensures is { Tells (λ o. o) result (options_of topic nothing_given (map string_bytes words.now) argument) }
-    ensures memory { IfErr result (λ e. e ≢ WordsError.OutOfMemory) }
+    ensures { result ≡ options_of command (map string_bytes words.now) argument }
 {
     let mut given = Given::default();
     for (index, word) in words.iter().enumerate() {
-        match with_word(topic, given, argument + index, word.as_bytes()) {
-            Some(more) => given = more,
-            None => return Err(WordsError::BadWord(argument + index)),
+        match after_word(command, given, argument + index, word.as_str()) {
+            Ok(more) => given = more,
+            Err(wrong) => {
+                return Err(Mistake {
+                    argument: argument + index,
+                    wrong,
+                });
+            }
         }
     }
-    if given.has_file && !is_value(given.next) {
-        Ok(given.options)
-    } else {
-        Err(WordsError::BadWord(argument + words.len()))
+    at_end(given, argument + words.len())
+}
+
+/// What is expected behind an argument.
+pub fn behind_word(next: Next, word: &str) -> Next
+    ensures { result ≡ behind_word next word.now }
+{
+    match next {
+        Next::Word if is_dashes(word) => Next::Operand,
+        Next::Word if is_option_word(word) => behind_option(word),
+        Next::Word | Next::Value(_) => Next::Word,
+        Next::Operand => Next::Operand,
+    }
+}
+
+/// What is expected behind an option.
+fn behind_option(word: &str) -> Next
+    ensures { result ≡ behind_option word.now }
+{
+    match option_in(word) {
+        Some(option) if takes_value(option) => Next::Value(option),
+        _ => Next::Word,
+    }
+}
+
+/// The value that stands there.
+pub fn value_in(words: &[String], at: ValueAt) -> &str
+    ensures { result.now ≡ value_in (map string_bytes words.now) at }
+{
+    let Some(word) = words.get(at.argument) else {
+        return "";
+    };
+    match value_part(word.as_str()) {
+        Some(value) if at.is_joined => value,
+        _ => word.as_str(),
     }
 }

@@ -21,7 +21,7 @@ use Rattle.tool_check.specs.Findings.{Subject, file_subject, line_of, module_sub
 use Rattle.tool_types.specs.TypeLines.{tag_said}
 use Rattle.tool_check.specs.declared.file_parts.FilePart.{FilePart}
 use Rattle.tool_check.specs.declared.file_parts.FilePart.TheVariants.{Information, DebugInformation, Sections, AddressMap, FrameTable, StringTable}
-use Rattle.tool_arguments.specs.declared.options.Form.{Form}
+use Rattle.tool_arguments.specs.declared.options.OutputFormat.{OutputFormat}
 
 -- where the refusal tells of damage
 abbrev pub damage_text : Subject → List ℕ → Error → List ℕ
@@ -77,13 +77,13 @@ stream_text subject (Ok (Some m)) = parts_text subject m
 stream_text subject (Err e) = damage_text subject [] e
 
 -- of the module of this number
-unfoldable pub module_text : Form → List ℕ → List ℕ → ℕ → ModuleEntry → List ℕ
-module_text form name file k m = stream_text (module_subject form name k) (module_info_in file m)
+unfoldable pub module_text : OutputFormat → List ℕ → List ℕ → ℕ → ModuleEntry → List ℕ
+module_text format name file k m = stream_text (module_subject format name k) (module_info_in file m)
 
 -- of modules of which the first has this number
-abbrev pub modules_text : Form → List ℕ → List ℕ → ℕ → List ModuleEntry → List ℕ
-modules_text form name file k [] = []
-modules_text form name file k (m ∷ ms) = module_text form name file k m ++ modules_text form name file (k + 1) ms
+abbrev pub modules_text : OutputFormat → List ℕ → List ℕ → ℕ → List ModuleEntry → List ℕ
+modules_text format name file k [] = []
+modules_text format name file k (m ∷ ms) = module_text format name file k m ++ modules_text format name file (k + 1) ms
 
 -- ---- a file
 
@@ -167,13 +167,13 @@ abbrev pub file_text : Subject → List ℕ → List ℕ
 file_text subject file = streams_text (lacks file 3) subject file ++ tables_text (lacks file 3) subject file
 
 -- all lines of what is wrong
-unfoldable pub findings_text : Form → List ℕ → List ℕ → List ℕ
-findings_text form name file = file_text (file_subject form name) file ++ modules_text form name file 0 (items_of (modules_of_file file))
+unfoldable pub findings_text : OutputFormat → List ℕ → List ℕ → List ℕ
+findings_text format name file = file_text (file_subject format name) file ++ modules_text format name file 0 (items_of (modules_of_file file))
 
 abbrev pub is_nothing : List ℕ → Bool
 is_nothing [] = true
 is_nothing (c ∷ cs) = false
 
 -- the text of a file: what is wrong, or that nothing is
-abbrev pub check_text : Form → List ℕ → List ℕ → List ℕ
-check_text form name file = if is_nothing (findings_text form name file) then sound_in form name else findings_text form name file
+abbrev pub check_text : OutputFormat → List ℕ → List ℕ → List ℕ
+check_text format name file = if is_nothing (findings_text format name file) then sound_in format name else findings_text format name file

@@ -21,7 +21,7 @@ use Rattle.pdb.specs.ModuleStream.{ModuleBytes, line_program_of}
 use Rattle.tool_check.specs.declared.file_parts.FilePart.{FilePart}
 use Rattle.tool_check.specs.declared.file_parts.FilePart.TheVariants.{Information, DebugInformation, Sections, AddressMap, FrameTable, StringTable}
 
--- a refusal tells of damage, unless it says that the file has no such name or no global symbols, or that a kind of symbol has no form
+-- a refusal tells of damage, unless it says that the file has no such name or no global symbols, or that a kind of symbol has no format
 abbrev pub is_damage : Error → Bool
 is_damage StreamNameNotFound = false
 is_damage GlobalSymbolsNotFound = false

@@ -1,29 +1,23 @@
 //! What is wrong with a file, or that nothing is.
 
-ghost use Rattle.std.specs.Prelude.{◌≡◌, ◌≢◌, ◌++◌, ◌⊎◌, [], codes, Ok, Err, OnOk, IfOk, IfErr, IsErrOf, length, true, false, ⊤};
+ghost use Rattle.std.specs.Prelude.{◌≡◌, ◌≢◌, ◌++◌, codes, Ok, Err, OnOk, IfOk, IfErr, IsErrOf, true};
 ghost use Rattle.std.specs.Fmt.{decimal};
-ghost use Rattle.std.specs.Option.{ForSome};
-ghost use Rattle.pdb.specs.Container.{opens};
 ghost use Rattle.pdb.specs.DbiViews.{modules_left, modules_steps};
 ghost use Rattle.pdb.specs.Error.{Error};
-ghost use Rattle.pdb.specs.Source.{Continues, IsKnown, MayFail};
+ghost use Rattle.pdb.specs.Source.{Continues, MayFail};
 ghost use Rattle.tool_check.specs.Checks.{items_of, modules_of_file};
 ghost use Rattle.tool_check.specs.CheckTexts.{check_text, findings_text, is_nothing, module_text, modules_text, stream_text};
-ghost use Rattle.tool_output.specs.Stops.{StopsComposing, StopsOpening};
-ghost use Rattle.tool_output.specs.declared.stop.Stop.{Stop};
+ghost use Rattle.tool_output.specs.Stops.{StopsComposing};
 
 use crate::check_module::put_parts;
 use crate::check_streams::put_streams_of;
 use crate::findings::put_refusal;
 use crate::subject::{Subject, put_sound_in};
-use bumpalo::Bump;
-use pdb::{Error, FallibleIterator, MemorySource, Module, ModuleInfo, ModuleIter, PDB, Source};
-use pdb_file::{KnownFile, ReadAt, ReadingSource};
+use pdb::{Error, FallibleIterator, Module, ModuleInfo, ModuleIter, PDB, Source};
 use pdb_text::put_decimal;
 use std::alloc::{AllocError, Global};
-use tool_arguments::options::Form;
-use tool_output::each_file::Printed;
-use tool_output::opening::opened;
+use tool_arguments::options::OutputFormat;
+use tool_output::each_file::FileText;
 use tool_output::stop::Stop;
 
 /// How the labels of the module of a number begin.
@@ -60,17 +54,17 @@ fn put_module<'s, S: Source<'s>>(
     alloc: Global,
     pdb: &mut PDB<'s, S>,
     out: &mut Vec<u8>,
-    form: Form,
+    format: OutputFormat,
     name: &[u8],
     k: u64,
     module: &Module<'_>,
 ) -> Result<(), Stop>
     ensures continues { Continues pdb.old pdb.new }
-    ensures text { pdb.new.told ≡ true → OnOk result (out.new.items ≡ out.old.items ++ module_text form name.now pdb.old.file k «module».now) }
+    ensures text { pdb.new.told ≡ true → OnOk result (out.new.items ≡ out.old.items ++ module_text format name.now pdb.old.file k «module».now) }
     ensures unwritten { IfErr result (StopsComposing (MayFail pdb.old pdb.new)) }
 {
     let part = module_part(alloc, k)?;
-    let subject = Subject::new(form, name, &part);
+    let subject = Subject::new(format, name, &part);
     let found = pdb.module_info(module);
     put_stream(alloc, out, &subject, found)
 }
@@ -80,19 +74,19 @@ fn put_listed<'s, S: Source<'s>>(
     alloc: Global,
     pdb: &mut PDB<'s, S>,
     out: &mut Vec<u8>,
-    form: Form,
+    format: OutputFormat,
     name: &[u8],
     mut modules: ModuleIter<'_>,
 ) -> Result<(), Stop>
     requires { modules_steps modules ≡ 0 }
     ensures continues { Continues pdb.old pdb.new }
-    ensures text { pdb.new.told ≡ true → OnOk result (out.new.items ≡ out.old.items ++ modules_text form name.now pdb.old.file 0 (modules_left modules.entry).items) }
+    ensures text { pdb.new.told ≡ true → OnOk result (out.new.items ≡ out.old.items ++ modules_text format name.now pdb.old.file 0 (modules_left modules.entry).items) }
     ensures unwritten { IfErr result (StopsComposing (MayFail pdb.old pdb.new)) }
 {
     let mut k = 0;
     loop {
         match modules.next() {
-            Ok(Some(listed)) => put_module(alloc, pdb, out, form, name, k, &listed)?,
+            Ok(Some(listed)) => put_module(alloc, pdb, out, format, name, k, &listed)?,
             Ok(None) => return Ok(()),
             Err(_) => return Ok(()),
         }
@@ -106,11 +100,11 @@ fn put_modules<'s, S: Source<'s>>(
     alloc: Global,
     pdb: &mut PDB<'s, S>,
     out: &mut Vec<u8>,
-    form: Form,
+    format: OutputFormat,
     name: &[u8],
 ) -> Result<(), Stop>
     ensures continues { Continues pdb.old pdb.new }
-    ensures text { pdb.new.told ≡ true → OnOk result (out.new.items ≡ out.old.items ++ modules_text form name.now pdb.old.file 0 (items_of (modules_of_file pdb.old.file))) }
+    ensures text { pdb.new.told ≡ true → OnOk result (out.new.items ≡ out.old.items ++ modules_text format name.now pdb.old.file 0 (items_of (modules_of_file pdb.old.file))) }
     ensures unwritten { IfErr result (StopsComposing (MayFail pdb.old pdb.new)) }
 {
     let stream = match pdb.debug_information() {
@@ -120,7 +114,7 @@ fn put_modules<'s, S: Source<'s>>(
         Err(_) => return Ok(()),
     };
     match stream.modules() {
-        Ok(modules) => put_listed(alloc, pdb, out, form, name, modules),
+        Ok(modules) => put_listed(alloc, pdb, out, format, name, modules),
         Err(_) => Ok(()),
     }
 }
@@ -131,84 +125,35 @@ fn put_findings<'s, S: Source<'s>>(
     alloc: Global,
     pdb: &mut PDB<'s, S>,
     out: &mut Vec<u8>,
-    form: Form,
+    format: OutputFormat,
     name: &[u8],
 ) -> Result<(), Stop>
     ensures continues { Continues pdb.old pdb.new }
-    ensures text { pdb.new.told ≡ true → OnOk result (out.new.items ≡ out.old.items ++ findings_text form name.now pdb.old.file) }
+    ensures text { pdb.new.told ≡ true → OnOk result (out.new.items ≡ out.old.items ++ findings_text format name.now pdb.old.file) }
     ensures unwritten { IfErr result (StopsComposing (MayFail pdb.old pdb.new)) }
 {
-    let subject = Subject::new(form, name, b"");
+    let subject = Subject::new(format, name, b"");
     put_streams_of(alloc, pdb, out, &subject)?;
-    put_modules(alloc, pdb, out, form, name)
+    put_modules(alloc, pdb, out, format, name)
 }
 
-/// What is printed of an opened file: what is wrong with it, or that nothing is.
-fn check_of_opened<'s, S: Source<'s>>(
+/// What is printed of an opened file of this name: what is wrong with it, or that nothing is.
+pub fn check_of<'s, S: Source<'s>>(
     alloc: Global,
     pdb: &mut PDB<'s, S>,
-    form: Form,
+    format: OutputFormat,
     name: &[u8],
-) -> Result<Printed, Stop>
+) -> Result<FileText, Stop>
     ensures continues { Continues pdb.old pdb.new }
-    ensures text { pdb.new.told ≡ true → IfOk result (λ p. p.text.items ≡ check_text form name.now pdb.old.file) }
-    ensures well { pdb.new.told ≡ true → IfOk result (λ p. p.is_well ≡ is_nothing (findings_text form name.now pdb.old.file)) }
+    ensures text { pdb.new.told ≡ true → IfOk result (λ p. p.text.items ≡ check_text format name.now pdb.old.file) }
+    ensures well { pdb.new.told ≡ true → IfOk result (λ p. p.is_well ≡ is_nothing (findings_text format name.now pdb.old.file)) }
     ensures unwritten { IfErr result (StopsComposing (MayFail pdb.old pdb.new)) }
 {
     let mut text = Vec::new(alloc);
-    put_findings(alloc, pdb, &mut text, form, name)?;
+    put_findings(alloc, pdb, &mut text, format, name)?;
     let is_well = text.is_empty();
     if is_well {
-        put_sound_in(&mut text, form, name)?;
+        put_sound_in(&mut text, format, name)?;
     }
-    Ok(Printed { text, is_well })
-}
-
-/// What is printed of a source's file of this name: what is wrong with it, or that nothing is.
-fn check_source<'s, S: Source<'s>>(
-    alloc: Global,
-    source: S,
-    form: Form,
-    name: &[u8],
-) -> Result<Printed, Stop>
-    ensures opened { IsKnown (S.state source) → OnOk result (opens (S.state source).file ≡ Ok tt) }
-    ensures text { IsKnown (S.state source) → IfOk result (λ p. p.text.items ≡ check_text form name.now (S.state source).file) }
-    ensures well { IsKnown (S.state source) → IfOk result (λ p. p.is_well ≡ is_nothing (findings_text form name.now (S.state source).file)) }
-    ensures refused { IsKnown (S.state source) → (e : Error) → IsErrOf result (Stop.Open e) → opens (S.state source).file ≡ Err e }
-    ensures stops { IfErr result (StopsOpening ((S.state source).steady ≡ false)) }
-{
-    let mut pdb = opened(alloc, source)?;
-    check_of_opened(alloc, &mut pdb, form, name)
-}
-
-/// What is printed of a file of these bytes and this name: what is wrong with it, or that nothing is.
-pub fn check_of(alloc: Global, bytes: &[u8], form: Form, name: &[u8]) -> Result<Printed, Stop>
-    ensures opened { OnOk result (opens bytes.now ≡ Ok tt) }
-    ensures text { IfOk result (λ p. p.text.items ≡ check_text form name.now bytes.now) }
-    ensures well { IfOk result (λ p. p.is_well ≡ is_nothing (findings_text form name.now bytes.now)) }
-    ensures refused { (e : Error) → IsErrOf result (Stop.Open e) → opens bytes.now ≡ Err e }
-    ensures stops { IfErr result (StopsOpening ⊥) }
-{
-    check_source(alloc, MemorySource::new(bytes), form, name)
-}
-
-/// The same of a file of this size, of which it reads what it checks.
-pub fn check_from<R: ReadAt>(
-    alloc: Global,
-    input: &R,
-    size: u64,
-    form: Form,
-    name: &[u8],
-) -> Result<Printed, Stop>
-    ensures opened { ForSome (R.known input.now) (λ G. length G ≡ size → OnOk result (opens G ≡ Ok tt)) }
-    ensures text { ForSome (R.known input.now) (λ G. length G ≡ size → IfOk result (λ p. p.text.items ≡ check_text form name.now G)) }
-    ensures well { ForSome (R.known input.now) (λ G. length G ≡ size → IfOk result (λ p. p.is_well ≡ is_nothing (findings_text form name.now G))) }
-    ensures refused { ForSome (R.known input.now) (λ G. length G ≡ size → (e : Error) → IsErrOf result (Stop.Open e) → opens G ≡ Err e) }
-    ensures stops { IfErr result (StopsOpening ⊤) }
-    ensures steady { R.is_steady input.now ≡ true → ForSome (R.known input.now) (λ G. length G ≡ size → IsErrOf result Stop.Read → ⊥) }
-{
-    let arena = Bump::new(alloc);
-    let file = KnownFile::new(input);
-    let source = ReadingSource::new(alloc, &arena, input, &file, size);
-    check_source(alloc, source, form, name)
+    Ok(FileText { text, is_well })
 }

@@ -13,7 +13,7 @@ use pdb_text::put_hex8;
 use std::alloc::{AllocError, Global};
 use tool_output::stop::Stop;
 
-/// Whether an error is damage, and not of what isn't there, or of a kind of symbol without a form.
+/// Whether an error is damage, and not of what isn't there, or of a kind of symbol without a format.
 fn is_damage(e: Error) -> bool
     ensures { result ≡ is_damage e }
 {

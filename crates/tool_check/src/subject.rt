@@ -1,4 +1,4 @@
-//! The line of an error that `check` finds, in a form.
+//! The line of an error that `check` finds, in a format.
 
 ghost use Rattle.std.specs.Prelude.{◌≡◌, ◌∷◌, ◌++◌, [], codes, OnOk};
 ghost use Rattle.json.specs.Json.{member, no_members, null};
@@ -12,14 +12,14 @@ use pdb::Error;
 use pdb_text::{put_line_end, put_one_line};
 use std::alloc::{AllocError, Global};
 use std::marker::Model;
-use tool_arguments::options::Form;
+use tool_arguments::options::OutputFormat;
 use tool_output::error_line::put_message;
 use tool_output::objects::{begin_text, end_line, put_last, put_member, put_null, value_behind};
 
-/// What the lines of a part of a file have in common: the form, the file's name, and how the part's labels begin.
+/// What the lines of a part of a file have in common: the format, the file's name, and how the part's labels begin.
 #[derive(Drop)]
 pub struct Subject<'a> {
-    form: Form,
+    format: OutputFormat,
     file: &'a [u8],
     part: &'a [u8],
 }
@@ -29,15 +29,15 @@ impl<'a> Model for Subject<'a> {
 
     ghost Value = { SubjectOf };
 
-    ghost view = { λ f. record { form = f.form; file = f.file.now; part = f.part.now } };
+    ghost view = { λ f. record { format = f.format; file = f.file.now; part = f.part.now } };
 }
 
 impl<'a> Subject<'a> {
     /// That of this part of a file.
-    pub fn new(form: Form, file: &'a [u8], part: &'a [u8]) -> Self
-        ensures { result ≡ record { form = form; file = file.entry.now; part = part.entry.now } }
+    pub fn new(format: OutputFormat, file: &'a [u8], part: &'a [u8]) -> Self
+        ensures { result ≡ record { format = format; file = file.entry.now; part = part.entry.now } }
     {
-        Subject { form, file, part }
+        Subject { format, file, part }
     }
 
     /// The line of an error at a label of the part.
@@ -48,7 +48,7 @@ impl<'a> Subject<'a> {
         let mut whole = Vec::new(*out.allocator());
         whole.extend_from_slice(self.part)?;
         whole.extend_from_slice(label)?;
-        put_finding_in(out, self.form, self.file, &whole, e)
+        put_finding_in(out, self.format, self.file, &whole, e)
     }
 }
 
@@ -111,19 +111,19 @@ fn put_finding_object(
     end_line(out, writer)
 }
 
-/// The line of an error at a label of a file, in a form.
+/// The line of an error at a label of a file, in a format.
 fn put_finding_in(
     out: &mut Vec<u8>,
-    form: Form,
+    format: OutputFormat,
     file: &[u8],
     label: &[u8],
     e: Error,
 ) -> Result<(), AllocError>
-    ensures { OnOk result (out.new.items ≡ out.old.items ++ finding_in form file.now label.now e) }
+    ensures { OnOk result (out.new.items ≡ out.old.items ++ finding_in format file.now label.now e) }
 {
-    match form {
-        Form::Text => put_finding(out, file, label, e),
-        Form::Json => put_finding_object(out, file, label, e),
+    match format {
+        OutputFormat::Text => put_finding(out, file, label, e),
+        OutputFormat::Json => put_finding_object(out, file, label, e),
     }
 }
 
@@ -156,15 +156,15 @@ fn put_sound_object(out: &mut Vec<u8>, file: &[u8]) -> Result<(), AllocError>
     end_line(out, writer)
 }
 
-/// The line of a file without an error, in a form.
-pub fn put_sound_in(out: &mut Vec<u8>, form: Form, file: &[u8]) -> Result<(), AllocError>
-    ensures { OnOk result (out.new.items ≡ out.old.items ++ sound_in form file.now) }
+/// The line of a file without an error, in a format.
+pub fn put_sound_in(out: &mut Vec<u8>, format: OutputFormat, file: &[u8]) -> Result<(), AllocError>
+    ensures { OnOk result (out.new.items ≡ out.old.items ++ sound_in format file.now) }
 {
-    match form {
-        Form::Text => {
+    match format {
+        OutputFormat::Text => {
             put_one_line(out, file)?;
             out.extend_from_slice(b": ok\n")
         }
-        Form::Json => put_sound_object(out, file),
+        OutputFormat::Json => put_sound_object(out, file),
     }
 }

@@ -8,7 +8,7 @@ use Rattle.pdb_places.specs.AsIfEmpty.{if_read}
 use Rattle.tool_lists.specs.StreamOrder.{is_of, rises}
 use Rattle.tool_lists.specs.StreamRoles.{StreamRole, role_view, stream_number}
 use Rattle.tool_lists.specs.StreamTexts.{line_in, role_line, stream_line}
-use Rattle.tool_arguments.specs.declared.options.Form.{Form}
+use Rattle.tool_arguments.specs.declared.options.OutputFormat.{OutputFormat}
 use Rattle.tool_lists.specs.declared.stream_roles.Role.{Role}
 use Rattle.tool_lists.specs.declared.stream_roles.What.TheVariants as what
 use Rattle.tool_lists.proofs.StreamOrder.{rises_sorted, sorted_same}
@@ -26,10 +26,10 @@ abbrev a_role : ℕ → Role
 a_role n = record { stream = n; what = what.Module 0 }
 
 -- the lines by sorted roles are those by roles as they were
-pub lines_sorted : (form : Form) (file : List ℕ) (xs ys : List Role) (count : ℕ) → IsStableByKey stream_number nat_cmp xs ys
-    → flat_map (role_line form file ys) (range_with_len 0 count) ≡ flat_map (stream_line form file (map role_view xs)) (range_with_len 0 count)
-lines_sorted form file xs ys count s =
-    let each : role_line form file ys ≡ stream_line form file (map role_view xs) = λ i n. (ap (λ rs. line_in form n (if_read (stream_size file n)) (map role_view rs)) (sorted_same stream_number n (a_role n) xs ys refl s) ∙ ap (line_in form n (if_read (stream_size file n))) (shown n xs)) i in
+pub lines_sorted : (format : OutputFormat) (file : List ℕ) (xs ys : List Role) (count : ℕ) → IsStableByKey stream_number nat_cmp xs ys
+    → flat_map (role_line format file ys) (range_with_len 0 count) ≡ flat_map (stream_line format file (map role_view xs)) (range_with_len 0 count)
+lines_sorted format file xs ys count s =
+    let each : role_line format file ys ≡ stream_line format file (map role_view xs) = λ i n. (ap (λ rs. line_in format n (if_read (stream_size file n)) (map role_view rs)) (sorted_same stream_number n (a_role n) xs ys refl s) ∙ ap (line_in format n (if_read (stream_size file n))) (shown n xs)) i in
     ap (λ (f : ℕ → List ℕ). flat_map f (range_with_len 0 count)) each
 
 -- sorted roles are in the order of their streams

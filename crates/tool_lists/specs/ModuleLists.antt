@@ -13,8 +13,8 @@ use Rattle.tool_lists.specs.ModuleSizes.{bytes_of_module}
 use Rattle.tool_output.specs.Absent.{if_there}
 use Rattle.tool_output.specs.ErrorObjects.{fault_in, told_in}
 use Rattle.tool_output.specs.Objects.{json_line, number_value, text_value}
-use Rattle.tool_arguments.specs.declared.options.Form.{Form}
-use Rattle.tool_arguments.specs.declared.options.Form.TheVariants.{Text, Json as Objects}
+use Rattle.tool_arguments.specs.declared.options.OutputFormat.{OutputFormat}
+use Rattle.tool_arguments.specs.declared.options.OutputFormat.TheVariants.{Text, Json as Objects}
 use Rattle.tool_fields.specs.Values.{behind_blank}
 
 -- the file from which a module came, in brackets; nothing where it is empty or the module's own name
@@ -43,22 +43,22 @@ listed_value size k m =
     (member (codes "bytes") (size_value (size k))
     (member (codes "name") (text_value m.module_name) (object_member m))))
 
-abbrev pub listed_in : Form → (ℕ → ℕ) → ℕ → ModuleEntry → List ℕ
+abbrev pub listed_in : OutputFormat → (ℕ → ℕ) → ℕ → ModuleEntry → List ℕ
 listed_in Text size k m = listed_line size k m
 listed_in Objects size k m = json_line (listed_value size k m)
 
 -- the lines of modules of which the first is module k
-abbrev pub listed_lines : Form → (ℕ → ℕ) → ℕ → List ModuleEntry → List ℕ
-listed_lines form size k [] = []
-listed_lines form size k (m ∷ ms) = listed_in form size k m ++ listed_lines form size (k + 1) ms
+abbrev pub listed_lines : OutputFormat → (ℕ → ℕ) → ℕ → List ModuleEntry → List ℕ
+listed_lines format size k [] = []
+listed_lines format size k (m ∷ ms) = listed_in format size k m ++ listed_lines format size (k + 1) ms
 
 -- those of the modules of a list, and then that of its fault
-abbrev pub module_list_text : Form → (ℕ → ℕ) → ℕ → Left ModuleEntry → List ℕ
-module_list_text form size k left = listed_lines form size k left.items ++ fault_in form left.fault
+abbrev pub module_list_text : OutputFormat → (ℕ → ℕ) → ℕ → Left ModuleEntry → List ℕ
+module_list_text format size k left = listed_lines format size k left.items ++ fault_in format left.fault
 
 -- by a DBI stream: contributions that can't be read are none
-abbrev pub modules_of_stream : Form → List ℕ → List ℕ
-modules_of_stream form b = told_in form (modules_in b) (module_list_text form (bytes_of_module (items_of (contributions_in b))) 0)
+abbrev pub modules_of_stream : OutputFormat → List ℕ → List ℕ
+modules_of_stream format b = told_in format (modules_in b) (module_list_text format (bytes_of_module (items_of (contributions_in b))) 0)
 
-unfoldable pub modules_command : Form → List ℕ → List ℕ
-modules_command form file = if_there file 3 (told_in form (debug_information_in file) (modules_of_stream form))
+unfoldable pub modules_command : OutputFormat → List ℕ → List ℕ
+modules_command format file = if_there file 3 (told_in format (debug_information_in file) (modules_of_stream format))

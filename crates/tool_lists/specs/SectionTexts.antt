@@ -10,8 +10,8 @@ use Rattle.tool_output.specs.Absent.{if_there}
 use Rattle.tool_output.specs.ErrorObjects.{none_in, told_in}
 use Rattle.tool_output.specs.Objects.{json_line, number_value, text_value}
 use Rattle.tool_fields.specs.Values.{address_text, behind_blank}
-use Rattle.tool_arguments.specs.declared.options.Form.{Form}
-use Rattle.tool_arguments.specs.declared.options.Form.TheVariants.{Text, Json as Objects}
+use Rattle.tool_arguments.specs.declared.options.OutputFormat.{OutputFormat}
+use Rattle.tool_arguments.specs.declared.options.OutputFormat.TheVariants.{Text, Json as Objects}
 
 -- the line of the section of this number: its address, its size in memory, its characteristics, and its name
 unfoldable pub section_line : ℕ → ImageSectionHeader → List ℕ
@@ -32,19 +32,19 @@ placed_members h = member (codes "rva") (text_value (address_text (Some h.virtua
 abbrev pub section_value : ℕ → ImageSectionHeader → Json
 section_value n h = object (member (codes "section") (number_value n) (placed_members h))
 
-abbrev pub section_line_in : Form → ℕ → ImageSectionHeader → List ℕ
+abbrev pub section_line_in : OutputFormat → ℕ → ImageSectionHeader → List ℕ
 section_line_in Text n h = section_line n h
 section_line_in Objects n h = json_line (section_value n h)
 
 -- the lines of sections of which the first has this number; a number has two bytes
-abbrev pub section_lines : Form → ℕ → List ImageSectionHeader → List ℕ
-section_lines form n [] = []
-section_lines form n (h ∷ hs) = section_line_in form n h ++ section_lines form ((n + 1) % 65536) hs
+abbrev pub section_lines : OutputFormat → ℕ → List ImageSectionHeader → List ℕ
+section_lines format n [] = []
+section_lines format n (h ∷ hs) = section_line_in format n h ++ section_lines format ((n + 1) % 65536) hs
 
 -- the line of what isn't there where the file has no section headers
-abbrev pub section_list_text : Form → Option (List ImageSectionHeader) → List ℕ
-section_list_text form None = none_in form
-section_list_text form (Some headers) = section_lines form 1 headers
+abbrev pub section_list_text : OutputFormat → Option (List ImageSectionHeader) → List ℕ
+section_list_text format None = none_in format
+section_list_text format (Some headers) = section_lines format 1 headers
 
-unfoldable pub sections_command : Form → List ℕ → List ℕ
-sections_command form file = if_there file 3 (told_in form (sections_in file) (section_list_text form))
+unfoldable pub sections_command : OutputFormat → List ℕ → List ℕ
+sections_command format file = if_there file 3 (told_in format (sections_in file) (section_list_text format))

@@ -15,8 +15,8 @@ use Rattle.pdb.specs.Answers.{debug_information_in}
 use Rattle.tool_output.specs.FileNames.{names_in}
 use Rattle.tool_output.specs.ErrorObjects.{told_in}
 use Rattle.tool_output.specs.Objects.{json_line, number_value, text_value}
-use Rattle.tool_arguments.specs.declared.options.Form.{Form}
-use Rattle.tool_arguments.specs.declared.options.Form.TheVariants.{Text, Json as Objects}
+use Rattle.tool_arguments.specs.declared.options.OutputFormat.{OutputFormat}
+use Rattle.tool_arguments.specs.declared.options.OutputFormat.TheVariants.{Text, Json as Objects}
 use Rattle.tool_lists.specs.StreamOrder.{is_of}
 use Rattle.tool_lists.specs.declared.stream_roles.Role.{Role}
 use Rattle.tool_lists.specs.StreamRoles.{StreamRole, role_view, stream_number, extra_roles, fixed_roles, hash_roles, header_roles, known_text, module_roles, name_roles}
@@ -84,16 +84,16 @@ what_member here = member (codes "what") (array (what_items here)) no_members
 abbrev pub stream_value : ℕ → Option ℕ → List StreamRole → Json
 stream_value n size here = object (member (codes "stream") (number_value n) (member (codes "size") (size_value size) (what_member here)))
 
-abbrev pub line_in : Form → ℕ → Option ℕ → List StreamRole → List ℕ
+abbrev pub line_in : OutputFormat → ℕ → Option ℕ → List StreamRole → List ℕ
 line_in Text n size here = line_of n size here
 line_in Objects n size here = json_line (stream_value n size here)
 
-abbrev pub stream_line : Form → List ℕ → List StreamRole → ℕ → List ℕ
-stream_line form file roles n = line_in form n (if_read (stream_size file n)) (filter (is_of (λ r. r.stream) n) roles)
+abbrev pub stream_line : OutputFormat → List ℕ → List StreamRole → ℕ → List ℕ
+stream_line format file roles n = line_in format n (if_read (stream_size file n)) (filter (is_of (λ r. r.stream) n) roles)
 
 -- the same by roles as the code has them
-abbrev pub role_line : Form → List ℕ → List Role → ℕ → List ℕ
-role_line form file roles n = line_in form n (if_read (stream_size file n)) (map role_view (filter (is_of stream_number n) roles))
+abbrev pub role_line : OutputFormat → List ℕ → List Role → ℕ → List ℕ
+role_line format file roles n = line_in format n (if_read (stream_size file n)) (map role_view (filter (is_of stream_number n) roles))
 
-unfoldable pub streams_command : Form → List ℕ → List ℕ
-streams_command form file = told_in form (stream_count file) (λ count. flat_map (stream_line form file (roles_of file)) (range_with_len 0 count))
+unfoldable pub streams_command : OutputFormat → List ℕ → List ℕ
+streams_command format file = told_in format (stream_count file) (λ count. flat_map (stream_line format file (roles_of file)) (range_with_len 0 count))

@@ -1,37 +1,33 @@
 //! The text of `modules`.
 
-ghost use Rattle.std.specs.Prelude.{◌≡◌, ℕ, ◌∷◌, ◌++◌, true, false, Ok, Err, IfOk, IfErr, IsErrOf, OnOk, OnErr, codes};
-ghost use Rattle.std.specs.Io.KnownBytes.{Appends};
-ghost use Rattle.json.specs.Token.{begin_object, key};
+ghost use Rattle.std.specs.Prelude.{◌≡◌, ◌∷◌, ◌++◌, true, IfOk, IfErr, OnOk, codes};
+ghost use Rattle.json.specs.Token.{key};
 ghost use Rattle.json.specs.Tree.{json_tokens, members_tokens};
-ghost use Rattle.pdb.specs.Container.{opens};
 ghost use Rattle.pdb.specs.Contributions.{contributions_in};
 ghost use Rattle.pdb.specs.DbiViews.{modules_left, modules_steps};
-ghost use Rattle.pdb.specs.Error.{Error};
-ghost use Rattle.pdb.specs.Source.{Continues, MayFail, IsKnown};
+ghost use Rattle.pdb.specs.Source.{Continues, MayFail};
 ghost use Rattle.pdb_places.specs.AsIfEmpty.{items_of};
-ghost use Rattle.pdb_text.specs.Written.{WroteFront};
 ghost use Rattle.tool_lists.specs.ModuleLists.{listed_in, listed_line, listed_value, size_value, module_list_text, modules_command, modules_of_stream, object_member, object_text, object_value};
 ghost use Rattle.tool_lists.specs.ModuleSizes.{bytes_of_module, size_in};
 ghost use Rattle.tool_output.specs.Objects.{Adds, json_line};
-ghost use Rattle.tool_output.specs.Stops.{StopsCommand, StopsComposing};
-ghost use Rattle.tool_output.specs.WriteFailures.{failures_after};
+ghost use Rattle.tool_output.specs.Stops.{Halts, StopsComposing};
 ghost use Rattle.tool_output.specs.declared.stop.Stop.{Stop};
+ghost use Rattle.tool_printing.specs.Printing.{Prints, shown};
 
 use crate::module_sizes::{size_of_module, sizes_of};
 use json::Writer;
 use pdb::{DebugInformation, FallibleIterator, Module, ModuleIter, PDB, Source};
-use pdb_text::{CountedWrite, put_decimal, put_field, put_line_end, put_one_line, write_counted};
+use pdb_text::{put_decimal, put_field, put_line_end, put_one_line};
 use std::alloc::{AllocError, Global};
-use tool_arguments::options::Form;
+use tool_arguments::options::OutputFormat;
 use tool_fields::values::put_behind_blank;
 use tool_output::absent::{DEBUG_INFORMATION, lacks};
 use tool_output::error_objects::{put_error_in, put_refused_in};
 use tool_output::objects::{
     begin_numbered, end_line, put_member, put_number, put_text, value_behind,
 };
-use tool_output::opening::opened;
 use tool_output::stop::Stop;
+use tool_printing::Printer;
 
 /// The greatest number up to which each reader of JSON has all of them exactly: 2^53.
 const GREATEST_NUMBER: u64 = 0x20_0000_0000_0000;
@@ -153,38 +149,38 @@ fn put_listed_object(
     end_line(out, writer)
 }
 
-/// The line of module `k`, in a form.
+/// The line of module `k`, in a format.
 fn put_listed_in(
     out: &mut Vec<u8>,
-    form: Form,
+    format: OutputFormat,
     sizes: &[u64],
     k: u64,
     listed: &Module<'_>,
 ) -> Result<(), AllocError>
-    ensures { OnOk result (out.new.items ≡ out.old.items ++ listed_in form (size_in sizes.now) k listed.now) }
+    ensures { OnOk result (out.new.items ≡ out.old.items ++ listed_in format (size_in sizes.now) k listed.now) }
 {
-    match form {
-        Form::Text => put_listed(out, sizes, k, listed),
-        Form::Json => put_listed_object(out, sizes, k, listed),
+    match format {
+        OutputFormat::Text => put_listed(out, sizes, k, listed),
+        OutputFormat::Json => put_listed_object(out, sizes, k, listed),
     }
 }
 
 /// The lines of the modules of a list, from its start, and then that of its fault.
 fn put_list(
     out: &mut Vec<u8>,
-    form: Form,
+    format: OutputFormat,
     sizes: &[u64],
     mut modules: ModuleIter<'_>,
 ) -> Result<(), AllocError>
     requires { modules_steps modules ≡ 0 }
-    ensures { OnOk result (out.new.items ≡ out.old.items ++ module_list_text form (size_in sizes.now) 0 (modules_left modules.entry)) }
+    ensures { OnOk result (out.new.items ≡ out.old.items ++ module_list_text format (size_in sizes.now) 0 (modules_left modules.entry)) }
 {
     let mut k = 0;
     loop {
         match modules.next() {
-            Ok(Some(listed)) => put_listed_in(out, form, sizes, k, &listed)?,
+            Ok(Some(listed)) => put_listed_in(out, format, sizes, k, &listed)?,
             Ok(None) => return Ok(()),
-            Err(e) => return put_error_in(out, form, e),
+            Err(e) => return put_error_in(out, format, e),
         }
         k += 1;
     }
@@ -194,16 +190,16 @@ fn put_list(
 fn put_stream(
     alloc: Global,
     out: &mut Vec<u8>,
-    form: Form,
+    format: OutputFormat,
     information: &DebugInformation<'_>,
 ) -> Result<(), Stop>
-    ensures text { OnOk result (out.new.items ≡ out.old.items ++ modules_of_stream form information.now) }
+    ensures text { OnOk result (out.new.items ≡ out.old.items ++ modules_of_stream format information.now) }
     ensures unwritten { IfErr result (λ e. e ≡ Stop.Memory) }
 {
     let sizes = module_sizes(alloc, information)?;
     match information.modules() {
-        Ok(modules) => Ok(put_list(out, form, &sizes, modules)?),
-        Err(e) => put_refused_in(out, form, e),
+        Ok(modules) => Ok(put_list(out, format, &sizes, modules)?),
+        Err(e) => put_refused_in(out, format, e),
     }
 }
 
@@ -212,40 +208,34 @@ fn put_stream(
 fn put_modules<'s, S: Source<'s>>(
     alloc: Global,
     pdb: &mut PDB<'s, S>,
-    form: Form,
+    format: OutputFormat,
     out: &mut Vec<u8>,
 ) -> Result<(), Stop>
     ensures continues { Continues pdb.old pdb.new }
-    ensures text { pdb.new.told ≡ true → OnOk result (out.new.items ≡ out.old.items ++ modules_command form pdb.old.file) }
+    ensures text { pdb.new.told ≡ true → OnOk result (out.new.items ≡ out.old.items ++ modules_command format pdb.old.file) }
     ensures unwritten { IfErr result (StopsComposing (MayFail pdb.old pdb.new)) }
 {
     if lacks(pdb, DEBUG_INFORMATION) {
         return Ok(());
     }
     match pdb.debug_information() {
-        Ok(information) => put_stream(alloc, out, form, &information),
-        Err(e) => put_refused_in(out, form, e),
+        Ok(information) => put_stream(alloc, out, format, &information),
+        Err(e) => put_refused_in(out, format, e),
     }
 }
 
-/// Writes the list of the modules of a source's file.
-#[tactic(auto, using(pdb_text::proofs::Written::any_err, tool_output::proofs::Fronts::front_none))]
-pub fn write_modules<'s, S: Source<'s>, W: CountedWrite>(
+/// Prints the list of the modules of a file.
+pub fn print_modules<'s, S: Source<'s>, P: Printer>(
     alloc: Global,
-    source: S,
-    form: Form,
-    out: &mut W,
+    pdb: &mut PDB<'s, S>,
+    format: OutputFormat,
+    out: &mut P,
 ) -> Result<(), Stop>
-    ensures opened { IsKnown (S.state source) → OnOk result (opens (S.state source).file ≡ Ok tt) }
-    ensures ok { IsKnown (S.state source) → OnOk result (Appends (W.contents out.old) (W.contents out.new) (modules_command form (S.state source).file)) }
-    ensures refused { IsKnown (S.state source) → (e : Error) → IsErrOf result (Stop.Open e) → opens (S.state source).file ≡ Err e }
-    ensures stops { IfErr result (StopsCommand ((S.state source).steady ≡ false)) }
-    ensures failures { W.failures out.new ≡ failures_after (W.failures out.old) result }
-    ensures front { IsKnown (S.state source) → OnErr result (WroteFront (W.contents out.old) (W.contents out.new) (modules_command form (S.state source).file)) }
+    ensures continues { Continues pdb.old pdb.new }
+    ensures prints { pdb.new.told ≡ true → Prints (shown (modules_command format pdb.old.file)) (P.state out.old) (P.state out.new) result }
+    ensures halts { Halts (MayFail pdb.old pdb.new) (P.state out.old) (P.state out.new) result }
 {
-    let mut pdb = opened(alloc, source)?;
     let mut text = Vec::new(alloc);
-    put_modules(alloc, &mut pdb, form, &mut text)?;
-    write_counted(out, &text)?;
-    Ok(())
+    put_modules(alloc, pdb, format, &mut text)?;
+    Ok(out.print(&text)?)
 }

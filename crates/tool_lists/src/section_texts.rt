@@ -1,35 +1,28 @@
 //! The text of `sections`.
 
-ghost use Rattle.std.specs.Prelude.{◌≡◌, ◌∷◌, ◌++◌, true, false, Ok, Err, IfErr, IsErrOf, OnOk, OnErr, codes, Some};
-ghost use Rattle.std.specs.Io.KnownBytes.{Appends};
-ghost use Rattle.std.specs.Fmt.{decimal};
+ghost use Rattle.std.specs.Prelude.{◌≡◌, ◌∷◌, ◌++◌, true, IfErr, OnOk, codes, Some};
 ghost use Rattle.json.specs.Token.{key};
 ghost use Rattle.json.specs.Tree.{json_tokens, members_tokens};
-ghost use Rattle.pdb.specs.Container.{opens};
-ghost use Rattle.pdb.specs.Error.{Error};
-ghost use Rattle.pdb.specs.Source.{Continues, MayFail, IsKnown};
-ghost use Rattle.pdb_text.specs.Digits.{hex};
-ghost use Rattle.pdb_text.specs.Written.{WroteFront};
+ghost use Rattle.pdb.specs.Source.{Continues, MayFail};
 ghost use Rattle.tool_lists.specs.SectionTexts.{flags_members, placed_members, section_line, section_line_in, section_lines, section_value, sections_command, sized_members};
 ghost use Rattle.tool_output.specs.Objects.{Adds, json_line, text_value};
 ghost use Rattle.tool_fields.specs.Values.{address_text};
-ghost use Rattle.tool_output.specs.Stops.{StopsCommand, StopsComposing};
-ghost use Rattle.tool_output.specs.WriteFailures.{failures_after};
-ghost use Rattle.tool_output.specs.declared.stop.Stop.{Stop};
+ghost use Rattle.tool_output.specs.Stops.{Halts, StopsComposing};
+ghost use Rattle.tool_printing.specs.Printing.{Prints, shown};
 
 use json::Writer;
 use pdb::{ImageSectionHeader, PDB, Source};
-use pdb_text::{CountedWrite, put_field, put_hex4, put_hex8, put_line_end, write_counted};
+use pdb_text::{put_field, put_hex4, put_hex8, put_line_end};
 use std::alloc::{AllocError, Global};
-use tool_arguments::options::Form;
+use tool_arguments::options::OutputFormat;
 use tool_fields::values::{put_address, put_behind_blank};
 use tool_output::absent::{DEBUG_INFORMATION, lacks};
 use tool_output::error_objects::{put_none_in, put_refused_in};
 use tool_output::objects::{
     begin_numbered, end_line, put_last, put_member, put_number, value_behind,
 };
-use tool_output::opening::opened;
 use tool_output::stop::Stop;
+use tool_printing::Printer;
 
 /// The line of the section of a number: its address, its size in memory, its characteristics, and its name.
 #[tactic(auto, unfolding(crate::specs::SectionTexts::section_line))]
@@ -126,30 +119,34 @@ fn put_section_object(
     end_line(out, writer)
 }
 
-/// The line of the section of a number, in a form.
+/// The line of the section of a number, in a format.
 fn put_section_in(
     out: &mut Vec<u8>,
-    form: Form,
+    format: OutputFormat,
     room: &mut Vec<u8>,
     number: u16,
     header: &ImageSectionHeader,
 ) -> Result<(), AllocError>
-    ensures { OnOk result (out.new.items ≡ out.old.items ++ section_line_in form number header.now) }
+    ensures { OnOk result (out.new.items ≡ out.old.items ++ section_line_in format number header.now) }
 {
-    match form {
-        Form::Text => put_section(out, number, header),
-        Form::Json => put_section_object(out, room, number, header),
+    match format {
+        OutputFormat::Text => put_section(out, number, header),
+        OutputFormat::Json => put_section_object(out, room, number, header),
     }
 }
 
 /// The lines of section headers, of which the first has the number 1.
-fn put_list(out: &mut Vec<u8>, form: Form, headers: &[ImageSectionHeader]) -> Result<(), AllocError>
-    ensures { OnOk result (out.new.items ≡ out.old.items ++ section_lines form 1 headers.now) }
+fn put_list(
+    out: &mut Vec<u8>,
+    format: OutputFormat,
+    headers: &[ImageSectionHeader],
+) -> Result<(), AllocError>
+    ensures { OnOk result (out.new.items ≡ out.old.items ++ section_lines format 1 headers.now) }
 {
     let mut room = Vec::new(*out.allocator());
     let mut number = 1u16;
     for header in headers {
-        put_section_in(out, form, &mut room, number, header)?;
+        put_section_in(out, format, &mut room, number, header)?;
         number = number.wrapping_add(1);
     }
     Ok(())
@@ -159,41 +156,35 @@ fn put_list(out: &mut Vec<u8>, form: Form, headers: &[ImageSectionHeader]) -> Re
 #[tactic(auto, unfolding(crate::specs::SectionTexts::sections_command))]
 fn put_sections<'s, S: Source<'s>>(
     pdb: &mut PDB<'s, S>,
-    form: Form,
+    format: OutputFormat,
     out: &mut Vec<u8>,
 ) -> Result<(), Stop>
     ensures continues { Continues pdb.old pdb.new }
-    ensures text { pdb.new.told ≡ true → OnOk result (out.new.items ≡ out.old.items ++ sections_command form pdb.old.file) }
+    ensures text { pdb.new.told ≡ true → OnOk result (out.new.items ≡ out.old.items ++ sections_command format pdb.old.file) }
     ensures unwritten { IfErr result (StopsComposing (MayFail pdb.old pdb.new)) }
 {
     if lacks(pdb, DEBUG_INFORMATION) {
         return Ok(());
     }
     match pdb.sections() {
-        Ok(Some(headers)) => Ok(put_list(out, form, &headers)?),
-        Ok(None) => Ok(put_none_in(out, form)?),
-        Err(e) => put_refused_in(out, form, e),
+        Ok(Some(headers)) => Ok(put_list(out, format, &headers)?),
+        Ok(None) => Ok(put_none_in(out, format)?),
+        Err(e) => put_refused_in(out, format, e),
     }
 }
 
-/// Writes the section headers of a source's file.
-#[tactic(auto, using(pdb_text::proofs::Written::any_err, tool_output::proofs::Fronts::front_none))]
-pub fn write_sections<'s, S: Source<'s>, W: CountedWrite>(
+/// Prints the section headers of a file.
+pub fn print_sections<'s, S: Source<'s>, P: Printer>(
     alloc: Global,
-    source: S,
-    form: Form,
-    out: &mut W,
+    pdb: &mut PDB<'s, S>,
+    format: OutputFormat,
+    out: &mut P,
 ) -> Result<(), Stop>
-    ensures opened { IsKnown (S.state source) → OnOk result (opens (S.state source).file ≡ Ok tt) }
-    ensures ok { IsKnown (S.state source) → OnOk result (Appends (W.contents out.old) (W.contents out.new) (sections_command form (S.state source).file)) }
-    ensures refused { IsKnown (S.state source) → (e : Error) → IsErrOf result (Stop.Open e) → opens (S.state source).file ≡ Err e }
-    ensures stops { IfErr result (StopsCommand ((S.state source).steady ≡ false)) }
-    ensures failures { W.failures out.new ≡ failures_after (W.failures out.old) result }
-    ensures front { IsKnown (S.state source) → OnErr result (WroteFront (W.contents out.old) (W.contents out.new) (sections_command form (S.state source).file)) }
+    ensures continues { Continues pdb.old pdb.new }
+    ensures prints { pdb.new.told ≡ true → Prints (shown (sections_command format pdb.old.file)) (P.state out.old) (P.state out.new) result }
+    ensures halts { Halts (MayFail pdb.old pdb.new) (P.state out.old) (P.state out.new) result }
 {
-    let mut pdb = opened(alloc, source)?;
     let mut text = Vec::new(alloc);
-    put_sections(&mut pdb, form, &mut text)?;
-    write_counted(out, &text)?;
-    Ok(())
+    put_sections(pdb, format, &mut text)?;
+    Ok(out.print(&text)?)
 }

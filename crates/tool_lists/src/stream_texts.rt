@@ -1,24 +1,21 @@
 //! The text of `streams`.
 
-ghost use Rattle.std.specs.Prelude.{◌≡◌, ◌≢◌, ◌≤◌, ◌<◌, ◌+◌, ◌++◌, ℕ, List, Some, None, option_copied, true, false, codes, drop, flat_map, length, map, take, OnOk, OnErr, Ok, Err, IfOk, IfErr, IsErrOf};
-ghost use Rattle.std.specs.List.{filter, prefix_len, range_with_len};
-ghost use Rattle.std.specs.Io.KnownBytes.{Appends};
+ghost use Rattle.std.specs.Prelude.{◌≡◌, ◌≢◌, ◌≤◌, ◌<◌, ◌+◌, ◌++◌, ℕ, List, Some, None, option_copied, true, codes, drop, flat_map, length, map, take, OnOk, Ok, IfOk, IfErr, IsErrOf};
+ghost use Rattle.std.specs.List.{prefix_len, range_with_len};
 ghost use Rattle.std.specs.Option.{option_map};
-ghost use Rattle.pdb.specs.Container.{opens, stream_of, stream_size};
+ghost use Rattle.pdb.specs.Container.{stream_of, stream_size};
 ghost use Rattle.pdb.specs.Answers.{information_in};
 ghost use Rattle.pdb.specs.DbiViews.{information as information_said};
 ghost use Rattle.pdb_places.specs.AsIfEmpty.{if_read};
 ghost use Rattle.tool_output.specs.FileNames.{names_in};
 ghost use Rattle.pdb.specs.Error.{Error};
-ghost use Rattle.pdb.specs.Source.{Continues, MayFail, IsKnown};
-ghost use Rattle.pdb_text.specs.Written.{WroteFront};
+ghost use Rattle.pdb.specs.Source.{Continues, MayFail};
 ghost use Rattle.tool_lists.specs.StreamOrder.{is_of, rises};
 ghost use Rattle.tool_lists.specs.StreamRoles.{hash_roles, known_text, role_view, stream_number};
-ghost use Rattle.tool_lists.specs.StreamTexts.{debug_roles, information_roles, line_in, line_of, read_or_none, role_line, roles_by, roles_of, size_text, stream_line, stream_value, streams_command, what_list};
-ghost use Rattle.tool_output.specs.Objects.{json_line};
-ghost use Rattle.tool_output.specs.Stops.{StopsCommand, StopsComposing};
-ghost use Rattle.tool_output.specs.WriteFailures.{failures_after};
+ghost use Rattle.tool_lists.specs.StreamTexts.{debug_roles, information_roles, line_in, line_of, read_or_none, role_line, roles_by, roles_of, size_text, stream_line, streams_command, what_list};
+ghost use Rattle.tool_output.specs.Stops.{Halts, StopsComposing};
 ghost use Rattle.tool_output.specs.declared.stop.Stop.{Stop};
+ghost use Rattle.tool_printing.specs.Printing.{Prints, shown};
 
 use crate::stream_objects::put_line_object;
 use crate::stream_roles::{
@@ -28,12 +25,12 @@ use crate::stream_roles::{
 use pdb::{
     DBIExtraStreams, DebugInformation, Error, PDB, PDBInformation, Source, StreamIndex, StreamNames,
 };
-use pdb_text::{CountedWrite, put_decimal, put_line_end, write_counted};
+use pdb_text::{put_decimal, put_line_end};
 use std::alloc::{AllocError, Global};
-use tool_arguments::options::Form;
+use tool_arguments::options::OutputFormat;
 use tool_output::error_objects::put_refused_in;
-use tool_output::opening::opened;
 use tool_output::stop::Stop;
+use tool_printing::Printer;
 
 /// The size of a stream in decimal digits, or `-` of one that is absent.
 fn put_size(out: &mut Vec<u8>, size: Option<u32>) -> Result<(), AllocError>
@@ -87,20 +84,20 @@ fn put_line(
     put_line_end(out)
 }
 
-/// The line of a stream, in a form. Texts are composed in `room`.
+/// The line of a stream, in a format. Texts are composed in `room`.
 fn put_line_in(
     out: &mut Vec<u8>,
-    form: Form,
+    format: OutputFormat,
     room: &mut Vec<u8>,
     number: u32,
     size: Option<u32>,
     roles: &[Role<'_>],
 ) -> Result<(), AllocError>
-    ensures { OnOk result (out.new.items ≡ out.old.items ++ line_in form number size (map role_view roles.now)) }
+    ensures { OnOk result (out.new.items ≡ out.old.items ++ line_in format number size (map role_view roles.now)) }
 {
-    match form {
-        Form::Text => put_line(out, number, size, roles),
-        Form::Json => put_line_object(out, room, number, size, roles),
+    match format {
+        OutputFormat::Text => put_line(out, number, size, roles),
+        OutputFormat::Json => put_line_object(out, room, number, size, roles),
     }
 }
 
@@ -123,17 +120,17 @@ fn count_of(roles: &[Role<'_>], number: u32) -> usize
 #[tactic(auto, using(tool_output::proofs::Refused::refused_is))]
 fn put_stream<'s, S: Source<'s>>(
     out: &mut Vec<u8>,
-    form: Form,
+    format: OutputFormat,
     room: &mut Vec<u8>,
     pdb: &PDB<'s, S>,
     number: u32,
     roles: &[Role<'_>],
 ) -> Result<(), AllocError>
-    ensures { pdb.now.told ≡ true → OnOk result (out.new.items ≡ out.old.items ++ line_in form number (if_read (stream_size pdb.now.file number)) (map role_view roles.now)) }
+    ensures { pdb.now.told ≡ true → OnOk result (out.new.items ≡ out.old.items ++ line_in format number (if_read (stream_size pdb.now.file number)) (map role_view roles.now)) }
 {
     match pdb.stream_size(number) {
-        Ok(size) => put_line_in(out, form, room, number, Some(size), roles),
-        Err(_) => put_line_in(out, form, room, number, None, roles),
+        Ok(size) => put_line_in(out, format, room, number, Some(size), roles),
+        Err(_) => put_line_in(out, format, room, number, None, roles),
     }
 }
 
@@ -151,19 +148,19 @@ fn here<'r, 'a>(roles: &'r [Role<'a>], at: usize, number: u32) -> &'r [Role<'a>]
 /// The lines of so many streams, by roles in the order of their streams.
 fn put_lines<'s, S: Source<'s>>(
     out: &mut Vec<u8>,
-    form: Form,
+    format: OutputFormat,
     pdb: &PDB<'s, S>,
     roles: &[Role<'_>],
     count: u32,
 ) -> Result<(), AllocError>
     requires { rises stream_number 0 roles.now ≡ true }
-    ensures { pdb.now.told ≡ true → OnOk result (out.new.items ≡ out.old.items ++ flat_map (role_line form pdb.now.file roles.now) (range_with_len 0 count)) }
+    ensures { pdb.now.told ≡ true → OnOk result (out.new.items ≡ out.old.items ++ flat_map (role_line format pdb.now.file roles.now) (range_with_len 0 count)) }
 {
     let mut room = Vec::new(*out.allocator());
     let mut at = 0;
     for number in 0..count {
         let here = here(roles, at, number);
-        put_stream(out, form, &mut room, pdb, number, here)?;
+        put_stream(out, format, &mut room, pdb, number, here)?;
         at += here.len();
     }
     Ok(())
@@ -284,17 +281,17 @@ fn put_streams<'a, 's, S: Source<'s>>(
     pdb: &mut PDB<'s, S>,
     names: Option<&StreamNames<'a>>,
     count: u32,
-    form: Form,
+    format: OutputFormat,
     out: &mut Vec<u8>,
 ) -> Result<(), Stop>
     ensures continues { Continues pdb.old pdb.new }
-    ensures text { pdb.new.told ≡ true → OnOk result (out.new.items ≡ out.old.items ++ flat_map (stream_line form pdb.old.file (roles_by pdb.old.file (option_copied names.entry))) (range_with_len 0 count)) }
+    ensures text { pdb.new.told ≡ true → OnOk result (out.new.items ≡ out.old.items ++ flat_map (stream_line format pdb.old.file (roles_by pdb.old.file (option_copied names.entry))) (range_with_len 0 count)) }
     ensures unwritten { IfErr result (StopsComposing (MayFail pdb.old pdb.new)) }
 {
     let mut roles = Vec::new(alloc);
     put_all(pdb, names, &mut roles)?;
     sort(&mut roles)?;
-    Ok(put_lines(out, form, pdb, &roles, count)?)
+    Ok(put_lines(out, format, pdb, &roles, count)?)
 }
 
 /// The lines of so many streams of a file.
@@ -302,16 +299,16 @@ fn put_counted<'s, S: Source<'s>>(
     alloc: Global,
     pdb: &mut PDB<'s, S>,
     count: u32,
-    form: Form,
+    format: OutputFormat,
     out: &mut Vec<u8>,
 ) -> Result<(), Stop>
     ensures continues { Continues pdb.old pdb.new }
-    ensures text { pdb.new.told ≡ true → OnOk result (out.new.items ≡ out.old.items ++ flat_map (stream_line form pdb.old.file (roles_of pdb.old.file)) (range_with_len 0 count)) }
+    ensures text { pdb.new.told ≡ true → OnOk result (out.new.items ≡ out.old.items ++ flat_map (stream_line format pdb.old.file (roles_of pdb.old.file)) (range_with_len 0 count)) }
     ensures unwritten { IfErr result (StopsComposing (MayFail pdb.old pdb.new)) }
 {
     let information = if_read(pdb.pdb_information())?;
     let names = names_of(alloc, information.as_ref())?;
-    put_streams(alloc, pdb, names.as_ref(), count, form, out)
+    put_streams(alloc, pdb, names.as_ref(), count, format, out)
 }
 
 /// The lines of all streams of a file, or the line of the error of its directory.
@@ -319,37 +316,31 @@ fn put_counted<'s, S: Source<'s>>(
 fn put_command<'s, S: Source<'s>>(
     alloc: Global,
     pdb: &mut PDB<'s, S>,
-    form: Form,
+    format: OutputFormat,
     out: &mut Vec<u8>,
 ) -> Result<(), Stop>
     ensures continues { Continues pdb.old pdb.new }
-    ensures text { pdb.new.told ≡ true → OnOk result (out.new.items ≡ out.old.items ++ streams_command form pdb.old.file) }
+    ensures text { pdb.new.told ≡ true → OnOk result (out.new.items ≡ out.old.items ++ streams_command format pdb.old.file) }
     ensures unwritten { IfErr result (StopsComposing (MayFail pdb.old pdb.new)) }
 {
     match pdb.stream_count() {
-        Ok(count) => put_counted(alloc, pdb, count, form, out),
-        Err(e) => put_refused_in(out, form, e),
+        Ok(count) => put_counted(alloc, pdb, count, format, out),
+        Err(e) => put_refused_in(out, format, e),
     }
 }
 
-/// Writes the size of each stream of a source's file, and what it is.
-#[tactic(auto, using(pdb_text::proofs::Written::any_err, tool_output::proofs::Fronts::front_none))]
-pub fn write_streams<'s, S: Source<'s>, W: CountedWrite>(
+/// Prints the size of each stream of a file, and what it is.
+pub fn print_streams<'s, S: Source<'s>, P: Printer>(
     alloc: Global,
-    source: S,
-    form: Form,
-    out: &mut W,
+    pdb: &mut PDB<'s, S>,
+    format: OutputFormat,
+    out: &mut P,
 ) -> Result<(), Stop>
-    ensures opened { IsKnown (S.state source) → OnOk result (opens (S.state source).file ≡ Ok tt) }
-    ensures ok { IsKnown (S.state source) → OnOk result (Appends (W.contents out.old) (W.contents out.new) (streams_command form (S.state source).file)) }
-    ensures refused { IsKnown (S.state source) → (e : Error) → IsErrOf result (Stop.Open e) → opens (S.state source).file ≡ Err e }
-    ensures stops { IfErr result (StopsCommand ((S.state source).steady ≡ false)) }
-    ensures failures { W.failures out.new ≡ failures_after (W.failures out.old) result }
-    ensures front { IsKnown (S.state source) → OnErr result (WroteFront (W.contents out.old) (W.contents out.new) (streams_command form (S.state source).file)) }
+    ensures continues { Continues pdb.old pdb.new }
+    ensures prints { pdb.new.told ≡ true → Prints (shown (streams_command format pdb.old.file)) (P.state out.old) (P.state out.new) result }
+    ensures halts { Halts (MayFail pdb.old pdb.new) (P.state out.old) (P.state out.new) result }
 {
-    let mut pdb = opened(alloc, source)?;
     let mut text = Vec::new(alloc);
-    put_command(alloc, &mut pdb, form, &mut text)?;
-    write_counted(out, &text)?;
-    Ok(())
+    put_command(alloc, pdb, format, &mut text)?;
+    Ok(out.print(&text)?)
 }

@@ -1,6 +1,5 @@
-pub mod Fronts
+pub mod Listed
 pub mod Refused
-pub mod WrittenSoFar
 pub mod IndexedTexts
 pub mod KnownValues
 pub mod Stops

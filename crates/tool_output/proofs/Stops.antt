@@ -1,10 +1,12 @@
 -- Stops that are passed on.
-use Rattle.std.proofs.Common.{◌≡◌, Bool, true, false, true≢false, ◌∙◌, Result, Ok, Err, subst, sym}
+use Rattle.std.proofs.Common.{◌≡◌, ℕ, ap, Bool, true, false, true≢false, ◌∙◌, Result, Ok, Err, subst, sym}
 use Rattle.std.specs.Prelude.{IfErr, IfOk, IsErrAnd, IsErrOf, MatchResult, is_ok}
 use Rattle.pdb.specs.Source.{State, Continues, MayFail}
 use Rattle.pdb.proofs.Passing.{unsteady_before}
-use Rattle.tool_output.specs.Stops.{StopsCommand, StopsComposing, StopsOpening, StopsWriting}
+use Rattle.tool_output.specs.Stops.{Halts, StopsCommand, StopsComposing, StopsOpening, StopsWriting}
+use Rattle.tool_output.specs.WriteFailures.{failures_after}
 use Rattle.tool_output.specs.declared.stop.Stop.{Stop}
+use Rattle.tool_printing.specs.Printing.{Printing}
 use Rattle.tool_output.specs.declared.stop.Stop.TheVariants.{Read, Open, Memory, Write}
 
 -- a call that stops as another one did
@@ -75,3 +77,20 @@ mapped_ok (Err e) (Err f) P Q cases same h = tt
 pub if_ok_on : {T E : Type 0} (r : Result T E) (P Q : T → Type 0) → ((x : T) → P x → Q x) → IfOk r P → IfOk r Q
 if_ok_on (Ok x) P Q f h = f x h
 if_ok_on (Err e) P Q f h = tt
+
+-- a call that prints, and stops for what a later one could have stopped for
+pub halts_weaken : {T : Type 0} (io io' : Type 0) (s t : Printing) (r : Result T Stop) → (io → io') → Halts io s t r → Halts io' s t r
+halts_weaken io io' s t r f h = record {
+  cause = if_stopped (StopsWriting io) (StopsWriting io') r (writing_weaken io io' f) h.cause;
+  failures = h.failures;
+}
+
+failures_then : {T : Type 0} (a b c : ℕ) (r : Result T Stop) → b ≡ a → c ≡ failures_after b r → c ≡ failures_after a r
+failures_then a b c r e h = h ∙ ap (λ n. failures_after n r) e
+
+-- the same behind another one that printed its text
+pub halts_then : {T : Type 0} (io io' : Type 0) (s t u : Printing) (r : Result T Stop) → (io → io') → t.failures ≡ s.failures → Halts io t u r → Halts io' s u r
+halts_then io io' s t u r f e h = record {
+  cause = if_stopped (StopsWriting io) (StopsWriting io') r (writing_weaken io io' f) h.cause;
+  failures = failures_then s.failures t.failures u.failures r e h.failures;
+}

@@ -3,7 +3,7 @@ use Rattle.std.specs.Prelude.{ℕ, ◌==◌, Bool, true, false, if◌then◌else
 use Rattle.pdb.specs.Error.{Error}
 use Rattle.pdb.specs.Error.TheVariants.{GlobalSymbolsNotFound, StreamNotFound}
 use Rattle.pdb.specs.Container.{stream_size}
-use Rattle.tool_arguments.specs.declared.options.Form.{Form}
+use Rattle.tool_arguments.specs.declared.options.OutputFormat.{OutputFormat}
 use Rattle.tool_output.specs.ErrorObjects.{error_in}
 
 -- the size of a stream that isn't there: it isn't in the directory, or has no byte
@@ -27,10 +27,10 @@ is_absence GlobalSymbolsNotFound = true
 is_absence e = false
 
 -- the line of a refusal; none where it is of what isn't there
-abbrev pub refusal_in : Form → Error → List ℕ
-refusal_in form e = if is_absence e then [] else error_in form e
+abbrev pub refusal_in : OutputFormat → Error → List ℕ
+refusal_in format e = if is_absence e then [] else error_in format e
 
 -- the text of what was read, or the line of its refusal
-abbrev pub there_in : {A : Type 0} → Form → Result A Error → (A → List ℕ) → List ℕ
-there_in form (Ok x) text = text x
-there_in form (Err e) text = refusal_in form e
+abbrev pub there_in : {A : Type 0} → OutputFormat → Result A Error → (A → List ℕ) → List ℕ
+there_in format (Ok x) text = text x
+there_in format (Err e) text = refusal_in format e

@@ -5,6 +5,7 @@ use Rattle.pdb.specs.Error.{Error}
 use Rattle.pdb.specs.Error.TheVariants.{UnexpectedEof, UnimplementedFeature, UnrecognizedFileFormat, InvalidPageSize, PageReferenceOutOfRange, StreamNotFound, StreamNameNotFound, GlobalSymbolsNotFound, AddressMapNotFound, InvalidStreamLength, SymbolTooShort, UnimplementedSymbolKind, UnimplementedDebugSubsection, UnimplementedFileChecksumKind, InvalidFileChecksumOffset, UnknownBinaryAnnotation, InvalidCompressedAnnotation, NotACrossModuleRef, CrossModuleRefNotFound, UnexpectedNumericPrefix, IoError, OutOfMemory}
 use Rattle.pdb.specs.Refusal.{number_of, feature_text, part_text}
 use Rattle.pdb_text.specs.Digits.{hex}
+use Rattle.tool_printing.specs.Printing.{mark}
 
 -- `0x` and so many hex digits as the number has
 abbrev pub short_hex : ℕ → List ℕ
@@ -45,8 +46,12 @@ message_of SymbolTooShort = codes "a symbol record is shorter than two bytes"
 message_of e = later_message e
 
 -- `error`, the refusal's number, and what its Display writes
+abbrev pub error_text : Error → List ℕ
+error_text e = codes "error " ++ decimal (number_of e) ++ codes " " ++ message_of e ++ codes "\n"
+
+-- the same behind a mark: a text that has it was made of something with an error
 abbrev pub error_line : Error → List ℕ
-error_line e = codes "error " ++ decimal (number_of e) ++ codes " " ++ message_of e ++ codes "\n"
+error_line e = mark ++ error_text e
 
 -- the line of a fault, where there is one
 abbrev pub fault_line : Option Error → List ℕ

@@ -3,6 +3,7 @@ pub mod Stops
 pub mod FileNames
 pub mod WriteFailures
 pub mod EachFile
+pub mod Faults
 pub mod Objects
 pub mod ErrorLine
 pub mod ErrorObjects

@@ -11,8 +11,8 @@ use Rattle.pdb_resolve.specs.AcrossModules.{global_id_in}
 use Rattle.tool_output.specs.Absent.{if_there, lacks}
 use Rattle.tool_output.specs.ErrorObjects.{error_of, fault_in, none_of, told_in, told_of}
 use Rattle.tool_fields.specs.Values.{behind_blank}
-use Rattle.tool_arguments.specs.declared.options.Form.{Form}
-use Rattle.tool_arguments.specs.declared.options.Form.TheVariants.{Text, Json as Objects}
+use Rattle.tool_arguments.specs.declared.options.OutputFormat.{OutputFormat}
+use Rattle.tool_arguments.specs.declared.options.OutputFormat.TheVariants.{Text, Json as Objects}
 
 -- the text of a module; another where none is there
 abbrev pub there_text : (ModuleBytes → List ℕ) → List ℕ → Option ModuleBytes → List ℕ
@@ -28,41 +28,41 @@ unfoldable pub module_line : ℕ → ModuleEntry → List ℕ
 module_line k m = codes "module " ++ decimal k ++ behind_blank m.module_name ++ codes "\n"
 
 -- it stands in a text, where more than one module is told: an object says itself of which module it is
-abbrev pub line_if : Form → Bool → ℕ → ModuleEntry → List ℕ
+abbrev pub line_if : OutputFormat → Bool → ℕ → ModuleEntry → List ℕ
 line_if Text several k m = if several then module_line k m else []
 line_if Objects several k m = []
 
 -- of a module that the list has, or hasn't: `none` where it hasn't, or the module has no stream
-abbrev pub entry_text : Form → Bool → (ℕ → ModuleBytes → List ℕ) → List ℕ → ℕ → Option ModuleEntry → List ℕ
-entry_text form several text file k None = none_of form k
-entry_text form several text file k (Some m) = line_if form several k m ++ told_of form k (module_info_in file m) (there_text (text k) (none_of form k))
+abbrev pub entry_text : OutputFormat → Bool → (ℕ → ModuleBytes → List ℕ) → List ℕ → ℕ → Option ModuleEntry → List ℕ
+entry_text format several text file k None = none_of format k
+entry_text format several text file k (Some m) = line_if format several k m ++ told_of format k (module_info_in file m) (there_text (text k) (none_of format k))
 
 -- of the module of this index in a list
-abbrev pub module_in : Form → Bool → (ℕ → ModuleBytes → List ℕ) → List ℕ → Left ModuleEntry → ℕ → List ℕ
-module_in form several text file left k = told_of form k (item_at k left) (entry_text form several text file k)
+abbrev pub module_in : OutputFormat → Bool → (ℕ → ModuleBytes → List ℕ) → List ℕ → Left ModuleEntry → ℕ → List ℕ
+module_in format several text file left k = told_of format k (item_at k left) (entry_text format several text file k)
 
 -- and in that of the file
-abbrev pub place_text : Form → Bool → (ℕ → ModuleBytes → List ℕ) → List ℕ → ℕ → List ℕ
-place_text form several text file k = told_of form k (debug_information_in file >>= modules_in) (λ left. module_in form several text file left k)
+abbrev pub place_text : OutputFormat → Bool → (ℕ → ModuleBytes → List ℕ) → List ℕ → ℕ → List ℕ
+place_text format several text file k = told_of format k (debug_information_in file >>= modules_in) (λ left. module_in format several text file left k)
 
 -- of module k behind the line that names it; nothing where it has no stream
-abbrev pub headed_text : Form → List ℕ → (ℕ → ModuleBytes → List ℕ) → ℕ → Result (Option ModuleBytes) Error → List ℕ
-headed_text form line text k (Ok None) = []
-headed_text form line text k (Ok (Some m)) = line ++ text k m
-headed_text form line text k (Err e) = line ++ error_of form k e
+abbrev pub headed_text : OutputFormat → List ℕ → (ℕ → ModuleBytes → List ℕ) → ℕ → Result (Option ModuleBytes) Error → List ℕ
+headed_text format line text k (Ok None) = []
+headed_text format line text k (Ok (Some m)) = line ++ text k m
+headed_text format line text k (Err e) = line ++ error_of format k e
 
 -- of a module of the list
-unfoldable pub listed_text : Form → Bool → (ℕ → ModuleBytes → List ℕ) → List ℕ → ℕ → ModuleEntry → List ℕ
-listed_text form several text file k m = headed_text form (line_if form several k m) text k (module_info_in file m)
+unfoldable pub listed_text : OutputFormat → Bool → (ℕ → ModuleBytes → List ℕ) → List ℕ → ℕ → ModuleEntry → List ℕ
+listed_text format several text file k m = headed_text format (line_if format several k m) text k (module_info_in file m)
 
 -- of modules of which the first has this index
-abbrev pub listed_texts : Form → Bool → (ℕ → ModuleBytes → List ℕ) → List ℕ → ℕ → List ModuleEntry → List ℕ
-listed_texts form several text file k [] = []
-listed_texts form several text file k (m ∷ ms) = listed_text form several text file k m ++ listed_texts form several text file (k + 1) ms
+abbrev pub listed_texts : OutputFormat → Bool → (ℕ → ModuleBytes → List ℕ) → List ℕ → ℕ → List ModuleEntry → List ℕ
+listed_texts format several text file k [] = []
+listed_texts format several text file k (m ∷ ms) = listed_text format several text file k m ++ listed_texts format several text file (k + 1) ms
 
 -- of all modules of the list from this index on, and then the line of its fault
-abbrev pub list_text : Form → Bool → (ℕ → ModuleBytes → List ℕ) → List ℕ → ℕ → Left ModuleEntry → List ℕ
-list_text form several text file k left = listed_texts form several text file k left.items ++ fault_in form left.fault
+abbrev pub list_text : OutputFormat → Bool → (ℕ → ModuleBytes → List ℕ) → List ℕ → ℕ → Left ModuleEntry → List ℕ
+list_text format several text file k left = listed_texts format several text file k left.items ++ fault_in format left.fault
 
 -- a module has a stream, and so is told
 abbrev pub has_stream : ModuleEntry → Bool
@@ -76,36 +76,36 @@ abbrev pub several_in : Result (Left ModuleEntry) Error → Bool
 several_in (Ok left) = tell_several left.items
 several_in (Err e) = false
 
-abbrev pub whole_text : Form → (ℕ → ModuleBytes → List ℕ) → List ℕ → Left ModuleEntry → List ℕ
-whole_text form text file left = list_text form (tell_several left.items) text file 0 left
+abbrev pub whole_text : OutputFormat → (ℕ → ModuleBytes → List ℕ) → List ℕ → Left ModuleEntry → List ℕ
+whole_text format text file left = list_text format (tell_several left.items) text file 0 left
 
 -- of all, where the file has debug information
-unfoldable pub all_listed : Form → (ℕ → ModuleBytes → List ℕ) → List ℕ → List ℕ
-all_listed form text file = told_in form (debug_information_in file >>= modules_in) (whole_text form text file)
+unfoldable pub all_listed : OutputFormat → (ℕ → ModuleBytes → List ℕ) → List ℕ → List ℕ
+all_listed format text file = told_in format (debug_information_in file >>= modules_in) (whole_text format text file)
 
-unfoldable pub all_text : Form → (ℕ → ModuleBytes → List ℕ) → List ℕ → List ℕ
-all_text form text file = if_there file 3 (all_listed form text file)
+unfoldable pub all_text : OutputFormat → (ℕ → ModuleBytes → List ℕ) → List ℕ → List ℕ
+all_text format text file = if_there file 3 (all_listed format text file)
 
 -- the same without lines that name modules
-unfoldable pub plain_listed : Form → (ℕ → ModuleBytes → List ℕ) → List ℕ → List ℕ
-plain_listed form text file = told_in form (debug_information_in file >>= modules_in) (list_text form false text file 0)
+unfoldable pub plain_listed : OutputFormat → (ℕ → ModuleBytes → List ℕ) → List ℕ → List ℕ
+plain_listed format text file = told_in format (debug_information_in file >>= modules_in) (list_text format false text file 0)
 
-unfoldable pub plain_text : Form → (ℕ → ModuleBytes → List ℕ) → List ℕ → List ℕ
-plain_text form text file = if_there file 3 (plain_listed form text file)
+unfoldable pub plain_text : OutputFormat → (ℕ → ModuleBytes → List ℕ) → List ℕ → List ℕ
+plain_text format text file = if_there file 3 (plain_listed format text file)
 
 -- more than one number
 abbrev pub are_several : List ℕ → Bool
 are_several ks = nat_lt 1 (length ks)
 
 -- of the modules of these numbers, where the file has debug information
-abbrev pub indexed_listed : Form → (ℕ → ModuleBytes → List ℕ) → List ℕ → List ℕ → List ℕ
-indexed_listed form text file ks = flat_map (place_text form (are_several ks) text file) ks
+abbrev pub indexed_listed : OutputFormat → (ℕ → ModuleBytes → List ℕ) → List ℕ → List ℕ → List ℕ
+indexed_listed format text file ks = flat_map (place_text format (are_several ks) text file) ks
 
 -- without it none is there
-unfoldable pub indexed_text : Form → (ℕ → ModuleBytes → List ℕ) → List ℕ → List ℕ → List ℕ
-indexed_text form text file ks = if lacks file 3 then flat_map (none_of form) ks else indexed_listed form text file ks
+unfoldable pub indexed_text : OutputFormat → (ℕ → ModuleBytes → List ℕ) → List ℕ → List ℕ → List ℕ
+indexed_text format text file ks = if lacks file 3 then flat_map (none_of format) ks else indexed_listed format text file ks
 
 -- of all where there is no number
-abbrev pub modules_text : Form → (ℕ → ModuleBytes → List ℕ) → List ℕ → List ℕ → List ℕ
-modules_text form text file [] = all_text form text file
-modules_text form text file (k ∷ ks) = indexed_text form text file (k ∷ ks)
+abbrev pub modules_text : OutputFormat → (ℕ → ModuleBytes → List ℕ) → List ℕ → List ℕ → List ℕ
+modules_text format text file [] = all_text format text file
+modules_text format text file (k ∷ ks) = indexed_text format text file (k ∷ ks)

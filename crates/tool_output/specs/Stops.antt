@@ -1,18 +1,27 @@
 -- What stops a command.
-use Rattle.std.specs.Prelude.{ℕ}
+use Rattle.std.specs.Prelude.{◌≡◌, ℕ, Result, IfErr}
+use Rattle.std.specs.declared.io.ErrorKind.{ErrorKind}
+use Rattle.std.specs.declared.io.ErrorKind.TheVariants as kind
 use Rattle.pdb.specs.Error.{Error}
 use Rattle.pdb.specs.Error.TheVariants as refusal
 use Rattle.pdb_file.specs.declared.reading.FetchError.{FetchError}
 use Rattle.pdb_file.specs.declared.reading.FetchError.TheVariants as fetch
 use Rattle.tool_output.specs.declared.stop.Stop.{Stop}
 use Rattle.tool_output.specs.declared.stop.Stop.TheVariants.{Unopened, Read, Open, Image, NoPdb, Memory, Write}
+use Rattle.tool_output.specs.WriteFailures.{failures_after}
+use Rattle.tool_printing.specs.Printing.{Printing}
 use Rattle.tool_output.specs.declared.fault.Fault.{Fault}
-use Rattle.tool_output.specs.declared.fault.Fault.TheVariants.{BadWord, NotText, NoInput, Stopped, OtherKey}
+use Rattle.tool_output.specs.declared.fault.Fault.TheVariants.{Mistaken, NotText, NoInput, Stopped, Image as OverImage, OtherKey}
 
 -- a read that failed
 abbrev pub stop_of_fetch : FetchError → Stop
 stop_of_fetch fetch.Read = Read
 stop_of_fetch fetch.Memory = Memory
+
+-- a read of standard input that failed, by its kind
+abbrev pub stop_of_kind : ErrorKind → Stop
+stop_of_kind kind.OutOfMemory = Memory
+stop_of_kind k = Read
 
 -- a refused call on an opened file
 abbrev pub stop_of_refusal : Error → Stop
@@ -40,7 +49,7 @@ StopsOpening io Read = io
 StopsOpening io (Open e) = Unit {0}
 StopsOpening io stop = ⊥
 
--- what writes a text of an opened file
+-- what prints a text of an opened file
 abbrev pub StopsWriting : Type 0 → Stop → Type 0
 StopsWriting io Memory = Unit {0}
 StopsWriting io Read = io
@@ -55,6 +64,11 @@ StopsCommand io Write = Unit {0}
 StopsCommand io (Open e) = Unit {0}
 StopsCommand io stop = ⊥
 
+-- a call that prints stops for one of these causes, and a failed write is counted
+pub record Halts {X : Type 0} (io : Type 0) (old new : Printing) (result : Result X Stop) : Type 0 where
+  pub cause : IfErr result (StopsWriting io)
+  pub failures : new.failures ≡ failures_after old.failures result
+
 -- the exit status of a command that stopped
 abbrev pub status_of_stop : Stop → ℕ
 status_of_stop (Unopened why) = 3
@@ -67,8 +81,9 @@ status_of_stop Write = 6
 
 -- and of a fault of the program
 abbrev pub status_of : Fault → ℕ
-status_of (BadWord argument) = 2
+status_of (Mistaken mistake) = 2
 status_of (NotText argument) = 2
 status_of NoInput = 3
 status_of (Stopped stop argument) = status_of_stop stop
+status_of (OverImage stop value) = status_of_stop stop
 status_of OtherKey = 7

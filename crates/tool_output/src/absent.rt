@@ -1,21 +1,18 @@
 //! What a file hasn't.
 
-ghost use Rattle.std.specs.Prelude.{◌≡◌, ◌≢◌, ◌++◌, ◌⊎◌, IfErr, IsErrOf, OnErr, OnOk, true};
-ghost use Rattle.std.specs.Io.KnownBytes.{Appends};
+ghost use Rattle.std.specs.Prelude.{◌≡◌, ◌≢◌, ◌++◌, ◌⊎◌, IfErr, OnOk, true};
 ghost use Rattle.pdb.specs.Error.{Error};
-ghost use Rattle.pdb_text.specs.Written.{WroteFront};
 ghost use Rattle.tool_output.specs.Absent.{lacks, refusal_in};
-ghost use Rattle.tool_output.specs.Stops.{StopsComposing, StopsWriting};
-ghost use Rattle.tool_output.specs.WriteFailures.{failures_after};
-ghost use Rattle.tool_output.specs.declared.stop.Stop.{Stop};
+ghost use Rattle.tool_output.specs.Stops.{Halts, StopsComposing};
+ghost use Rattle.tool_printing.specs.Printing.{Prints, shown};
 
 use crate::error_objects::put_refused_in;
-use crate::module_texts::write_refused_in;
+use crate::module_printing::print_refused;
 use crate::stop::Stop;
 use pdb::{Error, PDB, Source};
-use pdb_text::CountedWrite;
 use std::alloc::Global;
-use tool_arguments::options::Form;
+use tool_arguments::options::OutputFormat;
+use tool_printing::Printer;
 
 /// The stream of types.
 pub const TYPES: u32 = 2;
@@ -40,35 +37,32 @@ pub fn lacks<'s, S: Source<'s>>(pdb: &PDB<'s, S>, number: u32) -> bool
 
 /// The line of an error; nothing where it is the refusal of what isn't there. Out of memory, and a source that failed, are
 /// passed on.
-pub fn put_unless_absent(out: &mut Vec<u8>, form: Form, e: Error) -> Result<(), Stop>
-    ensures text { OnOk result ((e ≢ Error.OutOfMemory) × (e ≢ Error.IoError) × (out.new.items ≡ out.old.items ++ refusal_in form e)) }
+pub fn put_unless_absent(out: &mut Vec<u8>, format: OutputFormat, e: Error) -> Result<(), Stop>
+    ensures text { OnOk result ((e ≢ Error.OutOfMemory) × (e ≢ Error.IoError) × (out.new.items ≡ out.old.items ++ refusal_in format e)) }
     ensures unwritten { IfErr result (StopsComposing (e ≡ Error.IoError)) }
 {
     match e {
         Error::StreamNotFound(_) => Ok(()),
         Error::GlobalSymbolsNotFound => Ok(()),
-        e => put_refused_in(out, form, e),
+        e => put_refused_in(out, format, e),
     }
 }
 
-/// Writes it.
-#[tactic(auto, using(crate::proofs::Fronts::appends_none))]
-pub fn write_unless_absent<W: CountedWrite>(
+/// Prints it.
+pub fn print_unless_absent<P: Printer>(
     alloc: Global,
-    form: Form,
+    format: OutputFormat,
     e: Error,
-    out: &mut W,
+    out: &mut P,
 ) -> Result<(), Stop>
-    ensures opened { (x : Error) → IsErrOf result (Stop.Open x) → ⊥ }
-    ensures stops { IfErr result (StopsWriting (e ≡ Error.IoError)) }
-    ensures failures { W.failures out.new ≡ failures_after (W.failures out.old) result }
-    ensures ok { OnOk result ((e ≢ Error.OutOfMemory) × (e ≢ Error.IoError) × Appends (W.contents out.old) (W.contents out.new) (refusal_in form e)) }
-    ensures front { OnErr result (WroteFront (W.contents out.old) (W.contents out.new) (refusal_in form e)) }
-    ensures passed { e ≡ Error.OutOfMemory ⊎ e ≡ Error.IoError → W.contents out.new ≡ W.contents out.old }
+    ensures prints { Prints (shown (refusal_in format e)) (P.state out.old) (P.state out.new) result }
+    ensures halts { Halts (e ≡ Error.IoError) (P.state out.old) (P.state out.new) result }
+    ensures passed { OnOk result ((e ≢ Error.OutOfMemory) × (e ≢ Error.IoError)) }
+    ensures unread { e ≡ Error.OutOfMemory ⊎ e ≡ Error.IoError → P.state out.new ≡ P.state out.old }
 {
     match e {
         Error::StreamNotFound(_) => Ok(()),
         Error::GlobalSymbolsNotFound => Ok(()),
-        e => write_refused_in(alloc, form, e, out),
+        e => print_refused(alloc, format, e, out),
     }
 }

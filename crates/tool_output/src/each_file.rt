@@ -1,22 +1,20 @@
 //! Commands over several files, one after another: a file that can't be read is passed over.
 
-ghost use Rattle.std.specs.Prelude.{◌≡◌, ◌++◌, ◌&&◌, flat_map, true, OnErr, IfOk, IfErr};
-ghost use Rattle.std.specs.List.{list_all};
-ghost use Rattle.std.specs.Io.KnownBytes.{Appends};
-ghost use Rattle.pdb_text.specs.Written.{WroteFront};
-ghost use Rattle.tool_output.specs.EachFile.{IsEnding, Prints, is_well_in, text_in};
-ghost use Rattle.tool_output.specs.WriteFailures.{failures_ending};
+ghost use Rattle.std.specs.Prelude.{◌≡◌, map, true, IfOk, IfErr};
 ghost use Rattle.tool_arguments.specs.Operands.{operand_view};
+ghost use Rattle.tool_output.specs.EachFile.{IsEnding, are_well, file_shown, is_well_in, texts_of};
+ghost use Rattle.tool_output.specs.WriteFailures.{failures_ending};
+ghost use Rattle.tool_printing.specs.Printing.{Prints};
 
 use crate::fault::Fault;
 use crate::stop::Stop;
-use pdb_text::{CountedWrite, write_counted};
 use std::io::Write;
 use tool_arguments::operands::Operand;
+use tool_printing::Printer;
 
 /// What is printed of a file.
 #[derive(Drop)]
-pub struct Printed {
+pub struct FileText {
     /// The text.
     pub text: Vec<u8>,
     /// Whether nothing is wrong with the file.
@@ -26,8 +24,8 @@ pub struct Printed {
 /// What a command over several files prints of each.
 pub trait EachFile {
     ghost use Rattle.std.specs.Prelude.{Bool, Result};
-    ghost use Rattle.tool_output.specs.EachFile.{TextOf};
     ghost use Rattle.tool_arguments.specs.Operands.{WordAt};
+    ghost use Rattle.tool_output.specs.EachFile.{GivesText, TextOf};
     ghost use Rattle.tool_output.specs.declared.stop.Stop.{Stop};
 
     // Whether contracts know what is printed.
@@ -37,80 +35,54 @@ pub trait EachFile {
     ghost printed: { Self → WordAt → Result TextOf Stop };
 
     /// What is printed of the file that an argument names, or why nothing is.
-    fn text_of(&self, name: Operand<'_>) -> Result<Printed, Stop>
-        ensures { is_known self.now ≡ true → Prints result (printed self.now (operand_view name.entry)) };
+    fn text_of(&self, name: Operand<'_>) -> Result<FileText, Stop>
+        ensures { is_known self.now ≡ true → GivesText result (printed self.now (operand_view name.entry)) };
 
     /// Writes why nothing is printed of a file.
     fn pass_over<E: Write>(&self, stop: Stop, name: Operand<'_>, err: &mut E);
 }
 
-/// Writes the text of a file. The result is whether nothing is wrong with the file.
-fn write_one<F: EachFile, W: CountedWrite, E: Write>(
+/// Prints the text of a file. The result is whether nothing is wrong with the file.
+fn print_one<F: EachFile, P: Printer, E: Write>(
     files: &F,
     name: Operand<'_>,
-    out: &mut W,
+    out: &mut P,
     err: &mut E,
 ) -> Result<bool, Fault>
     ensures well { F.is_known files.now ≡ true → IfOk result (λ well. well ≡ is_well_in (F.printed files.now (operand_view name.entry))) }
-    ensures ok { F.is_known files.now ≡ true → IfOk result (λ well. Appends (W.contents out.old) (W.contents out.new) (text_in (F.printed files.now (operand_view name.entry)))) }
-    ensures front { F.is_known files.now ≡ true → OnErr result (WroteFront (W.contents out.old) (W.contents out.new) (text_in (F.printed files.now (operand_view name.entry)))) }
+    ensures prints { F.is_known files.now ≡ true → Prints (file_shown (F.printed files.now (operand_view name.entry))) (P.state out.old) (P.state out.new) result }
     ensures ends { IfErr result IsEnding }
-    ensures failures { W.failures out.new ≡ failures_ending (W.failures out.old) result }
+    ensures failures { (P.state out.new).failures ≡ failures_ending (P.state out.old).failures result }
 {
     match files.text_of(name) {
         Ok(printed) => {
-            write_counted(out, &printed.text)?;
+            out.print_bytes(&printed.text, false)?;
             Ok(printed.is_well)
         }
+        Err(Stop::Memory) => Err(Fault::Stopped(Stop::Memory, name.argument)),
         Err(stop) => {
-            if stop == Stop::Memory {
-                return Err(Fault::Stopped(Stop::Memory, name.argument));
-            }
             files.pass_over(stop, name, err);
             Ok(false)
         }
     }
 }
 
-/// Writes the texts of files, one after another.
-fn write_all<F: EachFile, W: CountedWrite, E: Write>(
+/// Prints the texts of files, one after another. A file of which there is none is passed over. The result is whether
+/// there is a text of each file, and nothing is wrong with any.
+pub fn print_each_file<F: EachFile, P: Printer, E: Write>(
     files: &F,
     names: &[Operand<'_>],
-    out: &mut W,
+    out: &mut P,
     err: &mut E,
 ) -> Result<bool, Fault>
-    ensures ok { F.is_known files.now ≡ true → IfOk result (λ all. Appends (W.contents out.old) (W.contents out.new) (flat_map (λ name. text_in (F.printed files.now (operand_view name))) names.now)) }
-    ensures well { F.is_known files.now ≡ true → IfOk result (λ all. all ≡ list_all (λ name. is_well_in (F.printed files.now (operand_view name))) names.now) }
-    ensures front { F.is_known files.now ≡ true → OnErr result (WroteFront (W.contents out.old) (W.contents out.new) (flat_map (λ name. text_in (F.printed files.now (operand_view name))) names.now)) }
+    ensures well { F.is_known files.now ≡ true → IfOk result (λ all. all ≡ are_well (F.printed files.now) (map operand_view names.now)) }
+    ensures prints { F.is_known files.now ≡ true → Prints (texts_of (F.printed files.now) (map operand_view names.now)) (P.state out.old) (P.state out.new) result }
     ensures ends { IfErr result IsEnding }
-    ensures failures { W.failures out.new ≡ failures_ending (W.failures out.old) result }
+    ensures failures { (P.state out.new).failures ≡ failures_ending (P.state out.old).failures result }
 {
     let mut all = true;
     for name in names {
-        all = write_one(files, *name, out, err)? && all;
+        all &= print_one(files, *name, out, err)?;
     }
     Ok(all)
-}
-
-/// Writes the texts of a file and of others, one after another. A file of which there is none is passed over. The
-/// result is whether there is a text of each file, and nothing is wrong with any.
-#[tactic(auto, using(pdb_text::proofs::Written::appends_then, pdb_text::proofs::Written::front_then, pdb_text::proofs::Written::front_of))]
-pub fn write_each_file<F: EachFile, W: CountedWrite, E: Write>(
-    files: &F,
-    first: Operand<'_>,
-    others: &[Operand<'_>],
-    out: &mut W,
-    err: &mut E,
-) -> Result<bool, Fault>
-    // All texts were written.
-    ensures ok { F.is_known files.now ≡ true → IfOk result (λ all. Appends (W.contents out.old) (W.contents out.new) (text_in (F.printed files.now (operand_view first.entry)) ++ flat_map (λ name. text_in (F.printed files.now (operand_view name))) others.now)) }
-    ensures well { F.is_known files.now ≡ true → IfOk result (λ all. all ≡ (is_well_in (F.printed files.now (operand_view first.entry)) && list_all (λ name. is_well_in (F.printed files.now (operand_view name))) others.now)) }
-    // A beginning of the texts was written.
-    ensures front { F.is_known files.now ≡ true → OnErr result (WroteFront (W.contents out.old) (W.contents out.new) (text_in (F.printed files.now (operand_view first.entry)) ++ flat_map (λ name. text_in (F.printed files.now (operand_view name))) others.now)) }
-    ensures ends { IfErr result IsEnding }
-    ensures failures { W.failures out.new ≡ failures_ending (W.failures out.old) result }
-{
-    let well = write_one(files, first, out, err)?;
-    let others = write_all(files, others, out, err)?;
-    Ok(well && others)
 }

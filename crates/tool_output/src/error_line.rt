@@ -1,14 +1,15 @@
 //! The line of an error, or of a list's fault.
 
-ghost use Rattle.std.specs.Prelude.{◌≡◌, ◌≢◌, ◌++◌, codes, OnOk};
+ghost use Rattle.std.specs.Prelude.{◌≡◌, ◌≢◌, ◌++◌, OnOk};
 ghost use Rattle.std.specs.Fmt.{decimal, digits};
 ghost use Rattle.pdb.specs.Error.TheVariants.{OutOfMemory};
 ghost use Rattle.pdb_text.specs.Digits.{hex};
-ghost use Rattle.tool_output.specs.ErrorLine.{error_line, later_message, long_hex, message_of, short_hex};
+ghost use Rattle.tool_output.specs.ErrorLine.{error_line, error_text, later_message, long_hex, message_of, short_hex};
 
 use pdb::Error;
 use pdb_text::{put_decimal, put_hex4, put_line_end};
 use std::alloc::AllocError;
+use tool_printing::put_mark;
 
 const NOT_READ: &[u8] = b" are not supported";
 
@@ -124,13 +125,21 @@ pub fn put_message(out: &mut Vec<u8>, e: Error) -> Result<(), AllocError>
     }
 }
 
-/// The line of an error or of a list's fault: `error`, its number, and what its Display writes.
-pub fn put_error_line(out: &mut Vec<u8>, e: Error) -> Result<(), AllocError>
-    ensures { OnOk result (out.new.items ≡ out.old.items ++ error_line e) }
+/// The text of an error or of a list's fault: `error`, its number, and what its Display writes.
+fn put_error_text(out: &mut Vec<u8>, e: Error) -> Result<(), AllocError>
+    ensures { OnOk result (out.new.items ≡ out.old.items ++ error_text e) }
 {
     put_numbered(out, b"error ", u32::from(e.number()), b" ")?;
     put_message(out, e)?;
     put_line_end(out)
+}
+
+/// The line of an error, behind a mark.
+pub fn put_error_line(out: &mut Vec<u8>, e: Error) -> Result<(), AllocError>
+    ensures { OnOk result (out.new.items ≡ out.old.items ++ error_line e) }
+{
+    put_mark(out)?;
+    put_error_text(out, e)
 }
 
 /// The line of the error of a call that reads the file; out of memory is passed on.

@@ -1,6 +1,6 @@
-//! The lines of errors, in the form of the output.
+//! The lines of errors, in the format of the output.
 
-ghost use Rattle.std.specs.Prelude.{◌≡◌, ◌≢◌, ◌∷◌, ◌++◌, [], codes, OnOk, IfErr};
+ghost use Rattle.std.specs.Prelude.{◌≡◌, ◌≢◌, ◌∷◌, ◌++◌, codes, OnOk, IfErr};
 ghost use Rattle.json.specs.Json.{member, no_members, null, string};
 ghost use Rattle.json.specs.Token.{begin_object, key};
 ghost use Rattle.json.specs.Tree.{json_tokens, members_tokens};
@@ -8,7 +8,6 @@ ghost use Rattle.pdb.specs.Error.{Error};
 ghost use Rattle.tool_output.specs.ErrorObjects.{error_in, error_members, error_value, none_in, none_value};
 ghost use Rattle.tool_output.specs.Objects.{Adds, json_line};
 ghost use Rattle.tool_output.specs.Stops.{StopsComposing};
-ghost use Rattle.tool_output.specs.declared.stop.Stop.{Stop};
 
 use crate::error_line::{put_error_line, put_message};
 use crate::objects::{end_line, put_last, put_null, put_number, value_behind};
@@ -16,7 +15,8 @@ use crate::stop::Stop;
 use json::Writer;
 use pdb::Error;
 use std::alloc::{AllocError, Global};
-use tool_arguments::options::Form;
+use tool_arguments::options::OutputFormat;
+use tool_printing::put_mark;
 
 /// An object outside modules.
 fn begin_outside(writer: &mut Writer) -> Result<(), AllocError>
@@ -56,24 +56,27 @@ fn put_error_object(out: &mut Vec<u8>, e: Error) -> Result<(), AllocError>
 }
 
 /// The line of an error outside modules.
-pub fn put_error_in(out: &mut Vec<u8>, form: Form, e: Error) -> Result<(), AllocError>
-    ensures { OnOk result (out.new.items ≡ out.old.items ++ error_in form e) }
+pub fn put_error_in(out: &mut Vec<u8>, format: OutputFormat, e: Error) -> Result<(), AllocError>
+    ensures { OnOk result (out.new.items ≡ out.old.items ++ error_in format e) }
 {
-    match form {
-        Form::Text => put_error_line(out, e),
-        Form::Json => put_error_object(out, e),
+    match format {
+        OutputFormat::Text => put_error_line(out, e),
+        OutputFormat::Json => {
+            put_mark(out)?;
+            put_error_object(out, e)
+        }
     }
 }
 
 /// The same; out of memory, and a source that failed, are passed on.
-pub fn put_refused_in(out: &mut Vec<u8>, form: Form, e: Error) -> Result<(), Stop>
-    ensures text { OnOk result ((e ≢ Error.OutOfMemory) × (e ≢ Error.IoError) × (out.new.items ≡ out.old.items ++ error_in form e)) }
+pub fn put_refused_in(out: &mut Vec<u8>, format: OutputFormat, e: Error) -> Result<(), Stop>
+    ensures text { OnOk result ((e ≢ Error.OutOfMemory) × (e ≢ Error.IoError) × (out.new.items ≡ out.old.items ++ error_in format e)) }
     ensures unwritten { IfErr result (StopsComposing (e ≡ Error.IoError)) }
 {
     match e {
         Error::OutOfMemory => Err(Stop::Memory),
         Error::IoError => Err(Stop::Read),
-        e => Ok(put_error_in(out, form, e)?),
+        e => Ok(put_error_in(out, format, e)?),
     }
 }
 
@@ -106,11 +109,11 @@ fn put_none_object(out: &mut Vec<u8>) -> Result<(), AllocError>
 }
 
 /// The line of what isn't there, outside modules.
-pub fn put_none_in(out: &mut Vec<u8>, form: Form) -> Result<(), AllocError>
-    ensures { OnOk result (out.new.items ≡ out.old.items ++ none_in form) }
+pub fn put_none_in(out: &mut Vec<u8>, format: OutputFormat) -> Result<(), AllocError>
+    ensures { OnOk result (out.new.items ≡ out.old.items ++ none_in format) }
 {
-    match form {
-        Form::Text => out.extend_from_slice(b"none\n"),
-        Form::Json => put_none_object(out),
+    match format {
+        OutputFormat::Text => out.extend_from_slice(b"none\n"),
+        OutputFormat::Json => put_none_object(out),
     }
 }

@@ -5,18 +5,22 @@ ghost use Rattle.tool_output.specs.Stops.{status_of, status_of_stop};
 
 use crate::stop::Stop;
 use pdb_text::WriteFailed;
+use tool_arguments::mistakes::{Mistake, TaskError};
+use tool_arguments::options::ValueAt;
 
 /// Why the program failed.
 #[derive(Clone, Copy, Debug, PartialEq, Eq)]
 pub enum Fault {
-    /// The argument of this index is wrong; the number of arguments where one is missing.
-    BadWord(usize),
+    /// An argument is wrong.
+    Mistaken(Mistake),
     /// The argument of this index isn't UTF-8.
     NotText(usize),
     /// Standard input, which is to be read, is closed.
     NoInput,
     /// A command stopped over the file that the argument of this index names.
     Stopped(Stop, usize),
+    /// The image that the value of an option names can't be used.
+    Image(Stop, ValueAt),
     /// A file isn't the wanted one, and that was said.
     OtherKey,
 }
@@ -38,6 +42,19 @@ impl From<WriteFailed> for Fault {
     }
 }
 
+impl From<TaskError> for Fault {
+    ghost use Rattle.tool_output.specs.Faults.{fault_of_task};
+
+    ghost from_gives = { λ e f. f ≡ fault_of_task e };
+
+    fn from(e: TaskError) -> Fault {
+        match e {
+            TaskError::Mistake(mistake) => Fault::Mistaken(mistake),
+            TaskError::OutOfMemory => Fault::Stopped(Stop::Memory, 0),
+        }
+    }
+}
+
 /// The exit status of a command that stopped.
 fn status_of_stop(stop: Stop) -> u8
     ensures { result ≡ status_of_stop stop }
@@ -55,9 +72,9 @@ pub fn status_of(fault: Fault) -> u8
     ensures { result ≡ status_of fault }
 {
     match fault {
-        Fault::BadWord(_) | Fault::NotText(_) => 2,
+        Fault::Mistaken(_) | Fault::NotText(_) => 2,
         Fault::NoInput => 3,
-        Fault::Stopped(stop, _) => status_of_stop(stop),
+        Fault::Stopped(stop, _) | Fault::Image(stop, _) => status_of_stop(stop),
         Fault::OtherKey => 7,
     }
 }

@@ -1,12 +1,11 @@
-//! The lines of errors of a module, in the form of the output.
+//! The lines of errors of a module, in the format of the output.
 
-ghost use Rattle.std.specs.Prelude.{◌≡◌, ◌≢◌, ◌∷◌, ◌++◌, codes, OnOk, IfErr};
+ghost use Rattle.std.specs.Prelude.{◌≡◌, ◌≢◌, ◌++◌, OnOk, IfErr};
 ghost use Rattle.json.specs.Tree.{json_tokens};
 ghost use Rattle.pdb.specs.Error.{Error};
 ghost use Rattle.tool_output.specs.ErrorObjects.{error_of, error_value, none_of, none_value};
 ghost use Rattle.tool_output.specs.Objects.{Adds, json_line, number_value};
 ghost use Rattle.tool_output.specs.Stops.{StopsComposing};
-ghost use Rattle.tool_output.specs.declared.stop.Stop.{Stop};
 
 use crate::error_line::put_error_line;
 use crate::error_objects::{put_error_members, put_none_members};
@@ -15,7 +14,8 @@ use crate::stop::Stop;
 use json::Writer;
 use pdb::Error;
 use std::alloc::{AllocError, Global};
-use tool_arguments::options::Form;
+use tool_arguments::options::OutputFormat;
+use tool_printing::put_mark;
 
 /// The object of an error of module `k`.
 fn put_error_value(alloc: Global, writer: &mut Writer, k: u64, e: Error) -> Result<(), AllocError>
@@ -37,34 +37,47 @@ fn put_error_object(out: &mut Vec<u8>, k: u64, e: Error) -> Result<(), AllocErro
 }
 
 /// The line of an error of module `k`.
-pub fn put_error_of(out: &mut Vec<u8>, form: Form, k: u64, e: Error) -> Result<(), AllocError>
-    ensures { OnOk result (out.new.items ≡ out.old.items ++ error_of form k e) }
+pub fn put_error_of(
+    out: &mut Vec<u8>,
+    format: OutputFormat,
+    k: u64,
+    e: Error,
+) -> Result<(), AllocError>
+    ensures { OnOk result (out.new.items ≡ out.old.items ++ error_of format k e) }
 {
-    match form {
-        Form::Text => put_error_line(out, e),
-        Form::Json => put_error_object(out, k, e),
+    match format {
+        OutputFormat::Text => put_error_line(out, e),
+        OutputFormat::Json => {
+            put_mark(out)?;
+            put_error_object(out, k, e)
+        }
     }
 }
 
 /// The same of the error of a call that reads the file; out of memory is passed on.
-pub fn put_refusal_of(out: &mut Vec<u8>, form: Form, k: u64, e: Error) -> Result<(), AllocError>
-    ensures { OnOk result ((e ≢ Error.OutOfMemory) × (out.new.items ≡ out.old.items ++ error_of form k e)) }
+pub fn put_refusal_of(
+    out: &mut Vec<u8>,
+    format: OutputFormat,
+    k: u64,
+    e: Error,
+) -> Result<(), AllocError>
+    ensures { OnOk result ((e ≢ Error.OutOfMemory) × (out.new.items ≡ out.old.items ++ error_of format k e)) }
 {
     match e {
         Error::OutOfMemory => Err(AllocError),
-        e => put_error_of(out, form, k, e),
+        e => put_error_of(out, format, k, e),
     }
 }
 
 /// The same; out of memory, and a source that failed, are passed on.
-pub fn put_refused_of(out: &mut Vec<u8>, form: Form, k: u64, e: Error) -> Result<(), Stop>
-    ensures text { OnOk result ((e ≢ Error.OutOfMemory) × (e ≢ Error.IoError) × (out.new.items ≡ out.old.items ++ error_of form k e)) }
+pub fn put_refused_of(out: &mut Vec<u8>, format: OutputFormat, k: u64, e: Error) -> Result<(), Stop>
+    ensures text { OnOk result ((e ≢ Error.OutOfMemory) × (e ≢ Error.IoError) × (out.new.items ≡ out.old.items ++ error_of format k e)) }
     ensures unwritten { IfErr result (StopsComposing (e ≡ Error.IoError)) }
 {
     match e {
         Error::OutOfMemory => Err(Stop::Memory),
         Error::IoError => Err(Stop::Read),
-        e => Ok(put_error_of(out, form, k, e)?),
+        e => Ok(put_error_of(out, format, k, e)?),
     }
 }
 
@@ -87,11 +100,11 @@ fn put_none_object(out: &mut Vec<u8>, k: u64) -> Result<(), AllocError>
 }
 
 /// The line of a module `k` that isn't there.
-pub fn put_none_of(out: &mut Vec<u8>, form: Form, k: u64) -> Result<(), AllocError>
-    ensures { OnOk result (out.new.items ≡ out.old.items ++ none_of form k) }
+pub fn put_none_of(out: &mut Vec<u8>, format: OutputFormat, k: u64) -> Result<(), AllocError>
+    ensures { OnOk result (out.new.items ≡ out.old.items ++ none_of format k) }
 {
-    match form {
-        Form::Text => out.extend_from_slice(b"none\n"),
-        Form::Json => put_none_object(out, k),
+    match format {
+        OutputFormat::Text => out.extend_from_slice(b"none\n"),
+        OutputFormat::Json => put_none_object(out, k),
     }
 }

@@ -1,12 +1,10 @@
 //! JSON values, one a line.
 
 ghost use Rattle.std.specs.Prelude.{◌≡◌, ◌∷◌, ◌++◌, [], codes, OnOk};
-ghost use Rattle.std.specs.Fmt.{decimal};
 ghost use Rattle.json.specs.Json.{member, no_members, null};
 ghost use Rattle.json.specs.Print.{print};
 ghost use Rattle.json.specs.Token.{begin_object, key, number, string};
 ghost use Rattle.json.specs.Tree.{json_tokens, members_tokens};
-ghost use Rattle.pdb.specs.Text.{lossy_text};
 ghost use Rattle.tool_output.specs.Objects.{Adds, known_value, number_value, text_value};
 
 use bstr::ByteSlice;

@@ -1,6 +1,6 @@
 //! A source's file, opened.
 
-ghost use Rattle.std.specs.Prelude.{◌≡◌, true, false, Ok, Err, IfOk, IfErr, IsErrOf, OnOk};
+ghost use Rattle.std.specs.Prelude.{◌≡◌, true, false, Ok, Err, IfOk, IfErr, IsErrOf};
 ghost use Rattle.pdb.specs.Container.{opens};
 ghost use Rattle.pdb.specs.Error.{Error};
 ghost use Rattle.pdb.specs.Source.{Continues, IsKnown};

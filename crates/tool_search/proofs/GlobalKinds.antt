@@ -27,7 +27,7 @@ abbrev found_in : {F : Type 0} → List (List ℕ × F) → ℕ → Option F
 found_in [] kind = None
 found_in ((kinds, f) ∷ rows) kind = cond (is_in kinds kind) (Some f) (found_in rows kind)
 
--- records of the form say none that has a line
+-- records of the format say none that has a line
 abbrev NeverTold : Laid → Type 0
 NeverTold l = (kind : ℕ) (s : l.Parts) → HasLine (l.says kind s) → ⊥
 

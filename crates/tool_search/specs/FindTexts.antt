@@ -31,8 +31,8 @@ use Rattle.tool_output.specs.Absent.{if_there, there_in}
 use Rattle.tool_output.specs.ErrorObjects.{fault_in, fault_of, list_fault_of, told_in, told_of}
 use Rattle.tool_search.specs.FoundObjects.{found_value}
 use Rattle.tool_output.specs.Objects.{json_line}
-use Rattle.tool_arguments.specs.declared.options.Form.{Form}
-use Rattle.tool_arguments.specs.declared.options.Form.TheVariants.{Text, Json as Objects}
+use Rattle.tool_arguments.specs.declared.options.OutputFormat.{OutputFormat}
+use Rattle.tool_arguments.specs.declared.options.OutputFormat.TheVariants.{Text, Json as Objects}
 use Rattle.tool_fields.specs.Values.{address_text, optional_text, place_text}
 use Rattle.tool_arguments.specs.Wildcards.{matches}
 
@@ -45,9 +45,9 @@ is_asked words (b ∷ name) = list_any (λ word. matches word (b ∷ name)) word
 
 -- ---- lines
 
--- the form of the lines, and what names and addresses are read from: the patterns, ids, types, and the address map
+-- the format of the lines, and what names and addresses are read from: the patterns, ids, types, and the address map
 pub record Finding : Type 0 where
-  pub form : Form
+  pub format : OutputFormat
   pub words : List (List ℕ)
   pub ids : List ItemEntry
   pub types : List ItemEntry
@@ -60,14 +60,14 @@ stretch_text addresses q length = place_text q ++ codes " " ++ address_text (add
 unfoldable pub found_line : List ℕ → Option Addresses → PdbInternalSectionOffset → Option ℕ → List ℕ → List ℕ
 found_line kind addresses q length name = kind ++ codes " " ++ stretch_text addresses q length ++ codes " " ++ one_line name ++ codes "\n"
 
--- the same in a form
-abbrev pub found_in : Form → List ℕ → Option Addresses → PdbInternalSectionOffset → Option ℕ → List ℕ → List ℕ
+-- the same in a format
+abbrev pub found_in : OutputFormat → List ℕ → Option Addresses → PdbInternalSectionOffset → Option ℕ → List ℕ → List ℕ
 found_in Text kind addresses q length name = found_line kind addresses q length name
 found_in Objects kind addresses q length name = json_line (found_value kind addresses q length name)
 
 -- it stands where the name is asked for
 abbrev pub line_if_asked : List ℕ → Finding → PdbInternalSectionOffset → Option ℕ → List ℕ → List ℕ
-line_if_asked kind f q length name = if is_asked f.words name then found_in f.form kind f.addresses q length name else []
+line_if_asked kind f q length name = if is_asked f.words name then found_in f.format kind f.addresses q length name else []
 
 -- ---- global symbols
 
@@ -77,7 +77,7 @@ public_name name spells = if bytes_eq spells name then name else spells ++ codes
 
 -- a public symbol is asked for by both names
 unfoldable pub public_line : Finding → PdbInternalSectionOffset → List ℕ → List ℕ → List ℕ
-public_line f q name spells = if is_asked f.words spells || is_asked f.words name then found_in f.form (codes "public") f.addresses q None (public_name name spells) else []
+public_line f q name spells = if is_asked f.words spells || is_asked f.words name then found_in f.format (codes "public") f.addresses q None (public_name name spells) else []
 
 abbrev pub global_line : Bool → Finding → Result Data Error → List ℕ
 global_line x86 f (Ok (Public code function managed msil offset name)) = public_line f offset name (text_of name (spelled name x86))
@@ -92,7 +92,7 @@ global_kinds =
     ∷ 0x1009 ∷ 0x1007 ∷ 0x1008 ∷ 0x1020 ∷ 0x1021 ∷ 0x100e ∷ 0x100f ∷ []
 
 abbrev pub global_lines : Bool → Finding → Left Entry → List ℕ
-global_lines x86 f left = flat_map (λ s. global_line x86 f (record_at s.bytes)) left.items ++ fault_in f.form left.fault
+global_lines x86 f left = flat_map (λ s. global_line x86 f (record_at s.bytes)) left.items ++ fault_in f.format left.fault
 
 -- ---- the symbols of a module
 
@@ -141,10 +141,10 @@ symbol_lines f names known c (s ∷ ss) = symbol_line f names known c s.index (r
 
 -- of module k
 abbrev pub symbols_left_text : Finding → ℕ → (ℕ → Option Qualified) → (ℕ → Option InlineeEntry) → Option Parent → Left Entry → List ℕ
-symbols_left_text f k names known c left = symbol_lines f names known c left.items ++ fault_of f.form k left.fault
+symbols_left_text f k names known c left = symbol_lines f names known c left.items ++ fault_of f.format k left.fault
 
 unfoldable pub find_text : Finding → ℕ → (ℕ → Option Qualified) → ModuleBytes → List ℕ
-find_text f k names m = told_of f.form k (symbols_of m) (λ left. symbols_left_text f k names (inlinee_with (inlinees_in m)) None left ++ list_fault_of f.form k (inlinees_of m))
+find_text f k names m = told_of f.format k (symbols_of m) (λ left. symbols_left_text f k names (inlinee_with (inlinees_in m)) None left ++ list_fault_of f.format k (inlinees_of m))
 
 -- of module k of a file
 abbrev pub find_in : Finding → List ℕ → ℕ → ModuleBytes → List ℕ
@@ -152,8 +152,8 @@ find_in f file k m = find_text f k (call_name f.ids f.types file m) m
 
 -- ---- the command
 
-abbrev pub finding_in : Form → List ℕ → List (List ℕ) → Finding
-finding_in form file words = record { form = form; words = words; ids = items_listed file 4; types = items_listed file 2; addresses = if_read (address_map_in file) }
+abbrev pub finding_in : OutputFormat → List ℕ → List (List ℕ) → Finding
+finding_in format file words = record { format = format; words = words; ids = items_listed file 4; types = items_listed file 2; addresses = if_read (address_map_in file) }
 
 -- the image is for x86, by the header of the DBI stream
 abbrev pub x86_in : List ℕ → Bool
@@ -161,4 +161,4 @@ x86_in file = x86_by (if_read (debug_information_in file))
 
 -- those of the global symbols
 abbrev pub globals_found : List ℕ → Finding → List ℕ
-globals_found file f = if_there file 3 (there_in f.form (global_symbols_in file) (λ b. global_lines (x86_in file) f (symbols_from b 0)))
+globals_found file f = if_there file 3 (there_in f.format (global_symbols_in file) (λ b. global_lines (x86_in file) f (symbols_from b 0)))

@@ -10,8 +10,8 @@ use Rattle.pdb_resolve.specs.Frames.{file_text, string_in}
 use Rattle.tool_output.specs.ErrorObjects.{fault_of, told_of}
 use Rattle.tool_search.specs.FrameObjects.{file_value}
 use Rattle.tool_output.specs.Objects.{json_line, number_value, text_value}
-use Rattle.tool_arguments.specs.declared.options.Form.{Form}
-use Rattle.tool_arguments.specs.declared.options.Form.TheVariants.{Text, Json as Objects}
+use Rattle.tool_arguments.specs.declared.options.OutputFormat.{OutputFormat}
+use Rattle.tool_arguments.specs.declared.options.OutputFormat.TheVariants.{Text, Json as Objects}
 
 -- the bytes of a digest in hex digits; `-` where there are none
 abbrev pub digest_text : List ℕ → List ℕ
@@ -61,15 +61,15 @@ checksum_members kind digest name = member (codes "checksum") (text_value kind) 
 abbrev pub source_value : ℕ → List ℕ → List ℕ → Option (List ℕ) → Json
 source_value k kind digest name = object (member (codes "module") (number_value k) (checksum_members kind digest name))
 
--- ---- in a form
+-- ---- in a format
 
-abbrev pub source_in : Form → ℕ → Option (List ℕ) → FileOf → List ℕ
+abbrev pub source_in : OutputFormat → ℕ → Option (List ℕ) → FileOf → List ℕ
 source_in Text k strings f = source_line strings f
 source_in Objects k strings f = json_line (source_value k (kind_of f.checksum) (digest_of f.checksum) (string_in strings f.name))
 
 -- the lines of the files of module k, and then that of their fault
-abbrev pub source_lines : Form → ℕ → Option (List ℕ) → Left FileOf → List ℕ
-source_lines form k strings left = flat_map (source_in form k strings) left.items ++ fault_of form k left.fault
+abbrev pub source_lines : OutputFormat → ℕ → Option (List ℕ) → Left FileOf → List ℕ
+source_lines format k strings left = flat_map (source_in format k strings) left.items ++ fault_of format k left.fault
 
-unfoldable pub sources_text : Form → ℕ → Option (List ℕ) → ModuleBytes → List ℕ
-sources_text form k strings m = told_of form k (line_program_of m) (λ program. source_lines form k strings (files_of program.checksums))
+unfoldable pub sources_text : OutputFormat → ℕ → Option (List ℕ) → ModuleBytes → List ℕ
+sources_text format k strings m = told_of format k (line_program_of m) (λ program. source_lines format k strings (files_of program.checksums))

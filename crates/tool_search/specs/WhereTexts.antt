@@ -28,12 +28,12 @@ use Rattle.tool_search.specs.FindTexts.{Parent, has_bytes, parent_said, site_rec
 use Rattle.tool_search.specs.FoundObjects.{where_value}
 use Rattle.tool_output.specs.Objects.{json_line}
 use Rattle.tool_arguments.specs.SourcesAsked.{SourceOf, asks_for}
-use Rattle.tool_arguments.specs.declared.options.Form.{Form}
-use Rattle.tool_arguments.specs.declared.options.Form.TheVariants.{Text, Json as Objects}
+use Rattle.tool_arguments.specs.declared.options.OutputFormat.{OutputFormat}
+use Rattle.tool_arguments.specs.declared.options.OutputFormat.TheVariants.{Text, Json as Objects}
 
--- the form of the lines, what is asked for, and what names and addresses are read from
+-- the format of the lines, what is asked for, and what names and addresses are read from
 pub record Asking : Type 0 where
-  pub form : Form
+  pub format : OutputFormat
   pub asked : List SourceOf
   pub strings : Option (List ℕ)
   pub ids : List ItemEntry
@@ -47,8 +47,8 @@ position_text file r = file_text file ++ codes ":" ++ decimal r.line_start ++ co
 unfoldable pub where_line : List ℕ → Option Addresses → LineInfo → Option (List ℕ) → Option Qualified → List ℕ
 where_line kind addresses r file name = kind ++ codes " " ++ stretch_text addresses r.offset r.length ++ codes " " ++ position_text file r ++ codes " " ++ name_text name ++ codes "\n"
 
--- the same in a form
-abbrev pub where_line_in : Form → List ℕ → Option Addresses → LineInfo → Option (List ℕ) → Option Qualified → List ℕ
+-- the same in a format
+abbrev pub where_line_in : OutputFormat → List ℕ → Option Addresses → LineInfo → Option (List ℕ) → Option Qualified → List ℕ
 where_line_in Text kind addresses r file name = where_line kind addresses r file name
 where_line_in Objects kind addresses r file name = json_line (where_value kind addresses r file name)
 
@@ -69,19 +69,19 @@ is_wanted a program r = has_bytes r && asks_for_file a.asked (file_of_record a p
 
 abbrev pub record_text : Asking → ModuleBytes → ProgramOf → LineInfo → List ℕ
 record_text a m program r =
-    if is_wanted a (Some program) r then where_line_in a.form (codes "line") a.addresses r (file_of_record a (Some program) r) (option_map plain (name_at r.offset m)) else []
+    if is_wanted a (Some program) r then where_line_in a.format (codes "line") a.addresses r (file_of_record a (Some program) r) (option_map plain (name_at r.offset m)) else []
 
 -- of module k
 abbrev pub records_text : Asking → ℕ → ModuleBytes → ProgramOf → Left LineInfo → List ℕ
-records_text a k m program left = flat_map (record_text a m program) left.items ++ fault_of a.form k left.fault
+records_text a k m program left = flat_map (record_text a m program) left.items ++ fault_of a.format k left.fault
 
 unfoldable pub lines_text : Asking → ℕ → ModuleBytes → List ℕ
-lines_text a k m = told_of a.form k (line_program_of m) (λ program. records_text a k m program (lines_of program.subsections))
+lines_text a k m = told_of a.format k (line_program_of m) (λ program. records_text a k m program (lines_of program.subsections))
 
 -- ---- records of inlined calls; names has the name of an inlined function by the id of its call
 
 abbrev pub call_text : Asking → Option ProgramOf → Option Qualified → LineInfo → List ℕ
-call_text a program name r = if is_wanted a program r then where_line_in a.form (codes "inlined") a.addresses r (file_of_record a program r) name else []
+call_text a program name r = if is_wanted a program r then where_line_in a.format (codes "inlined") a.addresses r (file_of_record a program r) name else []
 
 abbrev pub site_text : Asking → Option ProgramOf → (ℕ → Option Qualified) → (ℕ → Option InlineeEntry) → Option Parent → ℕ → Result Data Error → List ℕ
 site_text a program names known c index (Ok (InlineSite s)) = flat_map (call_text a program (names s.inlinee.0)) (site_records known c index s.inlinee.0 s.annotations)
@@ -94,11 +94,11 @@ sites_text a program names known c (s ∷ ss) = site_text a program names known 
 
 -- of module k
 abbrev pub sites_left_text : Asking → ℕ → Option ProgramOf → (ℕ → Option Qualified) → (ℕ → Option InlineeEntry) → Option Parent → Left Entry → List ℕ
-sites_left_text a k program names known c left = sites_text a program names known c left.items ++ fault_of a.form k left.fault
+sites_left_text a k program names known c left = sites_text a program names known c left.items ++ fault_of a.format k left.fault
 
 unfoldable pub calls_text : Asking → ℕ → (ℕ → Option Qualified) → ModuleBytes → List ℕ
 calls_text a k names m =
-    told_of a.form k (symbols_of m) (λ left. sites_left_text a k (program_in m) names (inlinee_with (inlinees_in m)) None left ++ list_fault_of a.form k (inlinees_of m))
+    told_of a.format k (symbols_of m) (λ left. sites_left_text a k (program_in m) names (inlinee_with (inlinees_in m)) None left ++ list_fault_of a.format k (inlinees_of m))
 
 -- ---- the command
 
@@ -109,5 +109,5 @@ where_text a k names m = lines_text a k m ++ calls_text a k names m
 abbrev pub where_in : Asking → List ℕ → ℕ → ModuleBytes → List ℕ
 where_in a file k m = where_text a k (call_name a.ids a.types file m) m
 
-abbrev pub asking_in : Form → List ℕ → List SourceOf → Asking
-asking_in form file asked = record { form = form; asked = asked; strings = if_read (string_table_in file); ids = items_listed file 4; types = items_listed file 2; addresses = if_read (address_map_in file) }
+abbrev pub asking_in : OutputFormat → List ℕ → List SourceOf → Asking
+asking_in format file asked = record { format = format; asked = asked; strings = if_read (string_table_in file); ids = items_listed file 4; types = items_listed file 2; addresses = if_read (address_map_in file) }

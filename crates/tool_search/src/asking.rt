@@ -22,14 +22,14 @@ use pdb_resolve::{ModuleCode, PlaceAddresses, put_file, put_name};
 use pdb_text::{put_decimal, put_line_end};
 use std::alloc::{AllocError, Global};
 use std::marker::Model;
-use tool_arguments::options::Form;
+use tool_arguments::options::OutputFormat;
 use tool_arguments::sources_asked::{SourceAsked, asks_for};
 
-/// The form of the lines, which lines are asked for, the tables that files and inlined functions have their names from,
+/// The format of the lines, which lines are asked for, the tables that files and inlined functions have their names from,
 /// and the addresses of places.
 #[derive(Drop)]
 pub struct Asking<'w, 'a> {
-    pub form: Form,
+    pub format: OutputFormat,
     asked: &'w [SourceAsked<'w>],
     strings: Option<&'a StringTable<'a>>,
     pub ids: ItemFinder<'a>,
@@ -44,23 +44,23 @@ impl<'w, 'a> Model for Asking<'w, 'a> {
 
     ghost Value = { AskingOf };
 
-    ghost view = { λ a. record { form = a.form; asked = map source_view a.asked.now; strings = option_copied a.strings; ids = a.ids; types = a.types; addresses = a.addresses } };
+    ghost view = { λ a. record { format = a.format; asked = map source_view a.asked.now; strings = option_copied a.strings; ids = a.ids; types = a.types; addresses = a.addresses } };
 }
 
 impl<'w, 'a> Asking<'w, 'a> {
     /// What is asked for by these words.
     pub fn new(
-        form: Form,
+        format: OutputFormat,
         asked: &'w [SourceAsked<'w>],
         strings: Option<&'a StringTable<'a>>,
         ids: ItemFinder<'a>,
         types: ItemFinder<'a>,
         addresses: PlaceAddresses<'a>,
     ) -> Self
-        ensures { result ≡ record { form = form; asked = map source_view asked.entry.now; strings = option_copied strings.entry; ids = ids.entry; types = types.entry; addresses = addresses.entry } }
+        ensures { result ≡ record { format = format; asked = map source_view asked.entry.now; strings = option_copied strings.entry; ids = ids.entry; types = types.entry; addresses = addresses.entry } }
     {
         Asking {
-            form,
+            format,
             asked,
             strings,
             ids,
@@ -114,7 +114,7 @@ impl<'w, 'a> Asking<'w, 'a> {
         put_line_end(out)
     }
 
-    /// The same in the form of the lines.
+    /// The same in the format of the lines.
     pub fn put_where(
         &self,
         out: &mut Vec<u8>,
@@ -123,11 +123,11 @@ impl<'w, 'a> Asking<'w, 'a> {
         file: Option<RawString<'_>>,
         name: Option<QualifiedName<'_>>,
     ) -> Result<(), AllocError>
-        ensures { OnOk result (out.new.items ≡ out.old.items ++ where_line_in self.now.form kind.now self.now.addresses line.now (option_map name_bytes file.entry) (option_map shown_qualified name.entry)) }
+        ensures { OnOk result (out.new.items ≡ out.old.items ++ where_line_in self.now.format kind.now self.now.addresses line.now (option_map name_bytes file.entry) (option_map shown_qualified name.entry)) }
     {
-        match self.form {
-            Form::Text => self.put_where_line(out, kind, line, file, name),
-            Form::Json => put_where_object(out, kind, &self.addresses, line, file, name),
+        match self.format {
+            OutputFormat::Text => self.put_where_line(out, kind, line, file, name),
+            OutputFormat::Json => put_where_object(out, kind, &self.addresses, line, file, name),
         }
     }
 }

@@ -170,7 +170,7 @@ fn put_globals_left(
         match symbols.next() {
             Ok(Some(symbol)) => put_global(alloc, out, finder, x86, &symbol, &mut spells)?,
             Ok(None) => return Ok(()),
-            Err(e) => return put_error_in(out, finder.form, e),
+            Err(e) => return put_error_in(out, finder.format, e),
         }
     }
 }
@@ -398,7 +398,7 @@ fn put_symbols<'a>(
                 )?;
             }
             Ok(None) => return Ok(()),
-            Err(e) => return put_error_of(out, finder.form, k, e),
+            Err(e) => return put_error_of(out, finder.format, k, e),
         }
     }
 }
@@ -419,10 +419,10 @@ pub fn put_found_symbols(
         Ok(symbols) => match read_known(alloc, info) {
             Ok(known) => {
                 put_symbols(alloc, out, finder, k, names, &known, symbols)?;
-                put_inlined_error(out, finder.form, k, info)
+                put_inlined_error(out, finder.format, k, info)
             }
             Err(_) => Err(AllocError),
         },
-        Err(e) => put_refusal_of(out, finder.form, k, e),
+        Err(e) => put_refusal_of(out, finder.format, k, e),
     }
 }

@@ -19,15 +19,15 @@ use pdb_text::{put_decimal, put_line_end, put_one_line};
 use std::alloc::AllocError;
 use std::marker::Model;
 use tool_arguments::operands::Operand;
-use tool_arguments::options::Form;
+use tool_arguments::options::OutputFormat;
 use tool_arguments::wildcards::matches;
 use tool_fields::values::{bare_place_field, place_field, put_address, put_optional, put_place};
 
-/// The form of the lines, the patterns of the names that are asked for, the tables that inlined functions have their
+/// The format of the lines, the patterns of the names that are asked for, the tables that inlined functions have their
 /// names from, and the addresses of places.
 #[derive(Drop)]
 pub struct Finder<'w, 'a> {
-    pub form: Form,
+    pub format: OutputFormat,
     words: &'w [Operand<'w>],
     pub ids: ItemFinder<'a>,
     pub types: ItemFinder<'a>,
@@ -41,7 +41,7 @@ impl<'w, 'a> Model for Finder<'w, 'a> {
 
     ghost Value = { Finding };
 
-    ghost view = { λ f. record { form = f.form; words = map word_of f.words.now; ids = f.ids; types = f.types; addresses = f.addresses } };
+    ghost view = { λ f. record { format = f.format; words = map word_of f.words.now; ids = f.ids; types = f.types; addresses = f.addresses } };
 }
 
 impl<'w, 'a> Finder<'w, 'a> {
@@ -49,16 +49,16 @@ impl<'w, 'a> Finder<'w, 'a> {
 
     /// What is asked for by these words.
     pub fn new(
-        form: Form,
+        format: OutputFormat,
         words: &'w [Operand<'w>],
         ids: ItemFinder<'a>,
         types: ItemFinder<'a>,
         addresses: PlaceAddresses<'a>,
     ) -> Self
-        ensures { result ≡ record { form = form; words = map word_of words.entry.now; ids = ids.entry; types = types.entry; addresses = addresses.entry } }
+        ensures { result ≡ record { format = format; words = map word_of words.entry.now; ids = ids.entry; types = types.entry; addresses = addresses.entry } }
     {
         Finder {
-            form,
+            format,
             words,
             ids,
             types,
@@ -110,7 +110,7 @@ impl<'w, 'a> Finder<'w, 'a> {
         self.put_behind_kind(out, place, length, name)
     }
 
-    /// The same in the form of the lines.
+    /// The same in the format of the lines.
     #[inline(always)]
     pub fn put_found(
         &self,
@@ -120,11 +120,11 @@ impl<'w, 'a> Finder<'w, 'a> {
         length: Option<u32>,
         name: &[u8],
     ) -> Result<(), AllocError>
-        ensures { OnOk result (out.new.items ≡ out.old.items ++ found_in self.now.form kind.now self.now.addresses place length name.now) }
+        ensures { OnOk result (out.new.items ≡ out.old.items ++ found_in self.now.format kind.now self.now.addresses place length name.now) }
     {
-        match self.form {
-            Form::Text => self.put_found_line(out, kind, place, length, name),
-            Form::Json => put_found_object(out, kind, &self.addresses, place, length, name),
+        match self.format {
+            OutputFormat::Text => self.put_found_line(out, kind, place, length, name),
+            OutputFormat::Json => put_found_object(out, kind, &self.addresses, place, length, name),
         }
     }
 

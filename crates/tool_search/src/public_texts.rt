@@ -17,7 +17,7 @@ fn put_public_found(
     name: &[u8],
     spells: &mut Vec<u8>,
 ) -> Result<(), AllocError>
-    ensures { OnOk result (out.new.items ≡ out.old.items ++ found_in finder.now.form (codes "public") finder.now.addresses place None (public_name name.now spells.old.items)) }
+    ensures { OnOk result (out.new.items ≡ out.old.items ++ found_in finder.now.format (codes "public") finder.now.addresses place None (public_name name.now spells.old.items)) }
 {
     if spells.as_slice() == name {
         return finder.put_found(out, b"public", place, None, name);

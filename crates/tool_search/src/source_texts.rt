@@ -16,7 +16,7 @@ use pdb::{
 };
 use pdb_text::{put_hex_bytes, put_line_end};
 use std::alloc::{AllocError, Global};
-use tool_arguments::options::Form;
+use tool_arguments::options::OutputFormat;
 use tool_output::module_errors::{put_error_of, put_refusal_of};
 
 /// The kind of a checksum, and a digest in hex digits, or `-` where it is empty.
@@ -64,37 +64,42 @@ fn put_source(
     put_line_end(out)
 }
 
-/// The line of a file of module `k`, in a form.
+/// The line of a file of module `k`, in a format.
 fn put_source_in(
     out: &mut Vec<u8>,
-    form: Form,
+    format: OutputFormat,
     k: u64,
     strings: Option<&StringTable<'_>>,
     file: &FileInfo<'_>,
 ) -> Result<(), AllocError>
-    ensures { OnOk result (out.new.items ≡ out.old.items ++ source_in form k (option_copied strings.entry) (shown_file file.now)) }
+    ensures { OnOk result (out.new.items ≡ out.old.items ++ source_in format k (option_copied strings.entry) (shown_file file.now)) }
 {
-    match form {
-        Form::Text => put_source(out, strings, file),
-        Form::Json => put_source_object(out, k, &file.checksum, string_in(strings, file.name)),
+    match format {
+        OutputFormat::Text => put_source(out, strings, file),
+        OutputFormat::Json => put_source_object(
+            out,
+            k,
+            &file.checksum,
+            string_in(strings, file.name),
+        ),
     }
 }
 
 /// The lines of the files of module `k` that an iterator has left, and then that of its fault.
 fn put_list(
     out: &mut Vec<u8>,
-    form: Form,
+    format: OutputFormat,
     k: u64,
     strings: Option<&StringTable<'_>>,
     mut files: FileIterator<'_>,
 ) -> Result<(), AllocError>
-    ensures { OnOk result (out.new.items ≡ out.old.items ++ source_lines form k (option_copied strings.entry) (files_left files.entry)) }
+    ensures { OnOk result (out.new.items ≡ out.old.items ++ source_lines format k (option_copied strings.entry) (files_left files.entry)) }
 {
     loop {
         match files.next() {
-            Ok(Some(file)) => put_source_in(out, form, k, strings, &file)?,
+            Ok(Some(file)) => put_source_in(out, format, k, strings, &file)?,
             Ok(None) => return Ok(()),
-            Err(e) => return put_error_of(out, form, k, e),
+            Err(e) => return put_error_of(out, format, k, e),
         }
     }
 }
@@ -104,15 +109,15 @@ fn put_list(
 pub fn put_sources(
     alloc: Global,
     out: &mut Vec<u8>,
-    form: Form,
+    format: OutputFormat,
     k: u64,
     strings: Option<&StringTable<'_>>,
     info: &ModuleInfo<'_>,
 ) -> Result<(), AllocError>
-    ensures { OnOk result (out.new.items ≡ out.old.items ++ sources_text form k (option_copied strings.entry) info.now) }
+    ensures { OnOk result (out.new.items ≡ out.old.items ++ sources_text format k (option_copied strings.entry) info.now) }
 {
     match info.line_program(alloc) {
-        Ok(program) => put_list(out, form, k, strings, program.files()),
-        Err(e) => put_refusal_of(out, form, k, e),
+        Ok(program) => put_list(out, format, k, strings, program.files()),
+        Err(e) => put_refusal_of(out, format, k, e),
     }
 }

@@ -67,7 +67,7 @@ fn put_records<'a>(
         match lines.next() {
             Ok(Some(line)) => put_record(alloc, out, asking, functions, program, &line)?,
             Ok(None) => return Ok(()),
-            Err(e) => return put_error_of(out, asking.form, k, e),
+            Err(e) => return put_error_of(out, asking.format, k, e),
         }
     }
 }
@@ -194,7 +194,7 @@ fn put_symbols<'a>(
                 )?;
             }
             Ok(None) => return Ok(()),
-            Err(e) => return put_error_of(out, asking.form, k, e),
+            Err(e) => return put_error_of(out, asking.format, k, e),
         }
     }
 }
@@ -216,11 +216,11 @@ fn put_sites(
         Ok(symbols) => match read_known(alloc, info) {
             Ok(known) => {
                 put_symbols(alloc, out, asking, k, program, names, &known, symbols)?;
-                put_inlined_error(out, asking.form, k, info)
+                put_inlined_error(out, asking.format, k, info)
             }
             Err(_) => Err(AllocError),
         },
-        Err(e) => put_refusal_of(out, asking.form, k, e),
+        Err(e) => put_refusal_of(out, asking.format, k, e),
     }
 }
 
@@ -251,7 +251,7 @@ pub fn put_where<'a>(
             put_sites(alloc, out, asking, k, Some(&program), names, info)
         }
         Err(e) => {
-            put_refusal_of(out, asking.form, k, e)?;
+            put_refusal_of(out, asking.format, k, e)?;
             put_sites(alloc, out, asking, k, None, names, info)
         }
     }

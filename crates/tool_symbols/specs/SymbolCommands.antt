@@ -12,7 +12,7 @@ use Rattle.tool_symbols.specs.LineTexts.{lines_text}
 use Rattle.tool_symbols.specs.ScopeTexts.{scopes_text}
 use Rattle.tool_symbols.specs.SymbolTexts.{global_symbols_text, symbols_text}
 use Rattle.tool_fields.specs.ModuleMachines.{file_machine}
-use Rattle.tool_arguments.specs.declared.options.Form.TheVariants.{Text}
+use Rattle.tool_arguments.specs.declared.options.OutputFormat.TheVariants.{Text}
 use Rattle.tool_output.specs.ModuleTexts.{modules_text, all_text, indexed_text}
 
 -- what is outside all modules imports nothing

@@ -1,27 +1,18 @@
 //! The commands that go over a file's modules.
 
-ghost use Rattle.std.specs.Prelude.{◌≡◌, ◌++◌, [], true, false, flat_map, map, option_copied, None, Ok, Err, IfOk, IfErr, OnOk, OnErr, IsErrOf};
-ghost use Rattle.std.specs.Io.KnownBytes.{Appends};
-ghost use Rattle.pdb.specs.Container.{opens, stream_of};
-ghost use Rattle.pdb.specs.Error.{Error};
-ghost use Rattle.pdb.specs.Answers.{string_table_in};
-ghost use Rattle.pdb.specs.Source.{Continues, MayFail, IsKnown};
-ghost use Rattle.pdb_places.specs.AsIfEmpty.{if_read};
+ghost use Rattle.std.specs.Prelude.{◌≡◌, ◌++◌, true, option_copied, IfOk, IfErr, OnOk};
+ghost use Rattle.pdb.specs.Source.{Continues, MayFail};
 ghost use Rattle.pdb_resolve.specs.FileParts.{items_where};
 ghost use Rattle.pdb_resolve.specs.ImportTables.{ids_by};
-ghost use Rattle.pdb_text.specs.Written.{WroteFront};
 ghost use Rattle.pdb_types.specs.FullTypes.{definitions_among, first_definition};
-ghost use Rattle.tool_output.specs.ErrorLine.{told};
 ghost use Rattle.tool_types.specs.LineNames.{names_from};
-ghost use Rattle.tool_symbols.specs.LineTexts.{lines_text};
 ghost use Rattle.tool_types.specs.LineViews.{names_of_lines};
 ghost use Rattle.tool_symbols.specs.SymbolTexts.{global_symbols_text};
-ghost use Rattle.tool_output.specs.ModuleTexts.{in_file, modules_text, place_text};
 ghost use Rattle.tool_symbols.specs.SymbolCommands.{all_symbols_command, globals_there, globals_told, lines_command, no_imports, scopes_command, symbols_command};
 ghost use Rattle.tool_fields.specs.ModuleMachines.{file_machine};
-ghost use Rattle.tool_output.specs.Stops.{StopsCommand, StopsComposing, StopsWriting};
-ghost use Rattle.tool_output.specs.WriteFailures.{failures_after};
+ghost use Rattle.tool_output.specs.Stops.{Halts, StopsComposing};
 ghost use Rattle.tool_output.specs.declared.stop.Stop.{Stop};
+ghost use Rattle.tool_printing.specs.Printing.{Prints, shown};
 
 use crate::line_texts::put_lines;
 use crate::scope_texts::put_scopes;
@@ -32,16 +23,15 @@ use pdb::{
 };
 use pdb_records::Machine;
 use pdb_resolve::{GlobalIds, ids_of, types_of};
-use pdb_text::{CountedWrite, write_counted};
 use pdb_types::TypeDefinitions;
 use std::alloc::{AllocError, Global};
-use tool_arguments::options::Form;
-use tool_output::absent::{DEBUG_INFORMATION, lacks, write_unless_absent};
-use tool_output::file_modules::{write_all, write_indexed, write_modules};
+use tool_arguments::options::OutputFormat;
+use tool_output::absent::{DEBUG_INFORMATION, lacks, print_unless_absent};
+use tool_output::file_modules::{print_all, print_indexed, print_modules};
 use tool_output::file_streams::{ids_stream, strings_of, types_stream};
 use tool_output::module_texts::ModuleText;
-use tool_output::opening::opened;
 use tool_output::stop::{Stop, stop_of};
+use tool_printing::Printer;
 use tool_types::line_names::LineNames;
 use tool_types::type_lines::definitions_of;
 
@@ -161,27 +151,22 @@ impl<'a> ModuleText for Symbols<'a> {
     }
 }
 
-/// Writes the line records of modules of a source's file.
-#[tactic(auto, using(pdb_text::proofs::Written::any_err, tool_output::proofs::Fronts::front_none))]
-pub fn write_lines<'s, S: Source<'s>, W: CountedWrite>(
+/// Prints the line records of modules of a file.
+pub fn print_lines<'s, S: Source<'s>, P: Printer>(
     alloc: Global,
-    source: S,
+    pdb: &mut PDB<'s, S>,
     indices: &[u32],
-    out: &mut W,
+    out: &mut P,
 ) -> Result<(), Stop>
-    ensures opened { IsKnown (S.state source) → OnOk result (opens (S.state source).file ≡ Ok tt) }
-    ensures ok { IsKnown (S.state source) → OnOk result (Appends (W.contents out.old) (W.contents out.new) (lines_command (S.state source).file indices.now)) }
-    ensures refused { IsKnown (S.state source) → (e : Error) → IsErrOf result (Stop.Open e) → opens (S.state source).file ≡ Err e }
-    ensures stops { IfErr result (StopsCommand ((S.state source).steady ≡ false)) }
-    ensures failures { W.failures out.new ≡ failures_after (W.failures out.old) result }
-    ensures front { IsKnown (S.state source) → OnErr result (WroteFront (W.contents out.old) (W.contents out.new) (lines_command (S.state source).file indices.now)) }
+    ensures continues { Continues pdb.old pdb.new }
+    ensures prints { pdb.new.told ≡ true → Prints (shown (lines_command pdb.old.file indices.now)) (P.state out.old) (P.state out.new) result }
+    ensures halts { Halts (MayFail pdb.old pdb.new) (P.state out.old) (P.state out.new) result }
 {
-    let mut pdb = opened(alloc, source)?;
-    let strings = strings_of(&mut pdb)?;
+    let strings = strings_of(pdb)?;
     let lines = Lines {
         strings: strings.as_ref(),
     };
-    write_modules(alloc, &mut pdb, Form::Text, &lines, indices, out)
+    print_modules(alloc, pdb, OutputFormat::Text, &lines, indices, out)
 }
 
 /// What names are found by, from these streams of ids and types.
@@ -205,28 +190,23 @@ fn tables_by<'a>(
     })
 }
 
-/// Writes the scopes of modules of a source's file.
-#[tactic(auto, using(pdb_text::proofs::Written::any_err, tool_output::proofs::Fronts::front_none))]
-pub fn write_scopes<'s, S: Source<'s>, W: CountedWrite>(
+/// Prints the scopes of modules of a file.
+pub fn print_scopes<'s, S: Source<'s>, P: Printer>(
     alloc: Global,
-    source: S,
+    pdb: &mut PDB<'s, S>,
     indices: &[u32],
-    out: &mut W,
+    out: &mut P,
 ) -> Result<(), Stop>
-    ensures opened { IsKnown (S.state source) → OnOk result (opens (S.state source).file ≡ Ok tt) }
-    ensures ok { IsKnown (S.state source) → OnOk result (Appends (W.contents out.old) (W.contents out.new) (scopes_command (S.state source).file indices.now)) }
-    ensures refused { IsKnown (S.state source) → (e : Error) → IsErrOf result (Stop.Open e) → opens (S.state source).file ≡ Err e }
-    ensures stops { IfErr result (StopsCommand ((S.state source).steady ≡ false)) }
-    ensures failures { W.failures out.new ≡ failures_after (W.failures out.old) result }
-    ensures front { IsKnown (S.state source) → OnErr result (WroteFront (W.contents out.old) (W.contents out.new) (scopes_command (S.state source).file indices.now)) }
+    ensures continues { Continues pdb.old pdb.new }
+    ensures prints { pdb.new.told ≡ true → Prints (shown (scopes_command pdb.old.file indices.now)) (P.state out.old) (P.state out.new) result }
+    ensures halts { Halts (MayFail pdb.old pdb.new) (P.state out.old) (P.state out.new) result }
 {
-    let mut pdb = opened(alloc, source)?;
-    let ids = ids_stream(&mut pdb)?;
-    let types = types_stream(&mut pdb)?;
-    let header = machine_of_file(&mut pdb)?;
+    let ids = ids_stream(pdb)?;
+    let types = types_stream(pdb)?;
+    let header = machine_of_file(pdb)?;
     let tables = tables_by(alloc, ids.as_ref(), types.as_ref(), header)?;
     let scopes = Scopes { tables };
-    write_modules(alloc, &mut pdb, Form::Text, &scopes, indices, out)
+    print_modules(alloc, pdb, OutputFormat::Text, &scopes, indices, out)
 }
 
 /// The text of the global symbols, by what names are found by, and by these ids of other modules.
@@ -255,115 +235,86 @@ fn put_globals(
     put_globals_by(alloc, out, tables, &global, symbols)
 }
 
-/// Writes the global symbols of a file that has debug information, by what names are found by.
-fn write_listed_globals<'s, S: Source<'s>, W: CountedWrite>(
+/// Prints the global symbols of a file that has debug information, by what names are found by.
+fn print_listed_globals<'s, S: Source<'s>, P: Printer>(
     alloc: Global,
     pdb: &mut PDB<'s, S>,
     tables: &Tables<'_>,
-    out: &mut W,
+    out: &mut P,
 ) -> Result<(), Stop>
     ensures continues { Continues pdb.old pdb.new }
-    ensures opened { (e : Error) → IsErrOf result (Stop.Open e) → ⊥ }
-    ensures stops { IfErr result (StopsWriting (MayFail pdb.old pdb.new)) }
-    ensures failures { W.failures out.new ≡ failures_after (W.failures out.old) result }
-    ensures ok { pdb.new.told ≡ true → OnOk result (Appends (W.contents out.old) (W.contents out.new) (globals_there pdb.old.file (global_symbols_text (names_from tables.now.ids tables.now.types (first_definition tables.now.definitions) (ids_by no_imports)) tables.now.header))) }
-    ensures front { pdb.new.told ≡ true → OnErr result (WroteFront (W.contents out.old) (W.contents out.new) (globals_there pdb.old.file (global_symbols_text (names_from tables.now.ids tables.now.types (first_definition tables.now.definitions) (ids_by no_imports)) tables.now.header))) }
+    ensures prints { pdb.new.told ≡ true → Prints (shown (globals_there pdb.old.file (global_symbols_text (names_from tables.now.ids tables.now.types (first_definition tables.now.definitions) (ids_by no_imports)) tables.now.header))) (P.state out.old) (P.state out.new) result }
+    ensures halts { Halts (MayFail pdb.old pdb.new) (P.state out.old) (P.state out.new) result }
 {
     let symbols = match pdb.global_symbols() {
         Ok(symbols) => symbols,
-        Err(e) => return write_unless_absent(alloc, Form::Text, e, out),
+        Err(e) => return print_unless_absent(alloc, OutputFormat::Text, e, out),
     };
     let mut text = Vec::new(alloc);
     put_globals(alloc, &mut text, tables, &symbols)?;
-    write_counted(out, &text)?;
-    Ok(())
+    Ok(out.print(&text)?)
 }
 
-/// Writes the global symbols of an opened file, by what names are found by.
-#[tactic(auto, using(tool_output::proofs::Fronts::appends_none))]
-fn write_globals<'s, S: Source<'s>, W: CountedWrite>(
+/// Prints the global symbols of an opened file, by what names are found by.
+fn print_globals<'s, S: Source<'s>, P: Printer>(
     alloc: Global,
     pdb: &mut PDB<'s, S>,
     tables: &Tables<'_>,
-    out: &mut W,
+    out: &mut P,
 ) -> Result<(), Stop>
     ensures continues { Continues pdb.old pdb.new }
-    ensures opened { (e : Error) → IsErrOf result (Stop.Open e) → ⊥ }
-    ensures stops { IfErr result (StopsWriting (MayFail pdb.old pdb.new)) }
-    ensures failures { W.failures out.new ≡ failures_after (W.failures out.old) result }
-    ensures ok { pdb.new.told ≡ true → OnOk result (Appends (W.contents out.old) (W.contents out.new) (globals_told pdb.old.file (global_symbols_text (names_from tables.now.ids tables.now.types (first_definition tables.now.definitions) (ids_by no_imports)) tables.now.header))) }
-    ensures front { pdb.new.told ≡ true → OnErr result (WroteFront (W.contents out.old) (W.contents out.new) (globals_told pdb.old.file (global_symbols_text (names_from tables.now.ids tables.now.types (first_definition tables.now.definitions) (ids_by no_imports)) tables.now.header))) }
+    ensures prints { pdb.new.told ≡ true → Prints (shown (globals_told pdb.old.file (global_symbols_text (names_from tables.now.ids tables.now.types (first_definition tables.now.definitions) (ids_by no_imports)) tables.now.header))) (P.state out.old) (P.state out.new) result }
+    ensures halts { Halts (MayFail pdb.old pdb.new) (P.state out.old) (P.state out.new) result }
 {
     if lacks(pdb, DEBUG_INFORMATION) {
         return Ok(());
     }
-    write_listed_globals(alloc, pdb, tables, out)
+    print_listed_globals(alloc, pdb, tables, out)
 }
 
-/// Writes the symbols of the modules of these numbers; the global symbols where there is no number.
-#[tactic(auto, using(pdb_text::proofs::Written::any_err, tool_output::proofs::Fronts::front_none))]
-fn write_numbered<'s, S: Source<'s>, W: CountedWrite>(
+/// Prints the symbols of the modules of these numbers; the global symbols where there is no number.
+pub fn print_symbols<'s, S: Source<'s>, P: Printer>(
     alloc: Global,
     pdb: &mut PDB<'s, S>,
     indices: &[u32],
-    out: &mut W,
+    out: &mut P,
 ) -> Result<(), Stop>
     ensures continues { Continues pdb.old pdb.new }
-    ensures opened { (e : Error) → IsErrOf result (Stop.Open e) → ⊥ }
-    ensures stops { IfErr result (StopsWriting (MayFail pdb.old pdb.new)) }
-    ensures failures { W.failures out.new ≡ failures_after (W.failures out.old) result }
-    ensures ok { pdb.new.told ≡ true → OnOk result (Appends (W.contents out.old) (W.contents out.new) (symbols_command pdb.old.file indices.now)) }
-    ensures front { pdb.new.told ≡ true → OnErr result (WroteFront (W.contents out.old) (W.contents out.new) (symbols_command pdb.old.file indices.now)) }
+    ensures prints { pdb.new.told ≡ true → Prints (shown (symbols_command pdb.old.file indices.now)) (P.state out.old) (P.state out.new) result }
+    ensures halts { Halts (MayFail pdb.old pdb.new) (P.state out.old) (P.state out.new) result }
 {
     let ids = ids_stream(pdb)?;
     let types = types_stream(pdb)?;
     let header = machine_of_file(pdb)?;
     let tables = tables_by(alloc, ids.as_ref(), types.as_ref(), header)?;
     match indices.split_first() {
-        Some(_) => write_indexed(alloc, pdb, Form::Text, &Symbols { tables }, indices, out),
-        None => write_globals(alloc, pdb, &tables, out),
+        Some(_) => print_indexed(
+            alloc,
+            pdb,
+            OutputFormat::Text,
+            &Symbols { tables },
+            indices,
+            out,
+        ),
+        None => print_globals(alloc, pdb, &tables, out),
     }
 }
 
-/// Writes the symbols of modules of a source's file; the global symbols where there is no number.
-#[tactic(auto, using(pdb_text::proofs::Written::any_err, tool_output::proofs::Fronts::front_none))]
-pub fn write_symbols<'s, S: Source<'s>, W: CountedWrite>(
+/// Prints the symbols of all modules of a file.
+pub fn print_all_symbols<'s, S: Source<'s>, P: Printer>(
     alloc: Global,
-    source: S,
-    indices: &[u32],
-    out: &mut W,
+    pdb: &mut PDB<'s, S>,
+    out: &mut P,
 ) -> Result<(), Stop>
-    ensures opened { IsKnown (S.state source) → OnOk result (opens (S.state source).file ≡ Ok tt) }
-    ensures ok { IsKnown (S.state source) → OnOk result (Appends (W.contents out.old) (W.contents out.new) (symbols_command (S.state source).file indices.now)) }
-    ensures refused { IsKnown (S.state source) → (e : Error) → IsErrOf result (Stop.Open e) → opens (S.state source).file ≡ Err e }
-    ensures stops { IfErr result (StopsCommand ((S.state source).steady ≡ false)) }
-    ensures failures { W.failures out.new ≡ failures_after (W.failures out.old) result }
-    ensures front { IsKnown (S.state source) → OnErr result (WroteFront (W.contents out.old) (W.contents out.new) (symbols_command (S.state source).file indices.now)) }
+    ensures continues { Continues pdb.old pdb.new }
+    ensures prints { pdb.new.told ≡ true → Prints (shown (all_symbols_command pdb.old.file)) (P.state out.old) (P.state out.new) result }
+    ensures halts { Halts (MayFail pdb.old pdb.new) (P.state out.old) (P.state out.new) result }
 {
-    let mut pdb = opened(alloc, source)?;
-    write_numbered(alloc, &mut pdb, indices, out)
-}
-
-/// Writes the symbols of all modules of a source's file.
-#[tactic(auto, using(pdb_text::proofs::Written::any_err, tool_output::proofs::Fronts::front_none))]
-pub fn write_all_symbols<'s, S: Source<'s>, W: CountedWrite>(
-    alloc: Global,
-    source: S,
-    out: &mut W,
-) -> Result<(), Stop>
-    ensures opened { IsKnown (S.state source) → OnOk result (opens (S.state source).file ≡ Ok tt) }
-    ensures ok { IsKnown (S.state source) → OnOk result (Appends (W.contents out.old) (W.contents out.new) (all_symbols_command (S.state source).file)) }
-    ensures refused { IsKnown (S.state source) → (e : Error) → IsErrOf result (Stop.Open e) → opens (S.state source).file ≡ Err e }
-    ensures stops { IfErr result (StopsCommand ((S.state source).steady ≡ false)) }
-    ensures failures { W.failures out.new ≡ failures_after (W.failures out.old) result }
-    ensures front { IsKnown (S.state source) → OnErr result (WroteFront (W.contents out.old) (W.contents out.new) (all_symbols_command (S.state source).file)) }
-{
-    let mut pdb = opened(alloc, source)?;
-    let ids = ids_stream(&mut pdb)?;
-    let types = types_stream(&mut pdb)?;
-    let header = machine_of_file(&mut pdb)?;
+    let ids = ids_stream(pdb)?;
+    let types = types_stream(pdb)?;
+    let header = machine_of_file(pdb)?;
     let tables = tables_by(alloc, ids.as_ref(), types.as_ref(), header)?;
-    write_all(alloc, &mut pdb, Form::Text, &Symbols { tables }, out)
+    print_all(alloc, pdb, OutputFormat::Text, &Symbols { tables }, out)
 }
 
 /// The machine that the header of a file's DBI stream names. None where there is no header.

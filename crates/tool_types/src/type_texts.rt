@@ -1,21 +1,17 @@
 //! The text of `types`.
 
-ghost use Rattle.std.specs.Prelude.{◌≡◌, ◌++◌, [], true, false, flat_map, option_copied, None, Ok, Err, IfOk, IfErr, OnOk, OnErr, IsErrOf};
-ghost use Rattle.std.specs.Io.KnownBytes.{Appends};
+ghost use Rattle.std.specs.Prelude.{◌≡◌, ◌++◌, [], true, false, flat_map, option_copied, IfOk, IfErr, OnOk};
 ghost use Rattle.std.specs.Option.{option_map};
-ghost use Rattle.pdb.specs.Container.{opens};
-ghost use Rattle.pdb.specs.Error.{Error};
-ghost use Rattle.pdb.specs.Source.{MayFail, IsKnown, Continues};
+ghost use Rattle.pdb.specs.Source.{Continues, MayFail};
 ghost use Rattle.pdb_items.specs.ItemViews.{item_of, items_left};
-ghost use Rattle.pdb_text.specs.Written.{WroteFront};
 ghost use Rattle.pdb_resolve.specs.FileParts.{items_where};
 ghost use Rattle.pdb_types.specs.FullTypes.{definitions_among, first_definition};
 ghost use Rattle.pdb_types.specs.TypeReading.{shown_tag, shown_type};
 ghost use Rattle.tool_types.specs.TypeTexts.{index_lines, item_lines, members_by, stream_text, types_command, types_in, types_left, underlying_of};
 ghost use Rattle.tool_types.specs.TypeViews.{types_of};
-ghost use Rattle.tool_output.specs.Stops.{StopsCommand, StopsWriting};
-ghost use Rattle.tool_output.specs.WriteFailures.{failures_after};
+ghost use Rattle.tool_output.specs.Stops.{Halts};
 ghost use Rattle.tool_output.specs.declared.stop.Stop.{Stop};
+ghost use Rattle.tool_printing.specs.Printing.{Prints, shown};
 
 use crate::member_texts::put_members;
 use crate::type_lines::{
@@ -23,14 +19,14 @@ use crate::type_lines::{
 };
 use pdb::{FallibleIterator, Item, ItemFinder, ItemIter, PDB, Source, TypeIndex, TypeInformation};
 use pdb_resolve::types_of;
-use pdb_text::{CountedWrite, write_counted};
 use pdb_types::{Tag, TypeData, TypeDefinitions};
 use std::alloc::{AllocError, Global};
+use tool_arguments::options::OutputFormat;
 use tool_output::absent::{TYPES, lacks};
 use tool_output::file_streams::types_stream;
-use tool_output::module_texts::write_refused;
-use tool_output::opening::opened;
+use tool_output::module_printing::print_refused;
 use tool_output::stop::{Stop, stop_of};
+use tool_printing::Printer;
 
 /// The type that values of a type are numbers of; index 0 where it is no enumeration.
 fn underlying_of(says: &Option<TypeData<'_>>) -> TypeIndex
@@ -80,19 +76,16 @@ fn put_index(out: &mut Vec<u8>, types: Types<'_, '_>, index: u32) -> Result<(), 
     }
 }
 
-/// Writes the lines of the types that an iterator has left, and then that of its fault. Those of each type are composed
-/// and then written.
-fn write_left<W: CountedWrite>(
+/// Prints the lines of the types that an iterator has left, and then that of its fault. Those of each type are composed
+/// and then printed.
+fn print_left<P: Printer>(
     alloc: Global,
     types: Types<'_, '_>,
     mut items: ItemIter<'_>,
-    out: &mut W,
+    out: &mut P,
 ) -> Result<(), Stop>
-    ensures opened { (e : Error) → IsErrOf result (Stop.Open e) → ⊥ }
-    ensures stops { IfErr result (StopsWriting ⊥) }
-    ensures failures { W.failures out.new ≡ failures_after (W.failures out.old) result }
-    ensures ok { OnOk result (Appends (W.contents out.old) (W.contents out.new) (types_left (types_of types.entry) (items_left items.entry))) }
-    ensures front { OnErr result (WroteFront (W.contents out.old) (W.contents out.new) (types_left (types_of types.entry) (items_left items.entry))) }
+    ensures prints { Prints (shown (types_left (types_of types.entry) (items_left items.entry))) (P.state out.old) (P.state out.new) result }
+    ensures halts { Halts ⊥ (P.state out.old) (P.state out.new) result }
 {
     let mut text = Vec::new(alloc);
     loop {
@@ -100,30 +93,27 @@ fn write_left<W: CountedWrite>(
         match items.next() {
             Ok(Some(item)) => put_item(&mut text, types, &item)?,
             Ok(None) => return Ok(()),
-            Err(e) => return write_refused(alloc, e, out),
+            Err(e) => return print_refused(alloc, OutputFormat::Text, e, out),
         }
-        write_counted(out, &text)?;
+        out.print(&text)?;
     }
 }
 
-/// Writes the lines of the types of these indices.
-fn write_each<W: CountedWrite>(
+/// Prints the lines of the types of these indices.
+fn print_each<P: Printer>(
     alloc: Global,
     types: Types<'_, '_>,
     indices: &[u32],
-    out: &mut W,
+    out: &mut P,
 ) -> Result<(), Stop>
-    ensures opened { (e : Error) → IsErrOf result (Stop.Open e) → ⊥ }
-    ensures stops { IfErr result (StopsWriting ⊥) }
-    ensures failures { W.failures out.new ≡ failures_after (W.failures out.old) result }
-    ensures ok { OnOk result (Appends (W.contents out.old) (W.contents out.new) (flat_map (index_lines (types_of types.entry)) indices.now)) }
-    ensures front { OnErr result (WroteFront (W.contents out.old) (W.contents out.new) (flat_map (index_lines (types_of types.entry)) indices.now)) }
+    ensures prints { Prints (shown (flat_map (index_lines (types_of types.entry)) indices.now)) (P.state out.old) (P.state out.new) result }
+    ensures halts { Halts ⊥ (P.state out.old) (P.state out.new) result }
 {
     let mut text = Vec::new(alloc);
     for index in indices {
         text.clear();
         put_index(&mut text, types, *index)?;
-        write_counted(out, &text)?;
+        out.print(&text)?;
     }
     Ok(())
 }
@@ -143,20 +133,17 @@ fn type_tables<'a>(
     Ok((items, definitions))
 }
 
-/// Writes the lines of the types of these indices of an opened file.
+/// Prints the lines of the types of these indices of an opened file.
 #[tactic(auto, unfolding(pdb_resolve::specs::FileParts::items_listed))]
-fn write_asked<'s, S: Source<'s>, W: CountedWrite>(
+fn print_asked<'s, S: Source<'s>, P: Printer>(
     alloc: Global,
     pdb: &mut PDB<'s, S>,
     indices: &[u32],
-    out: &mut W,
+    out: &mut P,
 ) -> Result<(), Stop>
     ensures continues { Continues pdb.old pdb.new }
-    ensures opened { (e : Error) → IsErrOf result (Stop.Open e) → ⊥ }
-    ensures stops { IfErr result (StopsWriting (MayFail pdb.old pdb.new)) }
-    ensures failures { W.failures out.new ≡ failures_after (W.failures out.old) result }
-    ensures ok { pdb.new.told ≡ true → OnOk result (Appends (W.contents out.old) (W.contents out.new) (flat_map (index_lines (types_in pdb.old.file)) indices.now)) }
-    ensures front { pdb.new.told ≡ true → OnErr result (WroteFront (W.contents out.old) (W.contents out.new) (flat_map (index_lines (types_in pdb.old.file)) indices.now)) }
+    ensures prints { pdb.new.told ≡ true → Prints (shown (flat_map (index_lines (types_in pdb.old.file)) indices.now)) (P.state out.old) (P.state out.new) result }
+    ensures halts { Halts (MayFail pdb.old pdb.new) (P.state out.old) (P.state out.new) result }
 {
     let information = types_stream(pdb)?;
     let tables = type_tables(alloc, information.as_ref())?;
@@ -164,73 +151,62 @@ fn write_asked<'s, S: Source<'s>, W: CountedWrite>(
         items: &tables.0,
         definitions: &tables.1,
     };
-    write_each(alloc, types, indices, out)
+    print_each(alloc, types, indices, out)
 }
 
-/// Writes the lines of the types of a stream.
-fn write_stream<W: CountedWrite>(
+/// Prints the lines of the types of a stream.
+fn print_stream<P: Printer>(
     alloc: Global,
     information: &TypeInformation<'_>,
-    out: &mut W,
+    out: &mut P,
 ) -> Result<(), Stop>
-    ensures opened { (e : Error) → IsErrOf result (Stop.Open e) → ⊥ }
-    ensures stops { IfErr result (StopsWriting ⊥) }
-    ensures failures { W.failures out.new ≡ failures_after (W.failures out.old) result }
-    ensures ok { OnOk result (Appends (W.contents out.old) (W.contents out.new) (stream_text information.now)) }
-    ensures front { OnErr result (WroteFront (W.contents out.old) (W.contents out.new) (stream_text information.now)) }
+    ensures prints { Prints (shown (stream_text information.now)) (P.state out.old) (P.state out.new) result }
+    ensures halts { Halts ⊥ (P.state out.old) (P.state out.new) result }
 {
     let listed = match information.iter() {
         Ok(listed) => listed,
-        Err(e) => return write_refused(alloc, e, out),
+        Err(e) => return print_refused(alloc, OutputFormat::Text, e, out),
     };
     let tables = type_tables(alloc, Some(information))?;
     let types = Types {
         items: &tables.0,
         definitions: &tables.1,
     };
-    write_left(alloc, types, listed, out)
+    print_left(alloc, types, listed, out)
 }
 
-/// Writes the lines of all types of an opened file.
-fn write_all<'s, S: Source<'s>, W: CountedWrite>(
+/// Prints the lines of all types of an opened file.
+fn print_all<'s, S: Source<'s>, P: Printer>(
     alloc: Global,
     pdb: &mut PDB<'s, S>,
-    out: &mut W,
+    out: &mut P,
 ) -> Result<(), Stop>
     ensures continues { Continues pdb.old pdb.new }
-    ensures opened { (e : Error) → IsErrOf result (Stop.Open e) → ⊥ }
-    ensures stops { IfErr result (StopsWriting (MayFail pdb.old pdb.new)) }
-    ensures failures { W.failures out.new ≡ failures_after (W.failures out.old) result }
-    ensures ok { pdb.new.told ≡ true → OnOk result (Appends (W.contents out.old) (W.contents out.new) (types_command pdb.old.file [])) }
-    ensures front { pdb.new.told ≡ true → OnErr result (WroteFront (W.contents out.old) (W.contents out.new) (types_command pdb.old.file [])) }
+    ensures prints { pdb.new.told ≡ true → Prints (shown (types_command pdb.old.file [])) (P.state out.old) (P.state out.new) result }
+    ensures halts { Halts (MayFail pdb.old pdb.new) (P.state out.old) (P.state out.new) result }
 {
     if lacks(pdb, TYPES) {
         return Ok(());
     }
     match pdb.type_information() {
-        Ok(information) => write_stream(alloc, &information, out),
-        Err(e) => write_refused(alloc, e, out),
+        Ok(information) => print_stream(alloc, &information, out),
+        Err(e) => print_refused(alloc, OutputFormat::Text, e, out),
     }
 }
 
-/// Writes the lines of types of a source's file: those of these indices, or of all where there is none.
-#[tactic(auto, using(pdb_text::proofs::Written::any_err, tool_output::proofs::Fronts::front_none))]
-pub fn write_types<'s, S: Source<'s>, W: CountedWrite>(
+/// Prints the lines of types of a file: those of these indices, or of all where there is none.
+pub fn print_types<'s, S: Source<'s>, P: Printer>(
     alloc: Global,
-    source: S,
+    pdb: &mut PDB<'s, S>,
     indices: &[u32],
-    out: &mut W,
+    out: &mut P,
 ) -> Result<(), Stop>
-    ensures opened { IsKnown (S.state source) → OnOk result (opens (S.state source).file ≡ Ok tt) }
-    ensures ok { IsKnown (S.state source) → OnOk result (Appends (W.contents out.old) (W.contents out.new) (types_command (S.state source).file indices.now)) }
-    ensures refused { IsKnown (S.state source) → (e : Error) → IsErrOf result (Stop.Open e) → opens (S.state source).file ≡ Err e }
-    ensures stops { IfErr result (StopsCommand ((S.state source).steady ≡ false)) }
-    ensures failures { W.failures out.new ≡ failures_after (W.failures out.old) result }
-    ensures front { IsKnown (S.state source) → OnErr result (WroteFront (W.contents out.old) (W.contents out.new) (types_command (S.state source).file indices.now)) }
+    ensures continues { Continues pdb.old pdb.new }
+    ensures prints { pdb.new.told ≡ true → Prints (shown (types_command pdb.old.file indices.now)) (P.state out.old) (P.state out.new) result }
+    ensures halts { Halts (MayFail pdb.old pdb.new) (P.state out.old) (P.state out.new) result }
 {
-    let mut pdb = opened(alloc, source)?;
     match indices.split_first() {
-        Some(_) => write_asked(alloc, &mut pdb, indices, out),
-        None => write_all(alloc, &mut pdb, out),
+        Some(_) => print_asked(alloc, pdb, indices, out),
+        None => print_all(alloc, pdb, out),
     }
 }

@@ -13,7 +13,7 @@ loop-done-preserved g c =
     record {
       told = λ F known le.
           let p = so_far.told F known le in
-          rw same (read_part F c.read_behind.new.bytes front c.args.from done c.in_ok-count.count c.in-Some.at p many (omega arith) (c.in_ok-count.ensures.front ∙ ap (take done) c.as_mut_slice.ensures.value)
+          rw same (read_part F c.read_behind.new.bytes front c.args.from done c.in_ok-count.count c.in-Some-checked_add.at p many (omega arith) (c.in_ok-count.ensures.front ∙ ap (take done) c.as_mut_slice.ensures.value)
           (c.in_ok-count.ensures.told F known (omega (arith, p.fits, many))));
       within = omega (arith, c.in_ok-count.ensures.fits, c.read_behind.ensures.len, ap length c.as_mut_slice.ensures.value, so_far.many, c.loop-done.bytes.ok.0);
       many = so_far.many;

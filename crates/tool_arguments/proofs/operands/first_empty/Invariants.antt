@@ -5,5 +5,5 @@ use Rattle.tool_arguments.proofs.operands.first_empty.Given as goal
 -- none so far is empty
 abbrev pub invariant-loop-operand : goal.invariant-loop-operand
 invariant-loop-operand l = record {
-  told : first_empty (map operand_view l.words) ≡ first_empty (map operand_view (drop l.operand-index l.words));
+  told : first_empty (map operand_view l.operands) ≡ first_empty (map operand_view (drop l.operand-index l.operands));
 }

@@ -9,7 +9,7 @@ abbrev pub invariant-loop-listed : goal.invariant-loop-listed
 invariant-loop-listed g l = record {
   continues : Continues l.fn.pdb l.pdb;
   counted : modules_steps l.modules ≡ l.k;
-  told : l.pdb.told ≡ true → l.out.items ++ modules_text l.form l.name l.fn.pdb.file l.k (modules_left l.modules).items ≡ l.fn.out.items ++ modules_text l.fn.form l.fn.name l.fn.pdb.file 0 (modules_left l.fn.modules).items;
+  told : l.pdb.told ≡ true → l.out.items ++ modules_text l.format l.name l.fn.pdb.file l.k (modules_left l.modules).items ≡ l.fn.out.items ++ modules_text l.fn.format l.fn.name l.fn.pdb.file 0 (modules_left l.fn.modules).items;
 }
 
 abbrev pub decreases-loop-listed : goal.decreases-loop-listed

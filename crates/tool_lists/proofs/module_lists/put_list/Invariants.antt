@@ -8,7 +8,7 @@ use Rattle.tool_lists.proofs.module_lists.put_list.Given as goal
 abbrev pub invariant-loop-listed : goal.invariant-loop-listed
 invariant-loop-listed l = record {
   counted : modules_steps l.modules ≡ l.k;
-  told : l.out.items ++ module_list_text l.form (size_in l.sizes) l.k (modules_left l.modules) ≡ l.fn.out.items ++ module_list_text l.form (size_in l.fn.sizes) 0 (modules_left l.fn.modules);
+  told : l.out.items ++ module_list_text l.format (size_in l.sizes) l.k (modules_left l.modules) ≡ l.fn.out.items ++ module_list_text l.format (size_in l.fn.sizes) 0 (modules_left l.fn.modules);
 }
 
 abbrev pub decreases-loop-listed : goal.decreases-loop-listed

@@ -15,7 +15,7 @@ loop-number-preserved g c =
     let at = c.loop-number.at in
     let all = c.here-here.ensures.here ∙ here_is stream_number n at roles so_far.rises so_far.same in
     record {
-      told = λ told. one_more (role_line c.args.form file roles) n c.args.out.now.items c.loop-number.out.items c.put_stream.new.out.items _ (so_far.told told) (c.in_ok-put_stream.ensures told) (ap (λ rs. line_in c.args.form n (if_read (stream_size file n)) (map role_view rs)) all);
+      told = λ told. one_more (role_line c.args.format file roles) n c.args.out.now.items c.loop-number.out.items c.put_stream.new.out.items _ (so_far.told told) (c.in_ok-put_stream.ensures told) (ap (λ rs. line_in c.args.format n (if_read (stream_size file n)) (map role_view rs)) all);
       within = c.here-here.ensures.within;
       rises = rw c.here-here.ensures.count (rises_next stream_number n at roles so_far.rises);
       same = rw c.here-here.ensures.count (same_next stream_number n at roles so_far.same);

@@ -1,6 +1,0 @@
-pub mod RefusalIs
-pub mod ImageFronts
-pub mod FirstTexts
-pub mod ReadBack
-pub mod FoundReadBack
-pub mod ListReadBack

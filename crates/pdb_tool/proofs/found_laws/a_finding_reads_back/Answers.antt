@@ -1,5 +1,0 @@
-use Rattle.pdb_tool.proofs.FoundReadBack.{finding_reads_back}
-use Rattle.pdb_tool.proofs.found_laws.a_finding_reads_back.Goals as goal
-
-pub returns : goal.returns
-returns c = finding_reads_back

@@ -1,5 +1,0 @@
-use Rattle.pdb_tool.proofs.FoundReadBack.{found_reads_back}
-use Rattle.pdb_tool.proofs.found_laws.a_found_name_reads_back.Goals as goal
-
-pub returns : goal.returns
-returns c = found_reads_back

@@ -1,5 +1,0 @@
-use Rattle.pdb_tool.proofs.FoundReadBack.{where_reads_back}
-use Rattle.pdb_tool.proofs.found_laws.a_record_reads_back.Goals as goal
-
-pub returns : goal.returns
-returns c = where_reads_back

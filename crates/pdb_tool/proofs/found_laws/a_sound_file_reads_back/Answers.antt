@@ -1,5 +1,0 @@
-use Rattle.pdb_tool.proofs.FoundReadBack.{sound_reads_back}
-use Rattle.pdb_tool.proofs.found_laws.a_sound_file_reads_back.Goals as goal
-
-pub returns : goal.returns
-returns c = sound_reads_back

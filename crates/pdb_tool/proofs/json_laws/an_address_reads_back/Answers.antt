@@ -1,5 +1,0 @@
-use Rattle.pdb_tool.proofs.ReadBack.{asked_reads_back}
-use Rattle.pdb_tool.proofs.json_laws.an_address_reads_back.Goals as goal
-
-pub returns : goal.returns
-returns c = asked_reads_back

@@ -1,5 +1,0 @@
-use Rattle.pdb_tool.proofs.ReadBack.{unasked_reads_back}
-use Rattle.pdb_tool.proofs.json_laws.another_line_reads_back.Goals as goal
-
-pub returns : goal.returns
-returns c = unasked_reads_back

@@ -1,5 +1,0 @@
-use Rattle.pdb_tool.proofs.ListReadBack.{key_reads_back}
-use Rattle.pdb_tool.proofs.list_laws.a_key_reads_back.Goals as goal
-
-pub returns : goal.returns
-returns c = key_reads_back

@@ -1,5 +1,0 @@
-use Rattle.pdb_tool.proofs.ListReadBack.{section_reads_back}
-use Rattle.pdb_tool.proofs.list_laws.a_section_reads_back.Goals as goal
-
-pub returns : goal.returns
-returns c = section_reads_back

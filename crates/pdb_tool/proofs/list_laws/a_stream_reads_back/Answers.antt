@@ -1,5 +1,0 @@
-use Rattle.pdb_tool.proofs.ListReadBack.{stream_reads_back}
-use Rattle.pdb_tool.proofs.list_laws.a_stream_reads_back.Goals as goal
-
-pub returns : goal.returns
-returns c = stream_reads_back

@@ -1,5 +1,0 @@
-use Rattle.pdb_tool.proofs.ListReadBack.{error_of_reads_back}
-use Rattle.pdb_tool.proofs.list_laws.an_error_of_a_module_reads_back.Goals as goal
-
-pub returns : goal.returns
-returns c = error_of_reads_back

@@ -1,4 +1,0 @@
-pub mod KeyLines
-pub mod FileKinds
-pub mod FileTexts
-pub mod Wanted

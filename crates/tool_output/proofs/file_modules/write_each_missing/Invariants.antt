@@ -1,9 +1,0 @@
-use Rattle.std.proofs.Common.{◌≡◌, take, flat_map}
-use Rattle.tool_output.specs.ErrorObjects.{none_of}
-use Rattle.tool_output.proofs.file_modules.write_each_missing.Given as goal
-
--- as many lines as there were indices so far
-abbrev pub invariant-loop-k : goal.invariant-loop-k
-invariant-loop-k g l = record {
-  told : l.lines.items ≡ flat_map (none_of l.fn.form) (take l.k-index l.indices);
-}

@@ -1,0 +1,31 @@
+use Rattle.std.proofs.Common.{refl, inr}
+use Rattle.pdb_file.proofs.Known.{known_at_first}
+use Rattle.tool_program.proofs.Passed.{if_some_on, if_some_there, on_err}
+use Rattle.tool_program.proofs.file_printing.answer_file.Goals as goal
+
+pub returns-in-Some-clause-printed : goal.returns-in-Some-clause-printed
+returns-in-Some-clause-printed g c = λ G known size.
+    let here = known_at_first _ _ _ _ _ G c.new-source.ensures c.new-file.ensures known size in
+    let told = (c.other_key.ensures.continues.known (c.in_ok-pdb.ensures.continues.known here.0)).1 in
+    let other = rw (c.in_ok-pdb.ensures.file, here.1, c.in-Some.is) at (c.in_ok-key.ensures.compares told) in
+    if_some_there _ (g.I.Read.remaining c.args.input.now) (λ xs. (other, refl))
+
+pub returns-in_err-answer_lines-in-None-clause-halted : goal.returns-in_err-answer_lines-in-None-clause-halted
+returns-in_err-answer_lines-in-None-clause-halted g c = λ G known size.
+    let here = known_at_first _ _ _ _ _ G c.new-source.ensures c.new-file.ensures known size in
+    let compared = c.other_key.ensures.continues.known (c.in_ok-pdb.ensures.continues.known here.0) in
+    let other = rw (c.in_ok-pdb.ensures.file, here.1, c.in-None.is) at (c.in_ok-key.ensures.compares compared.1) in
+    let on = c.in_ok-resolver-in-None.ensures.continues in
+    let told = (c.answer_lines.ensures.continues.known (on.known compared)).1 in
+    let halted = rw (on.file, c.other_key.ensures.continues.file, c.in_ok-pdb.ensures.file, here.1) at (c.in_err-answer_lines-in-None.ensures.prints told) in
+    if_some_on _ _ (g.I.Read.remaining c.args.input.now) (λ xs h. on_err c.from_residual-in_err-answer_lines-in-None.result _ _ c.from_residual-in_err-answer_lines-in-None.ensures.1 (inr (other, h))) halted
+
+pub returns-clause-printed : goal.returns-clause-printed
+returns-clause-printed g c = λ G known size.
+    let here = known_at_first _ _ _ _ _ G c.new-source.ensures c.new-file.ensures known size in
+    let compared = c.other_key.ensures.continues.known (c.in_ok-pdb.ensures.continues.known here.0) in
+    let other = rw (c.in_ok-pdb.ensures.file, here.1, c.in-None.is) at (c.in_ok-key.ensures.compares compared.1) in
+    let on = c.in_ok-resolver-in-None.ensures.continues in
+    let told = (c.answer_lines.ensures.continues.known (on.known compared)).1 in
+    let printed = rw (on.file, c.other_key.ensures.continues.file, c.in_ok-pdb.ensures.file, here.1) at (c.in_ok-answer_lines-in-None.ensures.prints told) in
+    if_some_on _ _ (g.I.Read.remaining c.args.input.now) (λ xs h. (other, h)) printed

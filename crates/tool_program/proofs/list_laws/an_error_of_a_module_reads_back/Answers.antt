@@ -1,0 +1,5 @@
+use Rattle.tool_program.proofs.ListReadBack.{error_of_reads_back}
+use Rattle.tool_program.proofs.list_laws.an_error_of_a_module_reads_back.Goals as goal
+
+pub returns : goal.returns
+returns c = error_of_reads_back

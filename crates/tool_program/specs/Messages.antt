@@ -1,0 +1,11 @@
+-- What is printed on standard error of a file.
+use Rattle.std.specs.Prelude.{ℕ, List, ◌++◌, codes}
+use Rattle.pdb_text.specs.OneLine.{one_line}
+
+-- a line on a file
+unfoldable pub about : List ℕ → List ℕ → List ℕ
+about name text = codes "pdb_tool: " ++ one_line name ++ codes ": " ++ text ++ codes "\n"
+
+-- that it has a key, and another is wanted
+unfoldable pub other_key : List ℕ → List ℕ → List ℕ → List ℕ
+other_key name key wanted = about name (codes "has the key " ++ key ++ codes ", and " ++ wanted ++ codes " is wanted")

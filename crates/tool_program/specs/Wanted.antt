@@ -1,0 +1,57 @@
+-- Which PDB is wanted, and what is printed of a file where one is.
+use Rattle.std.specs.Prelude.{◌≡◌, ℕ, List, map, ◌⊎◌, Option, Some, None, Result, Ok, Err, if◌then◌else◌}
+use Rattle.std.specs.Char.{to_ascii_uppercase}
+use Rattle.std.specs.List.{filter}
+use Rattle.std.specs.Str.{bytes_eq}
+use Rattle.pdb.specs.Error.{Error}
+use Rattle.pdb.specs.Refusal.{◌>>=◌}
+use Rattle.pdb.specs.Keys.{key_in, key_text}
+use Rattle.pdb_image.specs.declared.error.ImageError.{ImageError}
+use Rattle.pdb_image.specs.Debug.{Reference}
+use Rattle.pdb_image.specs.Images.{Said, image_of}
+use Rattle.tool_arguments.specs.Options.{is_key_digit}
+use Rattle.tool_output.specs.declared.stop.Stop.{Stop}
+use Rattle.tool_output.specs.declared.stop.Stop.TheVariants.{Image, NoPdb}
+use Rattle.tool_printing.specs.Printing.{Halted, Printed, Printing, Shown}
+
+-- the key that a value of `--key` spells: its hex digits, the letters as upper ones
+abbrev pub wanted_key : List ℕ → List ℕ
+wanted_key value = map to_ascii_uppercase (filter is_key_digit value)
+
+-- the key of the PDB that an image names, and the image's load address
+pub record Wants : Type 0 where
+  pub key : List ℕ
+  pub base : ℕ
+
+abbrev pub wants_of : ℕ → Option Reference → Result Wants Stop
+wants_of base None = Err NoPdb
+wants_of base (Some r) = Ok (record { key = key_text r.guid r.age; base = base })
+
+abbrev pub wants_by : Result Said ImageError → Result Wants Stop
+wants_by (Ok i) = wants_of i.base i.pdb
+wants_by (Err e) = Err (Image e)
+
+abbrev pub wants_in : List ℕ → Result Wants Stop
+wants_in image = wants_by (image_of image)
+
+-- a key, where it isn't the wanted one
+abbrev pub other_than : List ℕ → List ℕ → Option (List ℕ)
+other_than wanted key = if bytes_eq key wanted then None else Some key
+
+-- the key of an opened file, where another is wanted
+abbrev pub other_key : List ℕ → Option (List ℕ) → Result (Option (List ℕ)) Error
+other_key file None = Ok None
+other_key file (Some wanted) = key_in file >>= λ key. Ok (other_than wanted key)
+
+-- the text of a file was printed; of another than the wanted one nothing was
+abbrev pub PrintedUnless : Shown → Printing → Printing → Option (List ℕ) → Type 0
+PrintedUnless text old new None = Printed text old new
+PrintedUnless text old new (Some key) = new ≡ old
+
+-- a file's text was printed where it is the wanted one, and else its key is answered
+abbrev pub IsPrinted : List ℕ → Option (List ℕ) → Shown → Printing → Printing → Option (List ℕ) → Type 0
+IsPrinted file wanted text old new answer = (other_key file wanted ≡ Ok answer) × PrintedUnless text old new answer
+
+-- nothing was printed, or the file is the wanted one and a beginning of its text was
+abbrev pub IsHalted : List ℕ → Option (List ℕ) → Shown → Printing → Printing → Type 0
+IsHalted file wanted text old new = (new ≡ old) ⊎ ((other_key file wanted ≡ Ok None) × Halted text old new)

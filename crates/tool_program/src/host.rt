@@ -1,0 +1,42 @@
+//! What the program reads from.
+
+use pdb_file::{FileBytes, ReadAt};
+use std::alloc::Global;
+use tool_arguments::operands::Operand;
+use tool_output::stop::Stop;
+
+/// What opens files, and what is known of standard input and of the arguments.
+pub trait Host {
+    ghost use Rattle.std.specs.Prelude.{◌≡◌, Bool, List, Result, true, ℕ};
+    ghost use Rattle.tool_arguments.specs.Operands.{WordAt, operand_view};
+    ghost use Rattle.tool_output.specs.declared.stop.Stop.{Stop};
+    ghost use Rattle.tool_program.specs.Hosts.{OpensAs};
+
+    /// A file that is open.
+    type File: ReadAt + Drop;
+
+    // Whether contracts know the files, and no read of them fails.
+    ghost is_known: { Self → Bool };
+
+    // All bytes of the file that an argument names, or why it can't be opened.
+    ghost file: { Self → WordAt → Result (List ℕ) Stop };
+
+    /// Takes memory.
+    fn alloc(&self) -> Global;
+
+    /// The bytes of the file that an argument names, or why it can't be opened or read.
+    fn open(&self, name: Operand<'_>) -> Result<FileBytes<Self::File>, Stop>
+        ensures { is_known self.now ≡ true → OpensAs (⟦<FileBytes<Self::File> as ReadAt>⟧.known) (⟦<FileBytes<Self::File> as ReadAt>⟧.is_steady) result (file self.now (operand_view name.entry)) };
+
+    /// The first bytes of a file that has a size, and that size; none of a pipe and the like.
+    fn front(&self, name: &str) -> Option<(Vec<u8>, u64)>;
+
+    /// Whether standard input is open. Where it is closed, the next file that is opened takes its place.
+    fn has_input(&self) -> bool;
+
+    /// Whether standard input is a terminal.
+    fn is_asked_by_hand(&self) -> bool;
+
+    /// The indices of the arguments that aren't UTF-8, rising.
+    fn not_text(&self) -> &[usize];
+}

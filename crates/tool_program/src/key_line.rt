@@ -1,0 +1,225 @@
+//! The lines of `key`: of a PDB, and of an image with the PDB that it names.
+
+ghost use Rattle.std.specs.Prelude.{◌≡◌, ◌≢◌, ◌↔◌, ◌<◌, ◌++◌, true, false, Some, Ok, Err, IfOk, IfErr, IsErrOf, OnOk, Option, length};
+ghost use Rattle.std.specs.Option.{ForSome, option_map};
+ghost use Rattle.pdb.specs.Error.{Error};
+ghost use Rattle.pdb.specs.Refusal.{Gives};
+ghost use Rattle.pdb.specs.Source.{Continues, IsKnown, MayFail, view_bytes};
+ghost use Rattle.pdb_image.specs.Headers.{is_image};
+ghost use Rattle.pdb_image.specs.Images.{image_of, reference, said};
+ghost use Rattle.tool_program.specs.KeyLines.{image_in as line_of_image, image_line as image_line_of, image_text as text_of_image, key_line as key_line_of, own_key, pdb_in as line_of_pdb, pdb_named, pdb_text as text_of_pdb};
+ghost use Rattle.tool_program.specs.Wanted.{wants_in as wants_there};
+ghost use Rattle.tool_output.specs.Stops.{StopsComposing, StopsOpening};
+ghost use Rattle.tool_output.specs.declared.stop.Stop.{Stop};
+
+use crate::key_objects::{image_object, pdb_object};
+use crate::wanted::{ImageWants, wants_in};
+use bumpalo::Bump;
+use pdb::{Error, Source, SourceSlice, View, key_of, key_text, put_hex_bytes};
+use pdb_file::{KnownFile, ReadAt, ReadingSource};
+use pdb_image::{Image, PdbReference, is_image};
+use pdb_text::put_one_line;
+use std::alloc::{AllocError, Global};
+use tool_arguments::options::OutputFormat;
+use tool_fields::values::put_behind_blank;
+use tool_output::stop::{Stop, stop_of_opening};
+
+/// An image's own key: its time stamp in eight upper hex digits, and its size in lower ones.
+#[tactic(auto, unfolding(crate::specs::KeyLines::own_key))]
+pub fn put_own_key(
+    alloc: Global,
+    out: &mut Vec<u8>,
+    stamp: u32,
+    size: u32,
+) -> Result<(), AllocError>
+    ensures { OnOk result (out.new.items ≡ out.old.items ++ own_key stamp size) }
+{
+    let bytes = [
+        (stamp / 0x100_0000) as u8,
+        (stamp / 0x1_0000 % 256) as u8,
+        (stamp / 256 % 256) as u8,
+        (stamp % 256) as u8,
+    ];
+    put_hex_bytes(out, &bytes)?;
+    let text = format!(in alloc; "{size:x}")?;
+    out.extend_from_slice(text.as_bytes())
+}
+
+/// The key and the path of the PDB that an image names.
+fn put_pdb(
+    alloc: Global,
+    out: &mut Vec<u8>,
+    pdb: Option<PdbReference<'_>>,
+) -> Result<(), AllocError>
+    ensures { OnOk result (out.new.items ≡ out.old.items ++ pdb_named (option_map reference pdb.entry)) }
+{
+    let Some(pdb) = pdb else {
+        return out.extend_from_slice(b"- -");
+    };
+    out.extend_from_slice(&key_text(alloc, &pdb.guid, pdb.age)?)?;
+    put_behind_blank(out, pdb.path)
+}
+
+/// The line of an image.
+#[tactic(auto, unfolding(crate::specs::KeyLines::image_text))]
+fn image_text(alloc: Global, image: Image<'_>, name: &[u8]) -> Result<Vec<u8>, AllocError>
+    ensures { IfOk result (λ v. v.items ≡ text_of_image name.now (said image.entry)) }
+{
+    let mut out = Vec::new(alloc);
+    put_own_key(alloc, &mut out, image.time_stamp, image.size)?;
+    out.push(b' ')?;
+    put_one_line(&mut out, name)?;
+    out.push(b' ')?;
+    put_pdb(alloc, &mut out, image.pdb)?;
+    out.push(b'\n')?;
+    Ok(out)
+}
+
+/// The line of an image, in a format.
+fn image_in(
+    alloc: Global,
+    format: OutputFormat,
+    image: Image<'_>,
+    name: &[u8],
+) -> Result<Vec<u8>, AllocError>
+    ensures { IfOk result (λ v. v.items ≡ line_of_image format name.now (said image.entry)) }
+{
+    match format {
+        OutputFormat::Text => image_text(alloc, image, name),
+        OutputFormat::Json => image_object(alloc, image, name),
+    }
+}
+
+/// The line of an image's bytes.
+fn image_line(
+    alloc: Global,
+    format: OutputFormat,
+    bytes: &[u8],
+    name: &[u8],
+) -> Result<Vec<u8>, Stop>
+    ensures line { IfOk result (λ v. image_line_of format name.now (image_of bytes.now) ≡ Ok v.items) }
+    ensures stopped { (s : Stop) → s ≢ Stop.Memory → IsErrOf result s → image_line_of format name.now (image_of bytes.now) ≡ Err s }
+{
+    match Image::parse(bytes) {
+        Ok(image) => Ok(image_in(alloc, format, image, name)?),
+        Err(e) => Err(Stop::Image(e)),
+    }
+}
+
+/// The line of a PDB with this key.
+fn pdb_text(alloc: Global, key: &[u8], name: &[u8]) -> Result<Vec<u8>, AllocError>
+    ensures { IfOk result (λ v. v.items ≡ text_of_pdb name.now key.now) }
+{
+    let mut out = Vec::new(alloc);
+    out.extend_from_slice(key)?;
+    out.push(b' ')?;
+    put_one_line(&mut out, name)?;
+    out.push(b'\n')?;
+    Ok(out)
+}
+
+/// The line of a PDB with this key, in a format.
+fn pdb_in(
+    alloc: Global,
+    format: OutputFormat,
+    key: &[u8],
+    name: &[u8],
+) -> Result<Vec<u8>, AllocError>
+    ensures { IfOk result (λ v. v.items ≡ line_of_pdb format name.now key.now) }
+{
+    match format {
+        OutputFormat::Text => pdb_text(alloc, key, name),
+        OutputFormat::Json => pdb_object(alloc, key, name),
+    }
+}
+
+/// Whether an error is that of a file that ends early.
+fn is_end(e: Error) -> bool
+    ensures { (result ≡ true) ↔ (e ≡ Error.UnexpectedEof) }
+{
+    matches!(e, Error::UnexpectedEof)
+}
+
+/// Whether the file of a source begins as an image does.
+fn begins_as_image<'s, S: Source<'s>>(alloc: Global, source: &mut S) -> Result<bool, Error>
+    ensures continues { Continues (S.state source.old) (S.state source.new) }
+    ensures failed { IsErrOf result Error.IoError → MayFail (S.state source.old) (S.state source.new) }
+    ensures image { (S.state source.new).told ≡ true → Gives (λ b. b) (MayFail (S.state source.old) (S.state source.new)) result (Ok (is_image (S.state source.old).file)) }
+{
+    let front = SourceSlice { offset: 0, size: 2 };
+    match source.view(alloc, &[front]) {
+        Ok(front) => Ok(is_image(front.as_slice())),
+        Err(e) if is_end(e) => Ok(false),
+        Err(e) => Err(e),
+    }
+}
+
+/// All bytes of a source's file of this size.
+fn whole<'s, S: Source<'s>>(alloc: Global, source: &mut S, size: u64) -> Result<View<'s>, Stop>
+    ensures bytes { IsKnown (S.state source.old) → length (S.state source.old).file ≡ size → IfOk result (λ v. view_bytes v ≡ (S.state source.old).file) }
+    ensures stops { IsKnown (S.state source.old) → length (S.state source.old).file ≡ size → IfErr result (StopsComposing (MayFail (S.state source.old) (S.state source.new))) }
+    ensures opening { IfErr result (StopsOpening (MayFail (S.state source.old) (S.state source.new))) }
+{
+    let all = SourceSlice {
+        offset: 0,
+        size: size as usize,
+    };
+    match source.view(alloc, &[all]) {
+        Ok(bytes) => Ok(bytes),
+        Err(e) => Err(stop_of_opening(e)),
+    }
+}
+
+/// The line of a source's file of this size: of an image where it begins with `MZ`, of which all is viewed; else of a
+/// PDB, of which no more is viewed than its key asks for.
+#[tactic(auto, unfolding(crate::specs::KeyLines::key_line))]
+fn line_of<'s, S: Source<'s>>(
+    alloc: Global,
+    format: OutputFormat,
+    mut source: S,
+    size: u64,
+    name: &[u8],
+) -> Result<Vec<u8>, Stop>
+    ensures line { IsKnown (S.state source) → length (S.state source).file ≡ size → IfOk result (λ v. key_line_of format name.now (S.state source).file ≡ Ok v.items) }
+    ensures stopped { IsKnown (S.state source) → length (S.state source).file ≡ size → (s : Stop) → s ≢ Stop.Memory → s ≢ Stop.Read → IsErrOf result s → key_line_of format name.now (S.state source).file ≡ Err s }
+    ensures steady { IsErrOf result Stop.Read → (S.state source).steady ≡ false }
+{
+    if begins_as_image(alloc, &mut source).map_err(stop_of_opening)? {
+        let bytes = whole(alloc, &mut source, size)?;
+        return image_line(alloc, format, bytes.as_slice(), name);
+    }
+    let key = key_of(alloc, source).map_err(stop_of_opening)?;
+    Ok(pdb_in(alloc, format, &key, name)?)
+}
+
+/// The line of a file of this size and name: of an image where it begins with `MZ`, else of a PDB, of which no more is
+/// read than its key asks for.
+pub fn key_line<R: ReadAt>(
+    alloc: Global,
+    format: OutputFormat,
+    bytes: &R,
+    size: u64,
+    name: &[u8],
+) -> Result<Vec<u8>, Stop>
+    ensures line { ForSome (R.known bytes.now) (λ G. length G ≡ size → IfOk result (λ v. key_line_of format name.now G ≡ Ok v.items)) }
+    ensures stopped { ForSome (R.known bytes.now) (λ G. length G ≡ size → (s : Stop) → s ≢ Stop.Memory → s ≢ Stop.Read → IsErrOf result s → key_line_of format name.now G ≡ Err s) }
+    ensures steady { R.is_steady bytes.now ≡ true → ForSome (R.known bytes.now) (λ G. length G ≡ size → IsErrOf result Stop.Read → ⊥) }
+{
+    let arena = Bump::new(alloc);
+    let file = KnownFile::new(bytes);
+    let source = ReadingSource::new(alloc, &arena, bytes, &file, size);
+    line_of(alloc, format, source, size, name)
+}
+
+/// What an image of this size wants.
+pub fn image_wants<R: ReadAt>(alloc: Global, bytes: &R, size: u64) -> Result<ImageWants, Stop>
+    ensures wants { ForSome (R.known bytes.now) (λ G. length G ≡ size → IfOk result (λ w. wants_there G ≡ Ok (record { key = w.key.items; base = w.base }))) }
+    ensures stopped { ForSome (R.known bytes.now) (λ G. length G ≡ size → (s : Stop) → s ≢ Stop.Memory → s ≢ Stop.Read → IsErrOf result s → wants_there G ≡ Err s) }
+    ensures steady { R.is_steady bytes.now ≡ true → ForSome (R.known bytes.now) (λ G. length G ≡ size → IsErrOf result Stop.Read → ⊥) }
+{
+    let arena = Bump::new(alloc);
+    let file = KnownFile::new(bytes);
+    let mut source = ReadingSource::new(alloc, &arena, bytes, &file, size);
+    let all = whole(alloc, &mut source, size)?;
+    wants_in(alloc, all.as_slice())
+}

@@ -1,0 +1,15 @@
+//! The program for people, by what it is given: its arguments, its files, standard input and where it prints.
+#![tactic(auto)]
+
+pub mod file_kind;
+pub mod file_printing;
+pub mod found_laws;
+pub mod host;
+pub mod json_laws;
+pub mod key_line;
+pub mod key_objects;
+pub mod list_laws;
+pub mod messages;
+pub mod several_files;
+pub mod tasks;
+pub mod wanted;

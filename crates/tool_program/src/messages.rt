@@ -1,0 +1,175 @@
+//! What is printed on standard error.
+
+ghost use Rattle.std.specs.Prelude.{◌≡◌, ◌++◌, OnOk};
+ghost use Rattle.tool_program.specs.Messages.{about, other_key};
+
+use crate::file_kind::{FileKind, file_kind, put_kind};
+use crate::host::Host;
+use pdb_text::{put_one_line, write_out};
+use std::alloc::{AllocError, Global};
+use std::io::Write;
+use tool_arguments::closest::closest;
+use tool_arguments::messages::{put_mistake, word_at};
+use tool_arguments::mistakes::{Mistake, Wrong};
+use tool_arguments::options::value_in;
+use tool_output::fault::Fault;
+use tool_output::stop::{Stop, Unopened};
+
+/// What a file is that can't be opened as a PDB, and its size.
+type Kind = Option<(FileKind, u64)>;
+
+/// Why a file can't be opened.
+fn reason_of(why: Unopened) -> &'static str {
+    match why {
+        Unopened::Missing => "cannot read file: no such file",
+        Unopened::Directory => "cannot read file: it is a directory",
+        Unopened::Denied => "cannot read file: permission denied",
+        Unopened::NotText => "cannot read file: its name is not UTF-8",
+        Unopened::Other => "cannot read file",
+    }
+}
+
+/// Appends a line on a file.
+#[tactic(auto, unfolding(crate::specs::Messages::about))]
+fn put_about(out: &mut Vec<u8>, name: &str, text: &[u8]) -> Result<(), AllocError>
+    ensures { OnOk result (out.new.items ≡ out.old.items ++ about name.now text.now) }
+{
+    out.extend_from_slice(b"pdb_tool: ")?;
+    put_one_line(out, name.as_bytes())?;
+    out.extend_from_slice(b": ")?;
+    out.extend_from_slice(text)?;
+    out.extend_from_slice(b"\n")
+}
+
+/// Appends the error of a file that can't be opened, and what the file is instead.
+fn put_opening(out: &mut Vec<u8>, name: &str, e: pdb::Error, kind: Kind) -> Result<(), AllocError> {
+    let alloc = *out.allocator();
+    let mut text = format!(in alloc; "{e}")?.into_bytes();
+    if let Some((kind, size)) = kind {
+        text.extend_from_slice(b": ")?;
+        put_kind(&mut text, kind, size)?;
+    }
+    put_about(out, name, &text)
+}
+
+/// Appends what stopped a command over a file.
+fn put_stop(out: &mut Vec<u8>, stop: Stop, name: &str, kind: Kind) -> Result<(), AllocError> {
+    match stop {
+        Stop::Unopened(why) => put_about(out, name, reason_of(why).as_bytes()),
+        Stop::Read => put_about(out, name, b"cannot read file"),
+        Stop::Open(e) => put_opening(out, name, e, kind),
+        Stop::Image(e) => {
+            let text = format!(in *out.allocator(); "{e}")?;
+            put_about(out, name, text.as_bytes())
+        }
+        Stop::NoPdb => put_about(out, name, b"names no PDB"),
+        Stop::Memory => out.extend_from_slice(b"pdb_tool: out of memory\n"),
+        Stop::Write => out.extend_from_slice(b"pdb_tool: cannot write\n"),
+    }
+}
+
+/// What the file of a name is that couldn't be opened as a PDB; none of one that has no size, such as a pipe.
+fn kind_of<H: Host>(host: &H, stop: Stop, name: &str) -> Kind {
+    let Stop::Open(_) = stop else {
+        return None;
+    };
+    let (front, size) = host.front(name)?;
+    let kind = file_kind(&front, size)?;
+    Some((kind, size))
+}
+
+/// Appends what is wrong with an argument, and what to write instead.
+fn put_mistaken(out: &mut Vec<u8>, words: &[String], mistake: Mistake) -> Result<(), AllocError> {
+    let suggested = match mistake.wrong {
+        Wrong::UnknownCommand => closest(word_at(words, mistake.argument)),
+        _ => None,
+    };
+    put_mistake(out, words, mistake, suggested)
+}
+
+/// Appends a fault's lines. That a file isn't the wanted one was printed where it was found.
+fn put_fault<H: Host>(
+    host: &H,
+    out: &mut Vec<u8>,
+    fault: Fault,
+    words: &[String],
+) -> Result<(), AllocError> {
+    match fault {
+        Fault::Mistaken(mistake) => put_mistaken(out, words, mistake),
+        Fault::NotText(argument) => {
+            put_about(out, word_at(words, argument), b"the argument is not UTF-8")
+        }
+        Fault::NoInput => out.extend_from_slice(
+            b"pdb_tool: standard input is closed: no addresses can be read from it\n",
+        ),
+        Fault::Stopped(stop, argument) => {
+            let name = word_at(words, argument);
+            put_stop(out, stop, name, kind_of(host, stop, name))
+        }
+        Fault::Image(stop, value) => put_stop(out, stop, value_in(words, value), None),
+        Fault::OtherKey => Ok(()),
+    }
+}
+
+/// Appends that a file has a key, and another is wanted.
+#[tactic(auto, unfolding(crate::specs::Messages::other_key))]
+fn put_other_key(out: &mut Vec<u8>, name: &str, key: &[u8], wanted: &[u8]) -> Result<(), AllocError>
+    ensures { OnOk result (out.new.items ≡ out.old.items ++ other_key name.now key.now wanted.now) }
+{
+    let mut text = Vec::new(*out.allocator());
+    text.extend_from_slice(b"has the key ")?;
+    text.extend_from_slice(key)?;
+    text.extend_from_slice(b", and ")?;
+    text.extend_from_slice(wanted)?;
+    text.extend_from_slice(b" is wanted")?;
+    put_about(out, name, &text)
+}
+
+/// Writes a message that was composed; where there was no memory for it, that. Where standard error fails too, nobody
+/// can be told.
+fn tell<E: Write>(composed: Result<(), AllocError>, text: &[u8], err: &mut E) {
+    let _ = match composed {
+        Ok(()) => write_out(err, text),
+        Err(_) => write_out(err, b"pdb_tool: out of memory\n"),
+    };
+}
+
+/// Writes what stopped a command over a file.
+pub fn tell_stop<H: Host, E: Write>(host: &H, stop: Stop, name: &str, err: &mut E) {
+    let mut text = Vec::new(host.alloc());
+    let composed = put_stop(&mut text, stop, name, kind_of(host, stop, name));
+    tell(composed, &text, err);
+}
+
+/// Writes that a file has this key, and another is wanted.
+pub fn tell_other_key<E: Write>(alloc: Global, name: &str, key: &[u8], wanted: &[u8], err: &mut E) {
+    let mut text = Vec::new(alloc);
+    let composed = put_other_key(&mut text, name, key, wanted);
+    tell(composed, &text, err);
+}
+
+/// Writes that what was printed of a file has an error, and where to look.
+pub fn tell_damage<E: Write>(alloc: Global, name: &str, err: &mut E) {
+    let mut text = Vec::new(alloc);
+    let composed = put_about(
+        &mut text,
+        name,
+        b"a part of the file is damaged: see pdb_tool check",
+    );
+    tell(composed, &text, err);
+}
+
+/// Writes that addresses are read from a terminal.
+pub fn tell_reading<E: Write>(err: &mut E) {
+    let _ = write_out(
+        err,
+        b"pdb_tool: reading addresses from standard input, one a line\n",
+    );
+}
+
+/// Writes a fault. Where standard error fails, nobody can be told.
+pub fn tell_fault<H: Host, E: Write>(host: &H, fault: Fault, words: &[String], err: &mut E) {
+    let mut text = Vec::new(host.alloc());
+    let composed = put_fault(host, &mut text, fault, words);
+    tell(composed, &text, err);
+}

@@ -1,0 +1,17 @@
+use Rattle.pdb_resolve.specs.FileParts.{items_listed}
+use Rattle.pdb.proofs.Passing.{continues_then, may_after}
+use Rattle.tool_output.proofs.Stops.{halts_weaken}
+use Rattle.tool_search.proofs.lookups.print_find.Goals as goal
+
+pub returns-clause-prints : goal.returns-clause-prints
+unfolding items_listed
+returns-clause-prints g c = λ told.
+    let t3 = c.print_found.ensures.continues.told told in
+    let t2 = c.address_map.ensures.continues.told t3 in
+    let t1 = c.types_stream.ensures.continues.told t2 in
+    rw (c.in_ok-finder.ensures.is, c.as_ref.ensures.value, c.as_ref-2.ensures.value, (c.in_ok-ids.ensures.is t1), (c.in_ok-types.ensures.is t2), (c.in_ok-map.ensures.is t3), c.address_map.ensures.continues.file, c.types_stream.ensures.continues.file, c.ids_stream.ensures.continues.file) at (c.print_found.ensures.prints told)
+
+pub returns-clause-halts : goal.returns-clause-halts
+returns-clause-halts g c =
+    let on = continues_then _ _ _ (continues_then _ _ _ c.ids_stream.ensures.continues c.types_stream.ensures.continues) c.address_map.ensures.continues in
+    halts_weaken _ _ _ _ c.print_found.result (may_after _ _ _ on) c.print_found.ensures.halts
