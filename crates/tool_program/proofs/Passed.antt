@@ -23,7 +23,7 @@ pub on_err : {X E : Type 0} (r : Result X E) (P : E → Type 0) (Q : Type 0) →
 on_err (Ok x) P Q is h = absurd is
 on_err (Err e) P Q is h = h
 
-same_stop : {X : Type 0} (r : Result X Stop) (a b : Stop) → IsErrAnd r (λ x. x ≡ a) → IsErrOf r b → a ≡ b
+pub same_stop : {X : Type 0} (r : Result X Stop) (a b : Stop) → IsErrAnd r (λ x. x ≡ a) → IsErrOf r b → a ≡ b
 same_stop (Ok x) a b is of = absurd is
 same_stop (Err x) a b is of = let there : x ≡ b = cc in sym is ∙ there
 

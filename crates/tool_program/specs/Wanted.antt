@@ -3,6 +3,7 @@ use Rattle.std.specs.Prelude.{◌≡◌, ℕ, List, map, ◌⊎◌, Option, Some
 use Rattle.std.specs.Char.{to_ascii_uppercase}
 use Rattle.std.specs.List.{filter}
 use Rattle.std.specs.Str.{bytes_eq}
+use Rattle.pdb.specs.Container.{opens}
 use Rattle.pdb.specs.Error.{Error}
 use Rattle.pdb.specs.Refusal.{◌>>=◌}
 use Rattle.pdb.specs.Keys.{key_in, key_text}
@@ -55,3 +56,7 @@ IsPrinted file wanted text old new answer = (other_key file wanted ≡ Ok answer
 -- nothing was printed, or the file is the wanted one and a beginning of its text was
 abbrev pub IsHalted : List ℕ → Option (List ℕ) → Shown → Printing → Printing → Type 0
 IsHalted file wanted text old new = (new ≡ old) ⊎ ((other_key file wanted ≡ Ok None) × Halted text old new)
+
+-- why it can't be opened, or why it has no key to compare
+abbrev pub IsRefused : List ℕ → Option (List ℕ) → Error → Type 0
+IsRefused file wanted e = (opens file ≡ Err e) ⊎ (other_key file wanted ≡ Err e)

@@ -1,7 +1,9 @@
 //! What is printed of a file.
 
-ghost use Rattle.std.specs.Prelude.{◌≡◌, ⊤, false, true, Ok, Err, IfErr, IfOk, IfSome, IsErrOf, OnErr, length, option_copied};
+ghost use Rattle.std.specs.Prelude.{◌≡◌, ⊤, false, true, Ok, Err, IfErr, IfOk, IfSome, IsErrOf, OnErr, OnOk, length, option_copied};
 ghost use Rattle.std.specs.Option.{ForSome, option_map};
+ghost use Rattle.pdb.specs.Container.{opens};
+ghost use Rattle.pdb.specs.Error.{Error};
 ghost use Rattle.pdb.specs.Source.{Continues, IsKnown};
 ghost use Rattle.tool_addresses.specs.AnsweredLines.{lines_of};
 ghost use Rattle.tool_addresses.specs.RequestTexts.{address_shown, line_shown};
@@ -10,7 +12,7 @@ ghost use Rattle.tool_output.specs.WriteFailures.{failures_after};
 ghost use Rattle.tool_output.specs.declared.stop.Stop.{Stop};
 ghost use Rattle.tool_printing.specs.Printing.{Prints, all_shown};
 ghost use Rattle.tool_program.specs.FileTexts.{file_shown};
-ghost use Rattle.tool_program.specs.Wanted.{IsHalted, IsPrinted};
+ghost use Rattle.tool_program.specs.Wanted.{IsHalted, IsPrinted, IsRefused};
 
 use crate::wanted::other_key;
 use bumpalo::Bump;
@@ -102,6 +104,8 @@ pub fn print_file<R: ReadAt, P: Printer>(
     out: &mut P,
 ) -> Result<Option<Vec<u8>>, Stop>
     ensures printed { ForSome (R.known bytes.now) (λ G. length G ≡ size → IfOk result (λ o. IsPrinted G (option_copied wanted.entry) (file_shown G task.now) (P.state out.old) (P.state out.new) (option_map (λ v. v.items) o))) }
+    ensures opened { ForSome (R.known bytes.now) (λ G. length G ≡ size → OnOk result (opens G ≡ Ok tt)) }
+    ensures refused { ForSome (R.known bytes.now) (λ G. length G ≡ size → (e : Error) → IsErrOf result (Stop.Open e) → IsRefused G (option_copied wanted.entry) e) }
     ensures halted { ForSome (R.known bytes.now) (λ G. length G ≡ size → OnErr result (IsHalted G (option_copied wanted.entry) (file_shown G task.now) (P.state out.old) (P.state out.new))) }
     ensures stops { IfErr result (StopsCommand ⊤) }
     ensures steady { R.is_steady bytes.now ≡ true → ForSome (R.known bytes.now) (λ G. length G ≡ size → IsErrOf result Stop.Read → ⊥) }
@@ -132,6 +136,8 @@ pub fn answer_file<R: ReadAt, I: BufRead, P: Printer>(
     out: &mut P,
 ) -> Result<Option<Vec<u8>>, Stop>
     ensures printed { ForSome (R.known bytes.now) (λ G. length G ≡ size → IfSome (I.remaining input.old) (λ xs. IfOk result (λ o. IsPrinted G (option_copied wanted.entry) (all_shown (line_shown G options) (lines_of xs)) (P.state out.old) (P.state out.new) (option_map (λ v. v.items) o)))) }
+    ensures opened { ForSome (R.known bytes.now) (λ G. length G ≡ size → OnOk result (opens G ≡ Ok tt)) }
+    ensures refused { ForSome (R.known bytes.now) (λ G. length G ≡ size → (e : Error) → IsErrOf result (Stop.Open e) → IsRefused G (option_copied wanted.entry) e) }
     ensures halted { ForSome (R.known bytes.now) (λ G. length G ≡ size → IfSome (I.remaining input.old) (λ xs. OnErr result (IsHalted G (option_copied wanted.entry) (all_shown (line_shown G options) (lines_of xs)) (P.state out.old) (P.state out.new)))) }
     ensures stops { IfErr result (StopsCommand ⊤) }
     ensures failures { (P.state out.new).failures ≡ failures_after (P.state out.old).failures result }

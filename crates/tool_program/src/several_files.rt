@@ -1,9 +1,12 @@
 //! Commands over several files: their keys, and what is wrong with them.
 
-ghost use Rattle.std.specs.Prelude.{◌≡◌, IfOk, Ok, length, true};
+ghost use Rattle.std.specs.Prelude.{◌≡◌, ⊤, Err, IfErr, IfOk, IsErrOf, Ok, length, true};
 ghost use Rattle.std.specs.Option.{ForSome};
 ghost use Rattle.pdb.specs.Container.{opens};
+ghost use Rattle.pdb.specs.Error.{Error};
 ghost use Rattle.tool_output.specs.EachFile.{GivesText, file_text_view};
+ghost use Rattle.tool_output.specs.Stops.{StopsOpening};
+ghost use Rattle.tool_output.specs.declared.stop.Stop.{Stop};
 ghost use Rattle.tool_program.specs.SeveralFiles.{checked_by};
 
 use crate::host::Host;
@@ -65,6 +68,8 @@ fn check_file<R: ReadAt>(
     name: &[u8],
 ) -> Result<FileText, Stop>
     ensures gives { R.is_steady bytes.now ≡ true → ForSome (R.known bytes.now) (λ G. length G ≡ size → GivesText result (checked_by format name.now G (opens G))) }
+    ensures refused { ForSome (R.known bytes.now) (λ G. length G ≡ size → (e : Error) → IsErrOf result (Stop.Open e) → opens G ≡ Err e) }
+    ensures stops { IfErr result (StopsOpening ⊤) }
     ensures text { ForSome (R.known bytes.now) (λ G. length G ≡ size → IfOk result (λ p. checked_by format name.now G (opens G) ≡ Ok (file_text_view p))) }
 {
     let arena = Bump::new(alloc);

@@ -3,7 +3,6 @@
 ghost use Rattle.std.specs.Prelude.{◌≡◌, ◌≢◌, true, Ok, Err, IfOk, IfErr, IsErrOf, option_copied};
 ghost use Rattle.std.specs.Option.{option_map};
 ghost use Rattle.pdb.specs.Error.{Error};
-ghost use Rattle.pdb.specs.Keys.{key_in as key_of_file};
 ghost use Rattle.pdb.specs.Source.{Continues, MayFail};
 ghost use Rattle.tool_output.specs.Stops.{StopsOpening};
 ghost use Rattle.tool_output.specs.declared.stop.Stop.{Stop};
@@ -75,7 +74,7 @@ pub fn other_key<'s, S: Source<'s>>(
 ) -> Result<Option<Vec<u8>>, Stop>
     ensures continues { Continues pdb.old pdb.new }
     ensures compares { pdb.new.told ≡ true → IfOk result (λ o. other_key_of pdb.old.file (option_copied wanted.entry) ≡ Ok (option_map (λ v. v.items) o)) }
-    ensures refused { pdb.new.told ≡ true → (e : Error) → IsErrOf result (Stop.Open e) → key_of_file pdb.old.file ≡ Err e }
+    ensures refused { pdb.new.told ≡ true → (e : Error) → IsErrOf result (Stop.Open e) → other_key_of pdb.old.file (option_copied wanted.entry) ≡ Err e }
     ensures stops { IfErr result (StopsOpening (MayFail pdb.old pdb.new)) }
 {
     let Some(wanted) = wanted else {

@@ -1,6 +1,6 @@
-use Rattle.std.proofs.Common.{refl, inr}
+use Rattle.std.proofs.Common.{refl, inr, ap, Err, inl}
 use Rattle.pdb_file.proofs.Known.{known_at_first}
-use Rattle.tool_program.proofs.Passed.{if_some_on, if_some_there, on_err}
+use Rattle.tool_program.proofs.Passed.{if_some_on, if_some_there, on_err, same_stop}
 use Rattle.tool_program.proofs.file_printing.answer_file.Goals as goal
 
 pub returns-in-Some-clause-printed : goal.returns-in-Some-clause-printed
@@ -29,3 +29,26 @@ returns-clause-printed g c = λ G known size.
     let told = (c.answer_lines.ensures.continues.known (on.known compared)).1 in
     let printed = rw (on.file, c.other_key.ensures.continues.file, c.in_ok-pdb.ensures.file, here.1) at (c.in_ok-answer_lines-in-None.ensures.prints told) in
     if_some_on _ _ (g.I.Read.remaining c.args.input.now) (λ xs h. (other, h)) printed
+
+pub returns-in_err-pdb-clause-refused : goal.returns-in_err-pdb-clause-refused
+returns-in_err-pdb-clause-refused g c = λ G known size e of.
+    let here = known_at_first _ _ _ _ _ G c.new-source.ensures c.new-file.ensures known size in
+    let refused = rw here.1 at (c.in_err-pdb.ensures.refused here.0) in
+    inl (refused e (ap Err (same_stop c.from_residual.result _ _ c.from_residual.ensures.1 of)))
+
+pub returns-in_err-key-clause-refused : goal.returns-in_err-key-clause-refused
+returns-in_err-key-clause-refused g c = λ G known size e of.
+    let here = known_at_first _ _ _ _ _ G c.new-source.ensures c.new-file.ensures known size in
+    let told = (c.other_key.ensures.continues.known (c.in_ok-pdb.ensures.continues.known here.0)).1 in
+    let refused = rw (c.in_ok-pdb.ensures.file, here.1) at (c.in_err-key.ensures.refused told) in
+    inr (refused e (ap Err (same_stop c.from_residual-in_err-key.result _ _ c.from_residual-in_err-key.ensures.1 of)))
+
+pub returns-in-Some-clause-opened : goal.returns-in-Some-clause-opened
+returns-in-Some-clause-opened g c = λ G known size.
+    let here = known_at_first _ _ _ _ _ G c.new-source.ensures c.new-file.ensures known size in
+    rw here.1 at (c.in_ok-pdb.ensures.opened (c.in_ok-pdb.ensures.continues.known here.0).1)
+
+pub returns-clause-opened : goal.returns-clause-opened
+returns-clause-opened g c = λ G known size.
+    let here = known_at_first _ _ _ _ _ G c.new-source.ensures c.new-file.ensures known size in
+    rw here.1 at (c.in_ok-pdb.ensures.opened (c.in_ok-pdb.ensures.continues.known here.0).1)

@@ -1,6 +1,6 @@
-use Rattle.std.proofs.Common.{refl, sym, ◌∙◌, inr, true≢false}
+use Rattle.std.proofs.Common.{refl, sym, ◌∙◌, inr, true≢false, ap, Err, inl}
 use Rattle.pdb_file.proofs.Known.{known_at_first, steady_at_first}
-use Rattle.tool_program.proofs.Passed.{on_err, unread_writing}
+use Rattle.tool_program.proofs.Passed.{on_err, unread_writing, same_stop}
 use Rattle.tool_program.proofs.file_printing.print_file.Goals as goal
 
 pub returns-in-Some-clause-printed : goal.returns-in-Some-clause-printed
@@ -31,3 +31,26 @@ returns-clause-printed g c = λ G known size.
     let other = rw (c.in_ok-pdb.ensures.file, here.1, c.in-None.is) at (c.in_ok-key.ensures.compares compared.1) in
     let printed = rw (c.other_key.ensures.continues.file, c.in_ok-pdb.ensures.file, here.1) at (c.in_ok-print_task-in-None.ensures.prints compared) in
     (other, printed)
+
+pub returns-in_err-pdb-clause-refused : goal.returns-in_err-pdb-clause-refused
+returns-in_err-pdb-clause-refused g c = λ G known size e of.
+    let here = known_at_first _ _ _ _ _ G c.new-source.ensures c.new-file.ensures known size in
+    let refused = rw here.1 at (c.in_err-pdb.ensures.refused here.0) in
+    inl (refused e (ap Err (same_stop c.from_residual.result _ _ c.from_residual.ensures.1 of)))
+
+pub returns-in_err-key-clause-refused : goal.returns-in_err-key-clause-refused
+returns-in_err-key-clause-refused g c = λ G known size e of.
+    let here = known_at_first _ _ _ _ _ G c.new-source.ensures c.new-file.ensures known size in
+    let told = (c.other_key.ensures.continues.known (c.in_ok-pdb.ensures.continues.known here.0)).1 in
+    let refused = rw (c.in_ok-pdb.ensures.file, here.1) at (c.in_err-key.ensures.refused told) in
+    inr (refused e (ap Err (same_stop c.from_residual-in_err-key.result _ _ c.from_residual-in_err-key.ensures.1 of)))
+
+pub returns-in-Some-clause-opened : goal.returns-in-Some-clause-opened
+returns-in-Some-clause-opened g c = λ G known size.
+    let here = known_at_first _ _ _ _ _ G c.new-source.ensures c.new-file.ensures known size in
+    rw here.1 at (c.in_ok-pdb.ensures.opened (c.in_ok-pdb.ensures.continues.known here.0).1)
+
+pub returns-clause-opened : goal.returns-clause-opened
+returns-clause-opened g c = λ G known size.
+    let here = known_at_first _ _ _ _ _ G c.new-source.ensures c.new-file.ensures known size in
+    rw here.1 at (c.in_ok-pdb.ensures.opened (c.in_ok-pdb.ensures.continues.known here.0).1)
