@@ -15,7 +15,7 @@ use Rattle.tool_output.specs.Stops.{stop_of_opening}
 use Rattle.tool_arguments.specs.declared.options.OutputFormat.{OutputFormat}
 use Rattle.tool_arguments.specs.declared.options.OutputFormat.TheVariants.{Text, Json as Objects}
 use Rattle.tool_output.specs.declared.stop.Stop.{Stop}
-use Rattle.tool_output.specs.declared.stop.Stop.TheVariants.{Image}
+use Rattle.tool_output.specs.declared.stop.Stop.TheVariants.{Image, Memory, Open, Read}
 
 -- an image's own key: its time stamp in eight upper hex digits, and its size in lower ones
 unfoldable pub own_key : ℕ → ℕ → List ℕ
@@ -67,3 +67,11 @@ pdb_line format name (Err e) = Err (stop_of_opening e)
 -- the line of a file of this name, or why it has none
 unfoldable pub key_line : OutputFormat → List ℕ → List ℕ → Result (List ℕ) Stop
 key_line format name file = if is_image file then image_line format name (image_of file) else pdb_line format name (key_of_file file)
+
+-- why a file has no line: a read error only where io holds
+abbrev pub StopsLine : Type 0 → Stop → Type 0
+StopsLine io Memory = Unit {0}
+StopsLine io Read = io
+StopsLine io (Open e) = Unit {0}
+StopsLine io (Image e) = Unit {0}
+StopsLine io stop = ⊥

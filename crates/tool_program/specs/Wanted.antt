@@ -12,7 +12,7 @@ use Rattle.pdb_image.specs.Debug.{Reference}
 use Rattle.pdb_image.specs.Images.{Said, image_of}
 use Rattle.tool_arguments.specs.Options.{is_key_digit}
 use Rattle.tool_output.specs.declared.stop.Stop.{Stop}
-use Rattle.tool_output.specs.declared.stop.Stop.TheVariants.{Image, NoPdb}
+use Rattle.tool_output.specs.declared.stop.Stop.TheVariants.{Image, Memory, NoPdb, Open, Read}
 use Rattle.tool_printing.specs.Printing.{Halted, Printed, Printing, Shown}
 
 -- the key that a value of `--key` spells: its hex digits, the letters as upper ones
@@ -60,3 +60,12 @@ IsHalted file wanted text old new = (new ≡ old) ⊎ ((other_key file wanted �
 -- why it can't be opened, or why it has no key to compare
 abbrev pub IsRefused : List ℕ → Option (List ℕ) → Error → Type 0
 IsRefused file wanted e = (opens file ≡ Err e) ⊎ (other_key file wanted ≡ Err e)
+
+-- why an image wants nothing: a read error only where io holds
+abbrev pub StopsImage : Type 0 → Stop → Type 0
+StopsImage io Memory = Unit {0}
+StopsImage io Read = io
+StopsImage io (Open e) = Unit {0}
+StopsImage io (Image e) = Unit {0}
+StopsImage io NoPdb = Unit {0}
+StopsImage io stop = ⊥

@@ -1,14 +1,14 @@
 //! The lines of `key`: of a PDB, and of an image with the PDB that it names.
 
-ghost use Rattle.std.specs.Prelude.{◌≡◌, ◌≢◌, ◌↔◌, ◌<◌, ◌++◌, true, false, Some, Ok, Err, IfOk, IfErr, IsErrOf, OnOk, Option, length};
+ghost use Rattle.std.specs.Prelude.{◌≡◌, ◌≢◌, ◌↔◌, ◌<◌, ◌++◌, true, false, Some, Ok, Err, IfOk, IfErr, IsErrOf, OnOk, Option, length, ⊤};
 ghost use Rattle.std.specs.Option.{ForSome, option_map};
 ghost use Rattle.pdb.specs.Error.{Error};
 ghost use Rattle.pdb.specs.Refusal.{Gives};
 ghost use Rattle.pdb.specs.Source.{Continues, IsKnown, MayFail, view_bytes};
 ghost use Rattle.pdb_image.specs.Headers.{is_image};
 ghost use Rattle.pdb_image.specs.Images.{image_of, reference, said};
-ghost use Rattle.tool_program.specs.KeyLines.{image_in as line_of_image, image_line as image_line_of, image_text as text_of_image, key_line as key_line_of, own_key, pdb_in as line_of_pdb, pdb_named, pdb_text as text_of_pdb};
-ghost use Rattle.tool_program.specs.Wanted.{wants_in as wants_there};
+ghost use Rattle.tool_program.specs.KeyLines.{StopsLine, image_in as line_of_image, image_line as image_line_of, image_text as text_of_image, key_line as key_line_of, own_key, pdb_in as line_of_pdb, pdb_named, pdb_text as text_of_pdb};
+ghost use Rattle.tool_program.specs.Wanted.{StopsImage, wants_in as wants_there};
 ghost use Rattle.tool_output.specs.Stops.{StopsComposing, StopsOpening};
 ghost use Rattle.tool_output.specs.declared.stop.Stop.{Stop};
 
@@ -99,6 +99,7 @@ fn image_line(
 ) -> Result<Vec<u8>, Stop>
     ensures line { IfOk result (λ v. image_line_of format name.now (image_of bytes.now) ≡ Ok v.items) }
     ensures stopped { (s : Stop) → s ≢ Stop.Memory → IsErrOf result s → image_line_of format name.now (image_of bytes.now) ≡ Err s }
+    ensures stops { IfErr result (StopsLine ⊥) }
 {
     match Image::parse(bytes) {
         Ok(image) => Ok(image_in(alloc, format, image, name)?),
@@ -183,6 +184,7 @@ fn line_of<'s, S: Source<'s>>(
     ensures line { IsKnown (S.state source) → length (S.state source).file ≡ size → IfOk result (λ v. key_line_of format name.now (S.state source).file ≡ Ok v.items) }
     ensures stopped { IsKnown (S.state source) → length (S.state source).file ≡ size → (s : Stop) → s ≢ Stop.Memory → s ≢ Stop.Read → IsErrOf result s → key_line_of format name.now (S.state source).file ≡ Err s }
     ensures steady { IsErrOf result Stop.Read → (S.state source).steady ≡ false }
+    ensures stops { IfErr result (StopsLine ⊤) }
 {
     if begins_as_image(alloc, &mut source).map_err(stop_of_opening)? {
         let bytes = whole(alloc, &mut source, size)?;
@@ -204,6 +206,7 @@ pub fn key_line<R: ReadAt>(
     ensures line { ForSome (R.known bytes.now) (λ G. length G ≡ size → IfOk result (λ v. key_line_of format name.now G ≡ Ok v.items)) }
     ensures stopped { ForSome (R.known bytes.now) (λ G. length G ≡ size → (s : Stop) → s ≢ Stop.Memory → s ≢ Stop.Read → IsErrOf result s → key_line_of format name.now G ≡ Err s) }
     ensures steady { R.is_steady bytes.now ≡ true → ForSome (R.known bytes.now) (λ G. length G ≡ size → IsErrOf result Stop.Read → ⊥) }
+    ensures stops { IfErr result (StopsLine ⊤) }
 {
     let arena = Bump::new(alloc);
     let file = KnownFile::new(bytes);
@@ -216,6 +219,7 @@ pub fn image_wants<R: ReadAt>(alloc: Global, bytes: &R, size: u64) -> Result<Ima
     ensures wants { ForSome (R.known bytes.now) (λ G. length G ≡ size → IfOk result (λ w. wants_there G ≡ Ok (record { key = w.key.items; base = w.base }))) }
     ensures stopped { ForSome (R.known bytes.now) (λ G. length G ≡ size → (s : Stop) → s ≢ Stop.Memory → s ≢ Stop.Read → IsErrOf result s → wants_there G ≡ Err s) }
     ensures steady { R.is_steady bytes.now ≡ true → ForSome (R.known bytes.now) (λ G. length G ≡ size → IsErrOf result Stop.Read → ⊥) }
+    ensures stops { IfErr result (StopsImage ⊤) }
 {
     let arena = Bump::new(alloc);
     let file = KnownFile::new(bytes);

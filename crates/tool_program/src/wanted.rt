@@ -6,7 +6,7 @@ ghost use Rattle.pdb.specs.Error.{Error};
 ghost use Rattle.pdb.specs.Source.{Continues, MayFail};
 ghost use Rattle.tool_output.specs.Stops.{StopsOpening};
 ghost use Rattle.tool_output.specs.declared.stop.Stop.{Stop};
-ghost use Rattle.tool_program.specs.Wanted.{other_key as other_key_of, other_than, wanted_key, wants_in as wants_there};
+ghost use Rattle.tool_program.specs.Wanted.{StopsImage, other_key as other_key_of, other_than, wanted_key, wants_in as wants_there};
 
 use pdb::{PDB, Source, key_in, key_text};
 use pdb_image::Image;
@@ -40,6 +40,7 @@ pub fn wanted_key(alloc: Global, value: &str) -> Result<Vec<u8>, AllocError>
 pub fn wants_in(alloc: Global, bytes: &[u8]) -> Result<ImageWants, Stop>
     ensures wants { IfOk result (λ w. wants_there bytes.now ≡ Ok (record { key = w.key.items; base = w.base })) }
     ensures stopped { (s : Stop) → s ≢ Stop.Memory → IsErrOf result s → wants_there bytes.now ≡ Err s }
+    ensures stops { IfErr result (StopsImage ⊥) }
 {
     let image = match Image::parse(bytes) {
         Ok(image) => image,
