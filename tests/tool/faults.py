@@ -20,12 +20,12 @@ def refused_memory(sample, room):
                          (["symbols", sample], b""), (["symbols", sample, "0", "0"], b""), (["check", sample, sample], b""),
                          (["find", sample, "*"], b""), (["where", sample, "a.c"], b""), (["sources", sample, "0", "1"], b""),
                          (["modules", sample], b""), (["sections", sample], b""), (["types", sample, "74", "603"], b"")):
-        _, whole, _ = ran(*words, given=given)
-        texts = [rb"\n\n", rb"size=4 int\n", rb"no\n", rb"a.c:2:0\n", rb"none\n", rb"S_END\n", rb": ok\n", rb"pdb\n", rb"- g\n"]
+        ends_with, whole, _ = ran(*words, given=given)
+        texts = [rb"\n\n", rb"size=4 int\n", rb"no\n", rb"a.c:2:0\n", rb"none\n", rb"S_END\n", rb"record does\n", rb"pdb\n", rb"- g\n"]
         ends = {0, len(whole)} | {it.end() for text in texts for it in re.finditer(text, whole)}
         for n in range(1, 5000):
             is_refused, (status, out, err) = ran_refused(n, words, given, refuse, room)
-            if status == 0 and out == whole:
+            if status == ends_with and out == whole:
                 # What is only asked for before a text is written, to be read, needs no memory.
                 tell(n > 3 or is_refused, f"{words[0]} asks for memory", n)
                 if not is_refused:
@@ -57,7 +57,7 @@ def writers_that_fail(sample, room):
                          (["variables", sample, "1:108", "2:0"], b""), (["symbols", sample, "0"], b""), (["check", sample, sample], b""), (["find", sample, "*"], b""),
                          (["where", sample, "a.c"], b""), (["sources", sample], b""), (["modules", sample], b""), (["sections", sample], b""),
                          (["types", sample, "74", "1000"], b"")):
-        _, whole, _ = ran(*words, given=given)
+        ends_with, whole, _ = ran(*words, given=given)
         for most in range(len(whole) + 1):
             with open(f"{room}/out", "w+b") as out:
                 # The signal of a file that is too long stays ignored, as this interpreter has it.
@@ -65,7 +65,7 @@ def writers_that_fail(sample, room):
                                       restore_signals=False, preexec_fn=lambda most=most: taking(most))
                 out.seek(0)
                 said = done.returncode, out.read(), done.stderr
-            wanted = (6, whole[:most], b"pdb_tool: cannot write\n") if most < len(whole) else (0, whole, b"")
+            wanted = (6, whole[:most], b"pdb_tool: cannot write\n") if most < len(whole) else (ends_with, whole, b"")
             if said != wanted:
                 tell(False, f"{words[0]} where {most} bytes are taken", said)
                 break

@@ -4,7 +4,7 @@ import os
 import shutil
 import subprocess
 
-from program import NO_ADDRESS, NO_MODULE, TOOL, compare, notice_of, ran, tell, usage_of, wrong
+from program import NO_ADDRESS, NO_MODULE, TOOL, compare, found_in_sample, notice_of, ran, tell, usage_of, wrong
 
 MANY = 2000
 LINES = 1_000_001
@@ -20,7 +20,7 @@ def many_arguments(sample):
     status, out, err = ran("symbols", sample, *MANY * ["0"])
     tell((status, out.count(head), err) == (0, MANY, b""), "symbols of 2,000 modules", (status, err))
     compare("2,000 addresses", (0, MANY * b"main\na.c:1:0\n\n", b""), "resolve", sample, *MANY * ["1100"])
-    compare("2,000 files with errors", (0, MANY * f"{sample}: ok\n".encode(), b""), "check", *MANY * [sample])
+    compare("2,000 files with errors", (1, MANY * found_in_sample(sample.encode()), b""), "check", *MANY * [sample])
     status, out, err = ran("key", *MANY * [sample])
     tell((status, out.count(b"\n"), err) == (0, MANY, b""), "2,000 keys", (status, err))
 
@@ -34,9 +34,9 @@ def order_of_faults(sample):
     """Arguments are judged before a file is opened; one file's error is told, and the next follows."""
     compare("a bad word and no file", wrong(NO_ADDRESS % b"zz", usage_of("resolve")), "resolve", "nowhere.pdb", "zz")
     compare("a bad number and no file", wrong(NO_MODULE % b"zz", usage_of("lines")), "lines", "nowhere.pdb", "0", "zz")
-    ok = f"{sample}: ok\n".encode()
+    found = found_in_sample(sample.encode())
     unread = b"pdb_tool: nowhere.pdb: cannot read file: no such file\n"
-    for words, out in ((["nowhere.pdb", sample], ok), ([sample, "nowhere.pdb"], ok), (["nowhere.pdb", sample, sample], ok + ok)):
+    for words, out in ((["nowhere.pdb", sample], found), ([sample, "nowhere.pdb"], found), (["nowhere.pdb", sample, sample], found + found)):
         compare(f"check of {len(words)} files, of which one isn't there", (1, out, unread), "check", *words)
 
 
@@ -49,7 +49,7 @@ def names_of_every_kind(sample, room):
         shutil.copyfile(sample, file)
         compare(f"the key of {name!r}", (0, key + b" " + file.encode() + b"\n", b""), "key", file)
         done = subprocess.run([TOOL, "check", "--", name], cwd=room, capture_output=True, check=False)
-        tell((done.returncode, done.stdout) == (0, f"{name}: ok\n".encode()), f"check of {name!r}", done)
+        tell((done.returncode, done.stdout) == (1, found_in_sample(name.encode())), f"check of {name!r}", done)
 
 
 def names_with_line_ends(sample, room):
@@ -57,7 +57,7 @@ def names_with_line_ends(sample, room):
     file, shown = f"{room}/a\r\nb.pdb", f"{room}/a  b.pdb".encode()
     shutil.copyfile(sample, file)
     compare("a key behind a line end", (0, b"00112233445566778899AABBCCDDEEFF2 " + shown + b"\n", b""), "key", file)
-    compare("a check behind a line end", (0, shown + b": ok\n", b""), "check", file)
+    compare("a check behind a line end", (1, found_in_sample(shown), b""), "check", file)
     tell(json.loads(ran("key", "--json", file)[1])["file"] == file, "the object of a name with a line end")
     other = shown + b": has the key 00112233445566778899AABBCCDDEEFF2, and 00000000000000000000000000000000A is wanted\n"
     compare("another key behind a line end", (7, b"", b"pdb_tool: " + other), "resolve", f"--key={31 * '0'}0A", file, "1:0")

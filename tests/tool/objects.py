@@ -6,14 +6,14 @@ import random
 import shutil
 
 import program
-from program import FILES, REAL, compare, ran, tell, wrong
+from program import FILES, REAL, SAMPLE_TEXT, SAMPLE_WHERE, compare, ran, tell, wrong
 
 SAMPLE = b"""{"asked":"1:108","frames":[{"name":null,"file":"a.c","line":10,"column":0},{"name":"main","file":"a.c","line":2,"column":0}]}
 {"asked":"2:0","frames":[{"name":null,"file":null,"line":0,"column":0}]}
 """
 LISTS = {
     "sources": b'{"module":0,"checksum":"md5","digest":"000102030405060708090a0b0c0d0e0f","file":"a.c"}\n',
-    "check": b'{"file":"%s","where":null,"text":null}\n',
+    "check": b'{"file":"%s","where":"' + SAMPLE_WHERE + b'","text":"' + SAMPLE_TEXT + b'"}\n',
     "modules": b'{"module":0,"bytes":48,"name":"a.obj","object":null}\n',
     "sections": b'{"section":1,"rva":"0x1000","size":4096,"flags":"60000020","name":".text"}\n',
     "key": b'{"key":"00112233445566778899AABBCCDDEEFF2","file":"%s"}\n',
@@ -201,7 +201,7 @@ def objects_of_the_sample(sample):
     compare("objects of lines that are no address", (0, bad, b""), "resolve", sample, "--json", given=b" x\t\"\xff\x01\n\n")
     for command, text in LISTS.items():
         text = text % sample.encode() if b"%s" in text else text
-        compare(f"objects of {command}", (0, text, b""), command, "--json", sample)
+        compare(f"objects of {command}", (int(command == "check"), text, b""), command, "--json", sample)
     for command in "modules", "sections", "streams", "key", "sources", "check":
         same(f"{command} of the sample", command, sample)
     compare("objects of find", (0, FOUND, b""), "find", sample, "*", "--json")
@@ -212,7 +212,7 @@ def objects_of_the_sample(sample):
     sources = none % 9 + LISTS["sources"] + none % 4294967295
     compare("sources of modules", (0, sources, b""), "sources", sample, "9", "0", "4294967295", "--json")
     two = (LISTS["check"] % sample.encode()) * 2
-    compare("check of two files", (0, two, b""), "check", "--json", sample, sample)
+    compare("check of two files", (1, two, b""), "check", "--json", sample, sample)
 
 
 def objects_of_real_files():
@@ -259,4 +259,4 @@ def objects(sample, room):
     written = json.dumps(odd).encode()
     key = LISTS["key"].replace(b'"%s"', written)
     compare("a name with a quote", (0, key, b""), "key", "--json", odd)
-    compare("a name with a quote", (0, LISTS["check"].replace(b'"%s"', written), b""), "check", "--json", odd)
+    compare("a name with a quote", (1, LISTS["check"].replace(b'"%s"', written), b""), "check", "--json", odd)

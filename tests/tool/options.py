@@ -5,7 +5,7 @@ import subprocess
 import threading
 
 from images import hand_made_image
-from program import NO_ADDRESS, NO_BASE, NO_MODULE, NO_TYPE, OPTIONS_OF_RESOLVE, TOOL, compare, ran, tell, usage_of, wrong
+from program import NO_ADDRESS, NO_BASE, NO_MODULE, NO_TYPE, OPTIONS_OF_RESOLVE, TOOL, compare, found_in_sample, ran, tell, usage_of, wrong
 
 KEY = "00112233445566778899AABBCCDDEEFF2"
 MAIN = b"main\na.c:1:0\n\n"
@@ -53,7 +53,7 @@ def options_of_a_command(sample, command):
             given = [sample, *operands]
             texts += [ran(command, *given[:at], *way, *given[at:]) for at in range(len(given) + 1)]
             texts.append(ran(command, *way, "--", *given))
-        tell(all(it == texts[0] for it in texts) and (texts[0][0] == 0 or option == "--image"), f"{option} of {command} stands anywhere", texts)
+        tell(all(it == texts[0] for it in texts) and (texts[0][0] == int(command == "check") or option == "--image"), f"{option} of {command} stands anywhere", texts)
         twice = wrong(option.encode() + b" is given twice", usage)
         for way in ways:
             compare(f"{way} of {command} twice", twice, command, *ways[0], sample, *operands, *way)
@@ -168,7 +168,7 @@ def pipes_as_files(sample, room):
     for what, wanted, content, words, given in (
         ("modules", (0, listed, b""), data, ["modules", pipe], b""),
         ("a key", (0, KEY.encode() + b" " + shown + b"\n", b""), data, ["key", pipe], b""),
-        ("a check", (0, shown + b": ok\n", b""), data, ["check", pipe], b""),
+        ("a check", (1, found_in_sample(shown), b""), data, ["check", pipe], b""),
         ("an address", (0, MAIN, b""), data, ["resolve", f"--image={image}", pipe, "140001100"], b""),
         ("lines", (0, MAIN, b""), data, ["resolve", pipe], b"1:100\n"),
         ("an image", (0, MAIN, b""), image_of_the_sample(), ["resolve", "--image", pipe, sample, "140001100"], b""),

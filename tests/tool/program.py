@@ -70,13 +70,22 @@ def unknown(word, closest=b""):
     return wrong(b"unknown command: " + word + (b"; did you mean " + closest + b"?" if closest else b""), b"commands: " + COMMANDS + b"\n")
 
 
+# What `check` finds in the sample: a record of S_FRAMEPROC that is cut, among the global symbols.
+SAMPLE_WHERE, SAMPLE_TEXT = b"global symbol 00000058", b"the data ends before a record does"
+
+
+def found_in_sample(file):
+    """The line of `check` on the sample, under this name."""
+    return file + b": " + SAMPLE_WHERE + b": " + SAMPLE_TEXT + b"\n"
+
+
 def notice_of(file):
     """The message that a part of a file is damaged."""
     return f"pdb_tool: {file}: a part of the file is damaged: see pdb_tool check\n".encode()
 
 
-# The line of an error, which of members of types stands behind two blanks.
-ERROR_LINE = re.compile(rb"(?m)^(?:  )?error \d+ ")
+# The line of an error, which of members of types stands behind two blanks; and that of a list of them that has no end.
+ERROR_LINE = re.compile(rb"(?m)^(?:  )?error (?:\d+ |the list of members continues in itself$)")
 
 
 def damage_notice(file, out):

@@ -46,10 +46,10 @@ impl<R: ReadAt + Drop> ReadAt for FileBytes<R> {
         }
     }
 
-    fn lent_at(&self, at: u64, size: usize) -> Option<&[u8]> {
+    fn borrow_at(&self, at: u64, size: usize) -> Option<&[u8]> {
         match self {
-            FileBytes::InParts(file, _) => file.lent_at(at, size),
-            FileBytes::Whole(bytes) => bytes.lent_at(at, size),
+            FileBytes::InParts(file, _) => file.borrow_at(at, size),
+            FileBytes::Whole(bytes) => bytes.borrow_at(at, size),
         }
     }
 

@@ -32,7 +32,7 @@ pub trait ReadAt {
         ensures steady { is_steady self.now ≡ true → ForSome (known self.now) (λ F. at < length F → 0 < length buf.new → IsOkAnd result (λ n. 0 < n)) };
 
     /// So many bytes from an offset on, where they are in memory already: none is read then.
-    fn lent_at(&self, at: u64, size: usize) -> Option<&[u8]>
+    fn borrow_at(&self, at: u64, size: usize) -> Option<&[u8]>
         ensures size { IfSome result (λ p. length p.now ≡ size) }
         ensures told { IfSome result (λ p. ForSome (known self.now) (λ F. at ≤ length F → IsPart F at p.now)) };
 
@@ -50,7 +50,7 @@ impl ReadAt for File {
         self.read_at(buf, at)
     }
 
-    fn lent_at(&self, _at: u64, _size: usize) -> Option<&[u8]> {
+    fn borrow_at(&self, _at: u64, _size: usize) -> Option<&[u8]> {
         None
     }
 
@@ -75,7 +75,7 @@ impl ReadAt for Vec<u8> {
         Ok(count)
     }
 
-    fn lent_at(&self, at: u64, size: usize) -> Option<&[u8]> {
+    fn borrow_at(&self, at: u64, size: usize) -> Option<&[u8]> {
         if at > self.len() as u64 {
             return None;
         }
@@ -153,7 +153,7 @@ fn read_run<'s, R: ReadAt>(
     ensures len { IfOk result (λ v. length v.now ≡ size) }
     ensures steady { R.is_steady input.now ≡ true → ForSome (R.known input.now) (λ F. from + size ≤ length F → length F < 2 ^ 64 → IfErr result (λ e. e ≡ FetchError.Memory)) }
 {
-    if let Some(bytes) = input.lent_at(from, size) {
+    if let Some(bytes) = input.borrow_at(from, size) {
         return Ok(bytes);
     }
     let mut bytes = zeros(arena, size)?;

@@ -167,7 +167,7 @@ impl<'b> ReadAt for Counted<'b> {
         Ok(count)
     }
 
-    fn lent_at(&self, _at: u64, _size: usize) -> Option<&[u8]> {
+    fn borrow_at(&self, _at: u64, _size: usize) -> Option<&[u8]> {
         None
     }
 

@@ -1,3 +1,4 @@
+pub mod FilesTold
 pub mod Refused
 pub mod Wrote
 pub mod Spelling

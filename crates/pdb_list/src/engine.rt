@@ -88,7 +88,7 @@ fn put_of_module(
     match command {
         Command::Symbols(_) => put_symbols_of(alloc, out, info),
         Command::Lines(_) => put_lines(alloc, out, info),
-        Command::Files(_) => put_files(alloc, out, info),
+        Command::Files(_) => put_files(out, info),
         Command::Inlinees(_) => put_inlinees(alloc, out, info),
         Command::Imports(_, index) => put_import(alloc, out, info, index),
         Command::Exports(_) => put_exports(alloc, out, info),

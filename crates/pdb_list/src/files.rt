@@ -8,7 +8,7 @@ ghost use Rattle.pdb_list.specs.ModuleTexts.{checksum_text, digest_text, file_li
 use crate::text::{put_error, put_refusal};
 use pdb::{FallibleIterator, FileChecksum, FileInfo, FileIterator, ModuleInfo};
 use pdb_text::{put_decimal, put_hex_bytes, put_line_end};
-use std::alloc::{AllocError, Global};
+use std::alloc::AllocError;
 
 /// The bytes of a digest in hex digits, behind a space where there are any.
 fn put_digest(out: &mut Vec<u8>, digest: &[u8]) -> Result<(), AllocError>
@@ -68,12 +68,12 @@ fn put_list(out: &mut Vec<u8>, mut files: FileIterator<'_>) -> Result<(), AllocE
 }
 
 /// The lines of a module's files, or of the error of its line program.
-#[tactic(auto, unfolding(crate::specs::ModuleTexts::files_of_text))]
-pub fn put_files(alloc: Global, out: &mut Vec<u8>, info: &ModuleInfo<'_>) -> Result<(), AllocError>
+#[tactic(auto, using(crate::proofs::FilesTold::files_told))]
+pub fn put_files(out: &mut Vec<u8>, info: &ModuleInfo<'_>) -> Result<(), AllocError>
     ensures { OnOk result (out.new.items ≡ out.old.items ++ files_of_text info.now) }
 {
-    match info.line_program(alloc) {
-        Ok(program) => put_list(out, program.files()),
+    match info.files() {
+        Ok(files) => put_list(out, files),
         Err(e) => put_refusal(out, e),
     }
 }

@@ -96,7 +96,7 @@ impl<'b> ReadAt for Places<'b> {
         Ok(count)
     }
 
-    fn lent_at(&self, _at: u64, _size: usize) -> Option<&[u8]> {
+    fn borrow_at(&self, _at: u64, _size: usize) -> Option<&[u8]> {
         None
     }
 

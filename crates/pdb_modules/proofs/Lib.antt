@@ -19,6 +19,7 @@ pub mod ExportLemmas
 pub mod FileLemmas
 pub mod Refusals
 pub mod SubsectionLemmas
+pub mod WholePieces
 pub mod ProgramPieces
 pub mod ProgramAnswers
 pub mod Among

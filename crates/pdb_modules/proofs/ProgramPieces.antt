@@ -18,128 +18,80 @@ use Rattle.pdb_modules.specs.LineOrder.{ordered}
 use Rattle.pdb_modules.specs.Subsections.{PieceBytes, piece_at, piece_length, all_or_fault}
 use Rattle.pdb_modules.specs.SubsectionViews.{bytes_of_piece}
 use Rattle.pdb_modules.specs.ProgramParts.{is_short, whole_piece, whole_piece_at, whole_pieces_from, lines_subsection, as_lines, later_checksums, last_checksums, lines_listed, parts_among, PartsOf, parts_of}
-use Rattle.pdb_modules.proofs.Refusals.{NotIo, not_io_then, fails_with}
-use Rattle.pdb_modules.proofs.SubsectionLemmas.{pieces_within, piece_not_io}
-use Rattle.pdb_modules.proofs.Turns.{turn_follows, turn_fault, turn_end}
-
-same_piece : (short : Bool) (x y : PieceBytes) → cond short (Err UnexpectedEof) (Ok x) ≡ Ok y → x ≡ y
-same_piece true x y h = absurd cc
-same_piece false x y h = cc
-
-pub whole_within : ReadsInside whole_piece_at piece_length
-unfolding whole_piece_at
-whole_within = record {
-  inside = λ b p x e.
-      let (piece, e1, rest) = bind_ok (piece_at b p) whole_piece x e in
-      let same = same_piece (is_short piece) piece x rest in
-      pieces_within.inside b p x (e1 ∙ ap (λ (y : PieceBytes). Ok y) same);
-}
-
-short_not_io : (short : Bool) (x : PieceBytes) → NotIo (cond short (Err UnexpectedEof) (Ok x))
-short_not_io true x = tt
-short_not_io false x = tt
-
-whole_not_io : (b : List ℕ) (p : ℕ) → NotIo (whole_piece_at b p)
-unfolding whole_piece_at
-whole_not_io b p = not_io_then (piece_at b p) whole_piece (piece_not_io b p) (λ piece. short_not_io (is_short piece) piece)
+use Rattle.pdb_modules.proofs.Refusals.{NotIo, fails_with}
+use Rattle.pdb_modules.proofs.WholePieces.{whole_not_io, checksums_from, IsKeeping, keeping_begins, followed, kept, renewed, faulty, end_ends, whole_to_end, all_kept}
 
 module _ (b : List ℕ) where
   abbrev lines_from : ℕ → List Subsection
   lines_from place = filter_map as_lines (whole_pieces_from b place).items
 
-  abbrev checksums_from : List ℕ → ℕ → List ℕ
-  checksums_from before place = last_checksums before (whole_pieces_from b place).items
-
   -- the subsections of lines before a place are listed, and the last one of checksums before it is kept
   pub record IsCollecting (place : ℕ) (lines : List LineSubsection) (checksums : List ℕ) : Type 0 where
     pub joined : map subsection_of lines ++ lines_from place ≡ lines_from 0
-    pub last : checksums_from checksums place ≡ checksums_from [] 0
-    pub told : (whole_pieces_from b place).fault ≡ (whole_pieces_from b 0).fault
+    pub keeping : IsKeeping b place checksums
 
   pub collecting_begins : IsCollecting 0 [] []
-  collecting_begins = record { joined = refl; last = refl; told = refl }
+  collecting_begins = record { joined = refl; keeping = keeping_begins b }
 
   module _ (old new : Cursor) (same : old.bytes ≡ b) (lines : List LineSubsection) (checksums : List ℕ) (collecting : IsCollecting old.place lines checksums) where
     module _ (x : Piece) (reads : Reads bytes_of_piece old new (Ok x) (whole_piece_at old.bytes old.place) (piece_length old.place)) where
-      followed : Follows (whole_pieces_from b old.place) (bytes_of_piece x ∷ []) (whole_pieces_from b new.place)
-      unfolding whole_pieces_from
-      followed = turn_follows whole_piece_at piece_length whole_within bytes_of_piece b old new same x reads
-
-      told_on : (whole_pieces_from b new.place).fault ≡ (whole_pieces_from b 0).fault
-      told_on = sym followed.1 ∙ collecting.told
+      first_is : Follows (whole_pieces_from b old.place) (bytes_of_piece x ∷ []) (whole_pieces_from b new.place)
+      first_is = followed b old new same checksums collecting.keeping x reads
 
       skipped : (x.kind ≡ 0xf2 → ⊥) → lines_from old.place ≡ lines_from new.place
-      skipped other = ap (filter_map as_lines) followed.0 ∙ ap (λ (t : Bool). cons_option (cond t (Some (lines_subsection x.body.now)) None) (lines_from new.place)) (ne_eqb x.kind 0xf2 other)
+      skipped other = ap (filter_map as_lines) first_is.0 ∙ ap (λ (t : Bool). cons_option (cond t (Some (lines_subsection x.body.now)) None) (lines_from new.place)) (ne_eqb x.kind 0xf2 other)
 
       joined_on : (x.kind ≡ 0xf2 → ⊥) → map subsection_of lines ++ lines_from new.place ≡ lines_from 0
       joined_on other = ap (λ (ss : List Subsection). map subsection_of lines ++ ss) (sym (skipped other)) ∙ collecting.joined
 
-      last_on : checksums_from (later_checksums checksums (bytes_of_piece x)) new.place ≡ checksums_from [] 0
-      last_on = sym (ap (last_checksums checksums) followed.0) ∙ collecting.last
-
-      kept : (x.kind ≡ 0xf4 → ⊥) → checksums_from checksums new.place ≡ checksums_from [] 0
-      kept other = sym (ap (λ (t : Bool). checksums_from (cond t x.body.now checksums) new.place) (ne_eqb x.kind 0xf4 other)) ∙ last_on
-
       -- one of another kind
       pub passed : (x.kind ≡ 0xf2 → ⊥) → (x.kind ≡ 0xf4 → ⊥) → IsCollecting new.place lines checksums
-      passed not_lines not_checksums = record { joined = joined_on not_lines; last = kept not_checksums; told = told_on }
+      passed not_lines not_checksums = record { joined = joined_on not_lines; keeping = kept b old new same checksums collecting.keeping x reads not_checksums }
 
       -- one of checksums
       pub replaced : (x.kind ≡ 0xf2 → ⊥) → x.kind ≡ 0xf4 → IsCollecting new.place lines x.body.now
-      replaced not_lines is = record {
-        joined = joined_on not_lines;
-        last = sym (ap (λ (t : Bool). checksums_from (cond t x.body.now checksums) new.place) (eq-eqb x.kind 0xf4 is)) ∙ last_on;
-        told = told_on;
-      }
+      replaced not_lines is = record { joined = joined_on not_lines; keeping = renewed b old new same checksums collecting.keeping x reads is }
 
       -- one of lines
       pub taken : x.kind ≡ 0xf2 → (next : List LineSubsection) → map subsection_of next ≡ map subsection_of lines ++ lines_subsection x.body.now ∷ [] → IsCollecting new.place next checksums
       taken is next pushed =
           let first : lines_from old.place ≡ lines_subsection x.body.now ∷ lines_from new.place =
-          ap (filter_map as_lines) followed.0 ∙ ap (λ (t : Bool). cons_option (cond t (Some (lines_subsection x.body.now)) None) (lines_from new.place)) (eq-eqb x.kind 0xf2 is) in
+          ap (filter_map as_lines) first_is.0 ∙ ap (λ (t : Bool). cons_option (cond t (Some (lines_subsection x.body.now)) None) (lines_from new.place)) (eq-eqb x.kind 0xf2 is) in
           record {
             joined =
                 ap (λ (ss : List Subsection). ss ++ lines_from new.place) pushed
                 ∙ (append_assoc (map subsection_of lines) (lines_subsection x.body.now ∷ []) (lines_from new.place)
                 ∙ (ap (λ (ss : List Subsection). map subsection_of lines ++ ss) (sym first) ∙ collecting.joined));
-            last = kept (λ q. omega (arith, is, q));
-            told = told_on;
+            keeping = kept b old new same checksums collecting.keeping x reads (λ q. omega (arith, is, q));
           }
 
     -- a fault refuses the program
     refused : (e : Error) → old.place < length b → Reads bytes_of_piece old new (Err e) (whole_piece_at old.bytes old.place) (piece_length old.place) → parts_of b ≡ Err e
-    unfolding parts_of whole_pieces_from
+    unfolding parts_of
     refused e h reads =
-        let ends = turn_fault whole_piece_at piece_length whole_within bytes_of_piece b old new same e h reads in
-        ap (λ (f : Option Error). all_or_fault (whole_pieces_from b 0).items f >>= (λ ps. Ok (parts_among ps))) (sym collecting.told ∙ ends.1)
+        ap (λ (f : Option Error). all_or_fault (whole_pieces_from b 0).items f >>= (λ ps. Ok (parts_among ps))) (faulty b old new same checksums collecting.keeping e h reads)
 
     pub refused_with : (e : Error) → old.place < length b → Reads bytes_of_piece old new (Err e) (whole_piece_at old.bytes old.place) (piece_length old.place) → Fails ⊥ e (parts_of b)
     refused_with e h reads =
         fails_with e (parts_of b) (subst (λ (r : Result PieceBytes Error). NotIo r) reads.0 (whole_not_io old.bytes old.place)) (refused e h reads)
 
-    abbrev PiecesEnd : Option Error → Type 0
-    PiecesEnd f = ((whole_pieces_from b old.place).items ≡ []) × ((whole_pieces_from b old.place).fault ≡ f)
-
-    end_ends : length b ≤ old.place → PiecesEnd None
-    unfolding whole_pieces_from
-    end_ends h = turn_end whole_piece_at piece_length whole_within bytes_of_piece b old new same h
+    no_more : length b ≤ old.place → (whole_pieces_from b old.place).items ≡ []
+    no_more h = (end_ends b old new same checksums collecting.keeping h).0
 
     -- at the end all are listed
     pub collected : length b ≤ old.place → parts_of b ≡ Ok (record { subsections = ordered (map subsection_of lines); checksums = checksums })
     unfolding parts_of
     collected h =
-        let ends = end_ends h in
-        let all : map subsection_of lines ≡ lines_from 0 = sym (append-nil (map subsection_of lines)) ∙ (ap (λ (ps : List PieceBytes). map subsection_of lines ++ filter_map as_lines ps) (sym ends.0) ∙ collecting.joined) in
-        let last : checksums ≡ checksums_from [] 0 = ap (λ (ps : List PieceBytes). last_checksums checksums ps) (sym ends.0) ∙ collecting.last in
-        ap (λ (f : Option Error). all_or_fault (whole_pieces_from b 0).items f >>= (λ ps. Ok (parts_among ps))) (sym collecting.told ∙ ends.1)
-        ∙ (ap (λ (ss : List Subsection). Ok (record { subsections = ordered ss; checksums = checksums_from [] 0 })) (sym all)
-        ∙ ap (λ (c : List ℕ). Ok (record { subsections = ordered (map subsection_of lines); checksums = c })) (sym last))
+        let all : map subsection_of lines ≡ lines_from 0 = sym (append-nil (map subsection_of lines)) ∙ (ap (λ (ps : List PieceBytes). map subsection_of lines ++ filter_map as_lines ps) (sym (no_more h)) ∙ collecting.joined) in
+        ap (λ (f : Option Error). all_or_fault (whole_pieces_from b 0).items f >>= (λ ps. Ok (parts_among ps))) (whole_to_end b old new same checksums collecting.keeping h)
+        ∙ (ap (λ (ss : List Subsection). Ok (record { subsections = ordered ss; checksums = checksums_from b [] 0 })) (sym all)
+        ∙ ap (λ (c : List ℕ). Ok (record { subsections = ordered (map subsection_of lines); checksums = c })) (sym (all_kept b old new same checksums collecting.keeping h)))
 
     -- a subsection of lines is listed
     pub some_listed : (x : Piece) → Reads bytes_of_piece old new (Ok x) (whole_piece_at old.bytes old.place) (piece_length old.place) → x.kind ≡ 0xf2 → lines_listed b ≡ [] → ⊥
     some_listed x reads is none =
         let first : lines_from old.place ≡ lines_subsection x.body.now ∷ lines_from new.place =
-        ap (filter_map as_lines) (followed x reads).0 ∙ ap (λ (t : Bool). cons_option (cond t (Some (lines_subsection x.body.now)) None) (lines_from new.place)) (eq-eqb x.kind 0xf2 is) in
+        ap (filter_map as_lines) (first_is x reads).0 ∙ ap (λ (t : Bool). cons_option (cond t (Some (lines_subsection x.body.now)) None) (lines_from new.place)) (eq-eqb x.kind 0xf2 is) in
         let all = ap length (ap (λ (ss : List Subsection). map subsection_of lines ++ ss) (sym first) ∙ (collecting.joined ∙ none)) in
         let sum = length-append (map subsection_of lines) (lines_subsection x.body.now ∷ lines_from new.place) in
         absurd (omega (arith, all, sum))
@@ -147,7 +99,6 @@ module _ (b : List ℕ) where
     -- and where none is, none was collected at the end
     pub none_collected : length b ≤ old.place → lines_listed b ≡ [] → length lines ≡ 0
     none_collected h none =
-        let ends = end_ends h in
         let all = ap length (collecting.joined ∙ none) in
         let sum = length-append (map subsection_of lines) (lines_from old.place) in
         omega (arith, all, sum, length-map lines subsection_of)

@@ -7,6 +7,7 @@ use Rattle.pdb_base.specs.Refusal.{◌>>=◌}
 use Rattle.pdb_base.specs.Fields.{number_at, bytes_at}
 use Rattle.pdb_base.specs.Left.{Left, ended}
 use Rattle.pdb_symbols.specs.SymbolList.{Entry, symbols_from}
+use Rattle.pdb_modules.specs.Files.{FileOf, files_of}
 use Rattle.pdb_modules.specs.LineProgram.{ProgramOf, program_of}
 use Rattle.pdb_modules.specs.Lines.{Subsection}
 use Rattle.pdb_modules.specs.ProgramParts.{lines_listed}
@@ -48,6 +49,13 @@ lines_data_of m = bytes_at m.bytes m.symbols_size m.c13_lines_size
 
 unfoldable pub line_program_of : ModuleBytes → Result ProgramOf Error
 line_program_of m = if nat_lt 0 m.lines_size then Err (UnimplementedFeature C11LinePrograms) else lines_data_of m >>= program_of
+
+-- the bytes of its files' checksums, and its files
+unfoldable pub checksums_of : ModuleBytes → Result (List ℕ) Error
+checksums_of m = line_program_of m >>= λ p. Ok p.checksums
+
+unfoldable pub module_files_of : ModuleBytes → Result (Left FileOf) Error
+module_files_of m = line_program_of m >>= λ p. Ok (files_of p.checksums)
 
 -- the subsections of lines before the end or the fault; none where the lines are of the older form, or aren't there
 abbrev pub listed_in : Result (List ℕ) Error → List Subsection

@@ -70,3 +70,7 @@ parts_among ps = record { subsections = ordered (filter_map as_lines ps); checks
 
 unfoldable pub parts_of : List ℕ → Result PartsOf Error
 parts_of b = all_or_fault (whole_pieces_from b 0).items (whole_pieces_from b 0).fault >>= λ ps. Ok (parts_among ps)
+
+-- the checksums alone
+unfoldable pub checksums_in : List ℕ → Result (List ℕ) Error
+checksums_in b = parts_of b >>= λ ps. Ok ps.checksums

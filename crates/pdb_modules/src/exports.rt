@@ -218,6 +218,20 @@ impl CrossModuleExports {
         CrossModuleExportIter::new(self.exports.as_slice())
     }
 
+    /// The exports as pairs of a local number and the one that the whole file knows, in the file's order.
+    pub fn pairs(&self) -> &[(u32, u32)]
+        ensures { result.now ≡ self.now }
+    {
+        self.exports.as_slice()
+    }
+
+    /// Whether each local number is above those before it.
+    pub fn increases(&self) -> bool
+        ensures { IsTrue result ↔ Increases self.now }
+    {
+        self.increases
+    }
+
     /// The index that the whole file knows, of the first export of a local one; none where it isn't exported.
     pub fn resolve_import<I: ItemIndex>(&self, local: Local<I>) -> Result<Option<I>>
         ensures found { IfOk result (λ global. option_map I.index_number global ≡ global_of (I.index_number local.0) self.now) }

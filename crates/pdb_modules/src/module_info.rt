@@ -3,15 +3,17 @@
 ghost use Rattle.std.specs.Prelude.{◌≡◌, ◌≢◌, ◌≤◌, ◌%◌, ℕ, List, [], length, Some, Ok, IfOk, IfErr};
 ghost use Rattle.pdb_base.specs.Refusal.{Answers, Gives};
 ghost use Rattle.pdb_symbols.specs.Views.{symbols_left, symbols_bytes, symbols_steps};
-ghost use Rattle.pdb_modules.specs.ModuleStream.{checked_part, symbols_part_of, symbols_of, symbols_at_of, lines_data_of, line_program_of, line_subsections_of, part_of_kind, inlinees_of, inlinees_part_of, imports_of, exports_of};
-ghost use Rattle.pdb_modules.specs.ModuleViews.{inlinees_left, inlinees_part, inlinees_steps};
+ghost use Rattle.pdb_modules.specs.ModuleStream.{checked_part, symbols_part_of, symbols_of, symbols_at_of, lines_data_of, line_program_of, checksums_of, module_files_of, line_subsections_of, part_of_kind, inlinees_of, inlinees_part_of, imports_of, exports_of};
+ghost use Rattle.pdb_modules.specs.ModuleViews.{files_left, files_part, files_steps, inlinees_left, inlinees_part, inlinees_steps};
 ghost use Rattle.pdb_modules.specs.SubsectionViews.{seen_part};
 
 use crate::exports::CrossModuleExports;
+use crate::files::FileIterator;
 use crate::imports::CrossModuleImports;
 use crate::inlinees::InlineeIterator;
 use crate::line_places::LinePlaces;
 use crate::line_program::LineProgram;
+use crate::parts::last_checksums;
 use crate::subsections::{EXPORTS, IMPORTS, INLINEE_LINES, first_of_kind};
 use pdb_base::part::part_of;
 use pdb_base::{Error, Feature, ParseBuffer, Result, Stream, SymbolIndex};
@@ -159,6 +161,28 @@ impl<'s> ModuleInfo<'s> {
             return Err(Error::UnimplementedFeature(Feature::C11LinePrograms));
         }
         LineProgram::parse(alloc, self.lines_data()?)
+    }
+
+    // The bytes of the files' checksums.
+    #[tactic(auto, unfolding(crate::specs::ModuleStream::line_program_of, crate::specs::ModuleStream::checksums_of))]
+    fn checksums(&self) -> Result<&[u8]>
+        ensures part { Answers (λ s. s.now) result (checksums_of self.now) }
+    {
+        match self.lines_size {
+            0 => last_checksums(self.lines_data()?),
+            _ => Err(Error::UnimplementedFeature(Feature::C11LinePrograms)),
+        }
+    }
+
+    /// The module's files, in the order of their checksums. It fails exactly where `line_program` does, with the same
+    /// error, but never with out of memory: it takes none, and reads no block of lines.
+    #[tactic(auto, unfolding(crate::specs::ModuleStream::checksums_of, crate::specs::ModuleStream::module_files_of))]
+    pub fn files(&self) -> Result<FileIterator<'_>>
+        ensures left { Answers files_left result (module_files_of self.now) }
+        ensures part { IfOk result (λ it. checksums_of self.now ≡ Ok (files_part it)) }
+        ensures steps { IfOk result (λ it. files_steps it ≡ 0) }
+    {
+        Ok(FileIterator::new(self.checksums()?))
     }
 
     /// The module's line subsections, in which the record of a place is found as it stands. It fails as

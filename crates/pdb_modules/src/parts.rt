@@ -2,12 +2,12 @@
 
 ghost use Rattle.std.specs.Prelude.{◌≡◌, ◌≢◌, ◌+◌, ◌≤◌, [], ◌∷◌, ◌++◌, map, sum_by, length, vec_len, IfOk, IfErr};
 ghost use Rattle.pdb_base.specs.Cursor.{Reads};
-ghost use Rattle.pdb_base.specs.Refusal.{Gives};
+ghost use Rattle.pdb_base.specs.Refusal.{Answers, Gives};
 ghost use Rattle.pdb_modules.specs.KeptRows.{subsection_of};
 ghost use Rattle.pdb_modules.specs.LineProgram.{part_bytes};
 ghost use Rattle.pdb_modules.specs.LineOrder.{InOrder};
 ghost use Rattle.pdb_modules.specs.Subsections.{piece_length};
-ghost use Rattle.pdb_modules.specs.ProgramParts.{whole_piece_at, lines_listed, lines_subsection, parts_of};
+ghost use Rattle.pdb_modules.specs.ProgramParts.{checksums_in, whole_piece_at, lines_listed, lines_subsection, parts_of};
 ghost use Rattle.pdb_modules.specs.SubsectionViews.{bytes_of_piece};
 ghost use Rattle.pdb_modules.specs.PartViews.{program_of_parts};
 
@@ -68,6 +68,26 @@ fn push_part<'a>(parts: &mut Vec<LineSubsection<'a>>, body: &'a [u8]) -> Result<
 {
     parts.push(lines_part(body))?;
     Ok(())
+}
+
+/// The bytes of the last subsection of files' checksums; none where there is no such part. It fails as `ordered_parts`
+/// does, but takes no memory: of the lines it reads no block.
+pub(crate) fn last_checksums(lines_data: &[u8]) -> Result<&[u8]>
+    ensures part { Answers (λ s. s.now) result (checksums_in lines_data.entry.now) }
+{
+    let mut checksums: &[u8] = &[];
+    let mut buffer = ParseBuffer::from(lines_data);
+    while !buffer.is_empty() {
+        match read_whole_piece(&mut buffer) {
+            Ok(piece) => {
+                if piece.kind == FILE_CHECKSUMS {
+                    checksums = piece.body;
+                }
+            }
+            Err(error) => return Err(error),
+        }
+    }
+    Ok(checksums)
 }
 
 /// The parts of a module's lines data.

@@ -2,7 +2,7 @@
 
 use crate::tests::lists::{gives, is};
 use crate::tests::streams::lines_info;
-use crate::{FileChecksum, FileInfo};
+use crate::{FileChecksum, FileInfo, FileIterator};
 use pdb_base::{Error, FallibleIterator, FileIndex, Result, StringRef};
 use std::alloc::Global;
 use std::process::Abort;
@@ -25,18 +25,14 @@ fn kind_of(file: &FileInfo<'_>) -> Digest {
     }
 }
 
-/// Lines data has files of these names and kinds, and then this fault.
-fn seen_files(
+/// Files have these names and kinds, and then this fault.
+fn are_files(
     rt: &impl Abort,
-    alloc: Global,
     label: &str,
-    lines_data: &[u8],
+    mut files: FileIterator<'_>,
     wanted: &[(u32, Digest)],
     fault: Option<Error>,
 ) -> Result<()> {
-    let info = lines_info(rt, lines_data)?;
-    let program = info.line_program(alloc)?;
-    let mut files = program.files();
     for (name, kind) in wanted {
         match files.next()? {
             Some(file) => {
@@ -48,6 +44,21 @@ fn seen_files(
     }
     gives(rt, label, files, &[], fault);
     Ok(())
+}
+
+/// Lines data has files of these names and kinds, and then this fault.
+fn seen_files(
+    rt: &impl Abort,
+    alloc: Global,
+    label: &str,
+    lines_data: &[u8],
+    wanted: &[(u32, Digest)],
+    fault: Option<Error>,
+) -> Result<()> {
+    let info = lines_info(rt, lines_data)?;
+    let program = info.line_program(alloc)?;
+    are_files(rt, label, program.files(), wanted, fault)?;
+    are_files(rt, label, info.files()?, wanted, fault)
 }
 
 #[test]
@@ -81,6 +92,19 @@ fn files_are_those_of_the_last_part_of_checksums(rt: HostRuntime) -> Result<()> 
         None,
     )?;
     Ok(())
+}
+
+#[test]
+fn damaged_blocks_of_lines_leave_the_files(rt: HostRuntime) -> Result<()> {
+    seen_files(
+        &rt,
+        rt.alloc(),
+        "a block of 8 bytes",
+        b"\xf2\0\0\0\x18\0\0\0\0\0\0\0\x01\0\0\0\x10\0\0\0\0\0\0\0\x01\0\0\0\x08\0\0\0\xf4\0\0\0\x08\0\0\0\
+          \x05\0\0\0\0\0\0\0",
+        &[(5, Digest::None)],
+        None,
+    )
 }
 
 #[test]

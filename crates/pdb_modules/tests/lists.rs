@@ -172,6 +172,7 @@ pub fn refused(
 ) -> Result<()> {
     let info = lines_info(rt, lines_data)?;
     is(rt, label, &info.line_program(alloc).err(), &Some(wanted));
+    is(rt, label, &info.files().err(), &Some(wanted));
     Ok(())
 }
 

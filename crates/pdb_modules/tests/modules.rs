@@ -68,11 +68,12 @@ fn symbols_are_refused(rt: HostRuntime) -> Result<()> {
     Ok(())
 }
 
-/// The refusals of the calls that look at lines data: of a line program, of inlined functions, of imports and of
-/// exports.
-fn refusals(alloc: Global, info: &ModuleInfo<'_>) -> [Option<Error>; 4] {
+/// The refusals of the calls that look at lines data: of a line program, of files, of inlined functions, of imports and
+/// of exports.
+fn refusals(alloc: Global, info: &ModuleInfo<'_>) -> [Option<Error>; 5] {
     [
         info.line_program(alloc).err(),
+        info.files().err(),
         info.inlinees().err(),
         info.imports(alloc).err(),
         info.exports(alloc).err(),
@@ -86,10 +87,10 @@ fn lines_data_is_all_there_or_refused(rt: HostRuntime) -> Result<()> {
     for k in 0..260 {
         let info = info(&rt, &sample()[..k], (84, 0, 176))?;
         is(&rt, "symbols", &info.symbols().is_ok(), &(k >= 84));
-        is(&rt, "lines data", &refusals(rt.alloc(), &info), &[END; 4]);
+        is(&rt, "lines data", &refusals(rt.alloc(), &info), &[END; 5]);
     }
     let info = info(&rt, sample(), (84, 0, 176))?;
-    is(&rt, "all", &refusals(rt.alloc(), &info), &[None; 4]);
+    is(&rt, "all", &refusals(rt.alloc(), &info), &[None; 5]);
     Ok(())
 }
 
@@ -105,14 +106,15 @@ fn lines_data_of_each_size(rt: HostRuntime) -> Result<()> {
         let whole = k == 0 || k == 32 || k == 88 || k == 108 || k == 132 || k == 152 || k == 176;
         let given = refusals(rt.alloc(), &info);
         is(&rt, "lines", &given[0], &unless(whole));
+        is(&rt, "files", &given[1], &unless(whole));
         is(
             &rt,
             "inlined functions",
-            &given[1],
+            &given[2],
             &unless(whole || k >= 132),
         );
-        is(&rt, "imports", &given[2], &unless(whole || k >= 152));
-        is(&rt, "exports", &given[3], &unless(whole));
+        is(&rt, "imports", &given[3], &unless(whole || k >= 152));
+        is(&rt, "exports", &given[4], &unless(whole));
     }
     Ok(())
 }
@@ -143,7 +145,7 @@ fn older_lines_leave_the_others_empty(rt: HostRuntime) -> Result<()> {
         &rt,
         "refusals",
         &refusals(rt.alloc(), &info),
-        &[old, None, None, None],
+        &[old, old, None, None, None],
     );
     is(&rt, "inlined functions", &info.inlinees()?.count()?, &0);
     is(&rt, "exports", &info.exports(rt.alloc())?.len(), &0);
@@ -240,14 +242,14 @@ fn inlined_functions_are_refused(rt: HostRuntime) -> Result<()> {
 #[test]
 fn sizes_past_the_stream_refuse_lines(rt: HostRuntime) -> Result<()> {
     let info = info(&rt, b"", (1, 0, 0))?;
-    is(&rt, "all", &refusals(rt.alloc(), &info), &[END; 4]);
+    is(&rt, "all", &refusals(rt.alloc(), &info), &[END; 5]);
     Ok(())
 }
 
 #[test]
 fn one_subsection_alone(rt: HostRuntime) -> Result<()> {
     let ignored = lines_info(&rt, b"\x01\0\0\x80\0\0\0\0")?;
-    is(&rt, "ignored", &refusals(rt.alloc(), &ignored), &[None; 4]);
+    is(&rt, "ignored", &refusals(rt.alloc(), &ignored), &[None; 5]);
     is(
         &rt,
         "no lines",
@@ -260,7 +262,7 @@ fn one_subsection_alone(rt: HostRuntime) -> Result<()> {
         &rt,
         "unknown",
         &refusals(rt.alloc(), &unknown),
-        &[refused; 4],
+        &[refused; 5],
     );
     Ok(())
 }

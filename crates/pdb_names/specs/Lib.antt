@@ -4,6 +4,7 @@ pub mod KeptNames
 pub mod MicrosoftNames
 pub mod Numbers
 pub mod Pieces
+pub mod Reads
 pub mod RustNames
 pub mod SpecialNames
 pub mod Spelling

@@ -7,6 +7,7 @@ mod microsoft_name;
 mod numbers;
 mod pieces;
 mod reader;
+mod reads;
 mod rust_name;
 mod special_name;
 mod spelling;

@@ -4,10 +4,12 @@ ghost use Rattle.std.specs.Prelude.{◌≡◌, ◌<◌, ◌≤◌, true, length,
 ghost use Rattle.std.specs.List.{list_all};
 ghost use Rattle.pdb_names.specs.Numbers.{hex_number as number_of_letters, is_letter as letter_test, lettered as lettered_number, number_at as number_there, shown as shown_number, unsigned as unsigned_number};
 ghost use Rattle.pdb_names.specs.Pieces.{Gives};
+ghost use Rattle.pdb_names.specs.Reads.{Passed, Within};
 ghost use Rattle.pdb_names.specs.Views.{number_of, text_of, word_of};
 
 use crate::pieces::Stop;
 use crate::reader::{Text, Word, first_word};
+use crate::reads::Reads;
 use std::alloc::Global;
 
 /// Whether all bytes are hex digits from `A` to `P`.
@@ -56,16 +58,18 @@ fn lettered(word: Word<'_>) -> Option<Number<'_>>
 
 /// A number without a sign: a digit is one less than it.
 #[tactic(auto, unfolding(crate::specs::Numbers::unsigned))]
-fn unsigned(bytes: &[u8]) -> Option<Number<'_>>
+fn unsigned<'d>(bytes: &'d [u8], reads: &mut Reads) -> Option<Number<'d>>
     ensures said { option_map number_of result ≡ unsigned_number bytes.now }
     ensures shorter { IfSome result (λ n. length n.rest.now < length bytes.now) }
+    ensures counted { IfSome result (λ n. Passed reads.old.count reads.new.count bytes.now n.rest.now) }
+    ensures once { Within reads.old.count reads.new.count bytes.now }
 {
     match bytes {
-        [byte, rest @ ..] if byte.is_ascii_digit() => Some(Number {
+        [byte, ..] if byte.is_ascii_digit() => Some(Number {
             value: u64::from(*byte - b'0') + 1,
-            rest,
+            rest: reads.past(bytes, 1),
         }),
-        [_, ..] => lettered(first_word(bytes)?),
+        [_, ..] => lettered(first_word(bytes, reads)?),
         [] => None,
     }
 }
@@ -87,17 +91,23 @@ fn shown<'d>(alloc: Global, sign: &[u8], number: Number<'d>) -> Result<Text<'d>,
 
 /// A number in decimal; a question mark stands for its sign.
 #[tactic(auto, unfolding(crate::specs::Numbers::number_at))]
-pub(crate) fn number_at(alloc: Global, bytes: &[u8]) -> Result<Text<'_>, Stop>
+pub(crate) fn number_at<'d>(
+    alloc: Global,
+    bytes: &'d [u8],
+    reads: &mut Reads,
+) -> Result<Text<'d>, Stop>
     ensures said { Gives text_of result (number_there bytes.now) }
     ensures shorter { IfOk result (λ t. length t.rest.now < length bytes.now) }
+    ensures counted { IfOk result (λ t. Passed reads.old.count reads.new.count bytes.now t.rest.now) }
+    ensures once { Within reads.old.count reads.new.count bytes.now }
 {
     if bytes.starts_with(b"?") {
-        let Some(number) = unsigned(&bytes[1..]) else {
+        let Some(number) = unsigned(reads.past(bytes, 1), reads) else {
             return Err(Stop::NoAnswer);
         };
         return shown(alloc, b"-", number);
     }
-    let Some(number) = unsigned(bytes) else {
+    let Some(number) = unsigned(bytes, reads) else {
         return Err(Stop::NoAnswer);
     };
     shown(alloc, b"", number)

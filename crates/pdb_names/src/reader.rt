@@ -6,12 +6,14 @@ ghost use Rattle.std.specs.List.{list_any, slice_get};
 ghost use Rattle.pdb_names.specs.KeptNames.{again as repeated, begins_with_digit as digit_test, got, has_bytes, is_wanted, left, plain as plain_name, unnamed as unnamed_space, with_pair, word as word_there};
 ghost use Rattle.pdb_names.specs.Numbers.{number_at as number_there};
 ghost use Rattle.pdb_names.specs.Pieces.{Gives};
+ghost use Rattle.pdb_names.specs.Reads.{Passed, Within};
 ghost use Rattle.pdb_names.specs.Templates.{all_arguments as all_arguments_of, all_components as all_of, class_type as class_there, component as component_at, components as components_at, kept_template, listed, marked_type as marked_there, one_argument as argument_of, one_more as one_more_of, plain_component, template as template_at, typ as type_at, type_in, typed, with_number, with_type};
 ghost use Rattle.pdb_names.specs.Views.{kept_of, left_of, word_of};
 
 use crate::c_name::is_name;
 use crate::numbers::number_at;
 use crate::pieces::Stop;
+use crate::reads::Reads;
 use crate::templates::{Typed, class_of, is_pack, template};
 use crate::type_heads::{Head, Set, Shape, head_at};
 use std::alloc::Global;
@@ -53,14 +55,19 @@ fn first_at_sign(bytes: &[u8]) -> Option<usize>
 
 /// The bytes up to the first `@`.
 #[tactic(auto, unfolding(crate::specs::KeptNames::word))]
-pub(crate) fn first_word(bytes: &[u8]) -> Option<Word<'_>>
+pub(crate) fn first_word<'d>(bytes: &'d [u8], reads: &mut Reads) -> Option<Word<'d>>
     ensures said { option_map word_of result ≡ word_there bytes.now }
     ensures shorter { IfSome result (λ w. length w.rest.now < length bytes.now) }
+    ensures counted { IfSome result (λ w. Passed reads.old.count reads.new.count bytes.now w.rest.now) }
+    ensures sought { result ≡ None → reads.new.count ≡ reads.old.count + length bytes.now }
 {
-    let end = first_at_sign(bytes)?;
+    let Some(end) = first_at_sign(bytes) else {
+        reads.pass(bytes, b"");
+        return None;
+    };
     Some(Word {
         bytes: &bytes[..end],
-        rest: &bytes[end + 1..],
+        rest: reads.past(bytes, end + 1),
     })
 }
 
@@ -125,17 +132,19 @@ impl<'d> Reader<'d> {
     }
 
     /// The text that a digit refers back to.
-    fn again(&mut self, alloc: Global) -> Result<Vec<u8>, Stop>
+    fn again(&mut self, alloc: Global, reads: &mut Reads) -> Result<Vec<u8>, Stop>
         requires { 1 ≤ length self.old.rest.now }
         ensures said { Gives (λ t. got t.items (left_of self.new)) result (repeated (slice_get (map kept_of self.old.kept.items) (slice_index self.old.rest.now 0 - 48)) (left_of self.old)) }
         ensures shorter { OnOk result (length self.new.rest.now < length self.old.rest.now) }
+        ensures counted { OnOk result (Passed reads.old.count reads.new.count self.old.rest.now self.new.rest.now) }
+        ensures once { Within reads.old.count reads.new.count self.old.rest.now }
     {
         let index = usize::from(self.rest[0].saturating_sub(b'0'));
         let Some(text) = self.kept_text(index) else {
             return Err(Stop::NoAnswer);
         };
         let text = Vec::from_slice(alloc, text)?;
-        self.rest = &self.rest[1..];
+        self.rest = reads.past(self.rest, 1);
         Ok(text)
     }
 
@@ -163,12 +172,20 @@ impl<'d> Reader<'d> {
     }
 
     /// A number as an argument.
-    fn number_argument(&mut self, alloc: Global, texts: &mut Vec<Vec<u8>>) -> Result<(), Stop>
+    fn number_argument(
+        &mut self,
+        alloc: Global,
+        texts: &mut Vec<Vec<u8>>,
+        reads: &mut Reads,
+    ) -> Result<(), Stop>
         requires { 2 ≤ length self.old.rest.now }
         ensures said { Gives (λ _. listed (map (λ v. v.items) texts.new.items) (left_of self.new)) result (option_map (with_number (listed (map (λ v. v.items) texts.old.items) (left_of self.old))) (number_there (drop 2 self.old.rest.now))) }
         ensures shorter { OnOk result (length self.new.rest.now < length self.old.rest.now) }
+        ensures counted { OnOk result (Passed reads.old.count reads.new.count self.old.rest.now self.new.rest.now) }
+        ensures once { Within reads.old.count reads.new.count self.old.rest.now }
     {
-        let Text { text, rest } = number_at(alloc, &self.rest[2..])?;
+        let number = reads.past(self.rest, 2);
+        let Text { text, rest } = number_at(alloc, number, reads)?;
         texts.push(text)?;
         self.rest = rest;
         Ok(())
@@ -181,11 +198,14 @@ impl<'d> Reader<'d> {
         alloc: Global,
         levels: u32,
         texts: &mut Vec<Vec<u8>>,
+        reads: &mut Reads,
     ) -> Result<(), Stop>
         ensures said { Gives (λ _. listed (map (λ v. v.items) texts.new.items) (left_of self.new)) result (option_map (with_type (listed (map (λ v. v.items) texts.old.items) (left_of self.old))) (type_at levels (left_of self.old))) }
         ensures shorter { OnOk result (length self.new.rest.now < length self.old.rest.now) }
+        ensures counted { OnOk result (Passed reads.old.count reads.new.count self.old.rest.now self.new.rest.now) }
+        ensures once { Within reads.old.count reads.new.count self.old.rest.now }
     {
-        let Typed { mut text, set } = self.typ(alloc, levels)?;
+        let Typed { mut text, set } = self.typ(alloc, levels, reads)?;
         set.put(&mut text)?;
         texts.push(text)?;
         Ok(())
@@ -199,22 +219,25 @@ impl<'d> Reader<'d> {
         alloc: Global,
         levels: u32,
         texts: &mut Vec<Vec<u8>>,
+        reads: &mut Reads,
     ) -> Result<(), Stop>
         ensures said { Gives (λ _. listed (map (λ v. v.items) texts.new.items) (left_of self.new)) result (argument_of (type_at levels) (listed (map (λ v. v.items) texts.old.items) (left_of self.old))) }
         ensures shorter { OnOk result (length self.new.rest.now < length self.old.rest.now) }
+        ensures counted { OnOk result (Passed reads.old.count reads.new.count self.old.rest.now self.new.rest.now) }
+        ensures once { Within reads.old.count reads.new.count self.old.rest.now }
     {
         if is_pack(self.rest) {
-            self.rest = &self.rest[3..];
+            self.rest = reads.past(self.rest, 3);
             return Ok(());
         }
         if self.rest.starts_with(b"$S") {
-            self.rest = &self.rest[2..];
+            self.rest = reads.past(self.rest, 2);
             return Ok(());
         }
         if self.rest.starts_with(b"$0") {
-            return self.number_argument(alloc, texts);
+            return self.number_argument(alloc, texts, reads);
         }
-        self.type_argument(alloc, levels, texts)
+        self.type_argument(alloc, levels, texts, reads)
     }
 
     /// Arguments up to an `@`.
@@ -225,13 +248,16 @@ impl<'d> Reader<'d> {
         alloc: Global,
         levels: u32,
         texts: &mut Vec<Vec<u8>>,
+        reads: &mut Reads,
     ) -> Result<(), Stop>
         ensures said { Gives (λ _. listed (map (λ v. v.items) texts.new.items) (left_of self.new)) result (all_arguments_of (type_at levels) (listed (map (λ v. v.items) texts.old.items) (left_of self.old))) }
         ensures shorter { OnOk result (length self.new.rest.now ≤ length self.old.rest.now) }
         ensures ended { OnOk result (1 ≤ length self.new.rest.now) }
+        ensures counted { OnOk result (Passed reads.old.count reads.new.count self.old.rest.now self.new.rest.now) }
+        ensures once { Within reads.old.count reads.new.count self.old.rest.now }
     {
         while !self.rest.starts_with(b"@") {
-            self.one_argument(alloc, levels, texts)?;
+            self.one_argument(alloc, levels, texts, reads)?;
         }
         Ok(())
     }
@@ -248,12 +274,20 @@ impl<'d> Reader<'d> {
 
     /// A template as a component.
     #[cycle(templates)]
-    fn template_component(&mut self, alloc: Global, levels: u32) -> Result<Vec<u8>, Stop>
+    fn template_component(
+        &mut self,
+        alloc: Global,
+        levels: u32,
+        reads: &mut Reads,
+    ) -> Result<Vec<u8>, Stop>
         requires { 2 ≤ length self.old.rest.now }
         ensures said { Gives (λ t. got t.items (left_of self.new)) result (option_map (kept_template (left_of self.old)) (template_at (type_at levels) (drop 2 self.old.rest.now))) }
         ensures shorter { OnOk result (length self.new.rest.now < length self.old.rest.now) }
+        ensures counted { OnOk result (Passed reads.old.count reads.new.count self.old.rest.now self.new.rest.now) }
+        ensures once { Within reads.old.count reads.new.count self.old.rest.now }
     {
-        let Text { text, rest } = template(alloc, &self.rest[2..], levels)?;
+        let named = reads.past(self.rest, 2);
+        let Text { text, rest } = template(alloc, named, levels, reads)?;
         self.keep_template(alloc, &text)?;
         self.rest = rest;
         Ok(text)
@@ -261,11 +295,13 @@ impl<'d> Reader<'d> {
 
     /// A component without a table or arguments.
     #[tactic(auto, unfolding(crate::specs::KeptNames::word))]
-    fn plain_component(&mut self, alloc: Global) -> Result<Vec<u8>, Stop>
+    fn plain_component(&mut self, alloc: Global, reads: &mut Reads) -> Result<Vec<u8>, Stop>
         ensures said { Gives (λ t. got t.items (left_of self.new)) result (plain_component (left_of self.old)) }
         ensures shorter { OnOk result (length self.new.rest.now < length self.old.rest.now) }
+        ensures counted { OnOk result (Passed reads.old.count reads.new.count self.old.rest.now self.new.rest.now) }
+        ensures once { Within reads.old.count reads.new.count self.old.rest.now }
     {
-        let Some(name) = first_word(self.rest) else {
+        let Some(name) = first_word(self.rest, reads) else {
             return Err(Stop::NoAnswer);
         };
         if self.rest.starts_with(b"?A") {
@@ -278,27 +314,37 @@ impl<'d> Reader<'d> {
     /// A component at the front.
     #[cycle(templates)]
     #[tactic(auto, unfolding(crate::specs::Templates::component))]
-    fn component(&mut self, alloc: Global, levels: u32) -> Result<Vec<u8>, Stop>
+    fn component(&mut self, alloc: Global, levels: u32, reads: &mut Reads) -> Result<Vec<u8>, Stop>
         ensures said { Gives (λ t. got t.items (left_of self.new)) result (component_at (type_at levels) (left_of self.old)) }
         ensures shorter { OnOk result (length self.new.rest.now < length self.old.rest.now) }
+        ensures counted { OnOk result (Passed reads.old.count reads.new.count self.old.rest.now self.new.rest.now) }
+        ensures once { Within reads.old.count reads.new.count self.old.rest.now }
     {
         if begins_with_digit(self.rest) {
-            return self.again(alloc);
+            return self.again(alloc, reads);
         }
         if self.rest.starts_with(b"?$") {
-            return self.template_component(alloc, levels);
+            return self.template_component(alloc, levels, reads);
         }
-        self.plain_component(alloc)
+        self.plain_component(alloc, reads)
     }
 
     /// One component more.
     #[cycle(templates)]
     #[tactic(auto, unfolding(crate::specs::Templates::one_more))]
-    fn one_more(&mut self, alloc: Global, levels: u32, texts: &mut Vec<Vec<u8>>) -> Result<(), Stop>
+    fn one_more(
+        &mut self,
+        alloc: Global,
+        levels: u32,
+        texts: &mut Vec<Vec<u8>>,
+        reads: &mut Reads,
+    ) -> Result<(), Stop>
         ensures said { Gives (λ _. listed (map (λ v. v.items) texts.new.items) (left_of self.new)) result (one_more_of (type_at levels) (listed (map (λ v. v.items) texts.old.items) (left_of self.old))) }
         ensures shorter { OnOk result (length self.new.rest.now < length self.old.rest.now) }
+        ensures counted { OnOk result (Passed reads.old.count reads.new.count self.old.rest.now self.new.rest.now) }
+        ensures once { Within reads.old.count reads.new.count self.old.rest.now }
     {
-        let text = self.component(alloc, levels)?;
+        let text = self.component(alloc, levels, reads)?;
         texts.push(text)?;
         Ok(())
     }
@@ -311,13 +357,16 @@ impl<'d> Reader<'d> {
         alloc: Global,
         levels: u32,
         texts: &mut Vec<Vec<u8>>,
+        reads: &mut Reads,
     ) -> Result<(), Stop>
         ensures said { Gives (λ _. listed (map (λ v. v.items) texts.new.items) (left_of self.new)) result (all_of (type_at levels) (listed (map (λ v. v.items) texts.old.items) (left_of self.old))) }
         ensures shorter { OnOk result (length self.new.rest.now ≤ length self.old.rest.now) }
         ensures ended { OnOk result (1 ≤ length self.new.rest.now) }
+        ensures counted { OnOk result (Passed reads.old.count reads.new.count self.old.rest.now self.new.rest.now) }
+        ensures once { Within reads.old.count reads.new.count self.old.rest.now }
     {
         while !self.rest.starts_with(b"@") {
-            self.one_more(alloc, levels, texts)?;
+            self.one_more(alloc, levels, texts, reads)?;
         }
         Ok(())
     }
@@ -325,27 +374,42 @@ impl<'d> Reader<'d> {
     /// The texts of components up to an `@`, which is passed over.
     #[cycle(templates)]
     #[tactic(auto, unfolding(crate::specs::Templates::components))]
-    pub(crate) fn components(&mut self, alloc: Global, levels: u32) -> Result<Vec<Vec<u8>>, Stop>
+    pub(crate) fn components(
+        &mut self,
+        alloc: Global,
+        levels: u32,
+        reads: &mut Reads,
+    ) -> Result<Vec<Vec<u8>>, Stop>
         ensures said { Gives (λ ts. listed (map (λ v. v.items) ts.items) (left_of self.new)) result (components_at (type_at levels) (left_of self.old)) }
         ensures shorter { OnOk result (length self.new.rest.now < length self.old.rest.now) }
+        ensures counted { OnOk result (Passed reads.old.count reads.new.count self.old.rest.now self.new.rest.now) }
+        ensures once { Within reads.old.count reads.new.count self.old.rest.now }
     {
         let mut texts = Vec::new(alloc);
-        self.all_components(alloc, levels, &mut texts)?;
-        self.rest = &self.rest[1..];
+        self.all_components(alloc, levels, &mut texts, reads)?;
+        self.rest = reads.past(self.rest, 1);
         Ok(texts)
     }
 
     /// The name of a class, which isn't an anonymous namespace.
     #[cycle(templates)]
     #[tactic(auto, unfolding(crate::specs::Templates::class_type))]
-    fn class_type(&mut self, alloc: Global, levels: u32, prefix: &[u8]) -> Result<Typed, Stop>
+    fn class_type(
+        &mut self,
+        alloc: Global,
+        levels: u32,
+        prefix: &[u8],
+        reads: &mut Reads,
+    ) -> Result<Typed, Stop>
         ensures said { Gives (λ t. typed t.text.items t.set (left_of self.new)) result (class_there (type_at levels) prefix.now (left_of self.old)) }
         ensures shorter { OnOk result (length self.new.rest.now < length self.old.rest.now) }
+        ensures counted { OnOk result (Passed reads.old.count reads.new.count self.old.rest.now self.new.rest.now) }
+        ensures once { Within reads.old.count reads.new.count self.old.rest.now }
     {
         if self.rest.starts_with(b"?A") {
             return Err(Stop::NoAnswer);
         }
-        let texts = self.components(alloc, levels)?;
+        let texts = self.components(alloc, levels, reads)?;
         let text = class_of(alloc, prefix, texts)?;
         Ok(Typed {
             text,
@@ -362,9 +426,12 @@ impl<'d> Reader<'d> {
         levels: u32,
         mark: &[u8],
         set: Set,
+        reads: &mut Reads,
     ) -> Result<Typed, Stop>
         ensures said { Gives (λ t. typed t.text.items t.set (left_of self.new)) result (marked_there (type_at levels) mark.now set (left_of self.old)) }
         ensures shorter { OnOk result (length self.new.rest.now < length self.old.rest.now) }
+        ensures counted { OnOk result (Passed reads.old.count reads.new.count self.old.rest.now self.new.rest.now) }
+        ensures once { Within reads.old.count reads.new.count self.old.rest.now }
     {
         if self.rest.is_empty() {
             return Err(Stop::NoAnswer);
@@ -372,11 +439,11 @@ impl<'d> Reader<'d> {
         let Some(own) = Set::of(self.rest[0]) else {
             return Err(Stop::NoAnswer);
         };
-        self.rest = &self.rest[1..];
+        self.rest = reads.past(self.rest, 1);
         let Typed {
             mut text,
             set: inner,
-        } = self.typ(alloc, levels)?;
+        } = self.typ(alloc, levels, reads)?;
         own.and(inner).put(&mut text)?;
         text.extend_from_slice(mark)?;
         Ok(Typed { text, set })
@@ -384,26 +451,36 @@ impl<'d> Reader<'d> {
 
     /// A type by how it begins.
     #[cycle(templates)]
-    fn type_by(&mut self, alloc: Global, levels: u32, head: Head<'_>) -> Result<Typed, Stop>
+    fn type_by(
+        &mut self,
+        alloc: Global,
+        levels: u32,
+        head: Head<'_>,
+        reads: &mut Reads,
+    ) -> Result<Typed, Stop>
         ensures said { Gives (λ t. typed t.text.items t.set (left_of self.new)) result (type_in (type_at levels) head.entry.shape head.entry.text.now head.entry.set (left_of self.old)) }
         ensures shorter { OnOk result (length self.new.rest.now ≤ length self.old.rest.now) }
+        ensures counted { OnOk result (Passed reads.old.count reads.new.count self.old.rest.now self.new.rest.now) }
+        ensures once { Within reads.old.count reads.new.count self.old.rest.now }
     {
         match head.shape {
             Shape::Simple => Ok(Typed {
                 text: Vec::from_slice(alloc, head.text)?,
                 set: head.set,
             }),
-            Shape::Class => self.class_type(alloc, levels, head.text),
-            Shape::Marked => self.marked_type(alloc, levels, head.text, head.set),
+            Shape::Class => self.class_type(alloc, levels, head.text, reads),
+            Shape::Marked => self.marked_type(alloc, levels, head.text, head.set, reads),
         }
     }
 
     /// A type.
     #[cycle(templates)]
     #[tactic(auto, using(crate::proofs::Levels::typ_end, crate::proofs::Levels::typ_step))]
-    fn typ(&mut self, alloc: Global, levels: u32) -> Result<Typed, Stop>
+    fn typ(&mut self, alloc: Global, levels: u32, reads: &mut Reads) -> Result<Typed, Stop>
         ensures said { Gives (λ t. typed t.text.items t.set (left_of self.new)) result (type_at levels (left_of self.old)) }
         ensures shorter { OnOk result (length self.new.rest.now < length self.old.rest.now) }
+        ensures counted { OnOk result (Passed reads.old.count reads.new.count self.old.rest.now self.new.rest.now) }
+        ensures once { Within reads.old.count reads.new.count self.old.rest.now }
     {
         if levels == 0 {
             return Err(Stop::NoAnswer);
@@ -411,7 +488,8 @@ impl<'d> Reader<'d> {
         let Some(head) = head_at(self.rest) else {
             return Err(Stop::NoAnswer);
         };
+        reads.pass(self.rest, head.rest);
         self.rest = head.rest;
-        self.type_by(alloc, levels - 1, head)
+        self.type_by(alloc, levels - 1, head, reads)
     }
 }

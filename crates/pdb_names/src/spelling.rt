@@ -10,6 +10,7 @@ use crate::c_name::c_name;
 use crate::itanium_name::itanium_name;
 use crate::microsoft_name::microsoft_name;
 use crate::pieces::Stop;
+use crate::reads::Reads;
 use std::alloc::{AllocError, Global};
 
 /// How many bytes a name has at most, decorated or not.
@@ -38,7 +39,7 @@ fn ruled(alloc: Global, decorated: &[u8], x86: bool) -> Result<Vec<u8>, Stop>
     ensures { Gives (λ t. t.items) result (ruled_name decorated.now x86) }
 {
     if decorated.starts_with(b"?") {
-        microsoft_name(alloc, &decorated[1..])
+        microsoft_name(alloc, &decorated[1..], &mut Reads::new())
     } else if decorated.starts_with(b"_Z") {
         itanium_name(alloc, &decorated[2..])
     } else if x86 && decorated.starts_with(b"__Z") {

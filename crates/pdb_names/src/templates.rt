@@ -3,12 +3,14 @@
 ghost use Rattle.std.specs.Prelude.{◌≡◌, ◌<◌, ◌≤◌, ◌++◌, [], codes, length, map, reverse, not, IfOk, Some, IsTrue};
 ghost use Rattle.pdb_names.specs.KeptNames.{left, with_pair};
 ghost use Rattle.pdb_names.specs.Pieces.{Gives, bounded as bounded_text, joined as joined_texts, qualified};
+ghost use Rattle.pdb_names.specs.Reads.{Passed, Within};
 ghost use Rattle.pdb_names.specs.Templates.{arguments as arguments_of, bracketed as bracketed_text, class_name, closed, is_pack as pack_test, is_template_name as template_name_test, template as template_at, typ as type_at};
 ghost use Rattle.pdb_names.specs.Views.{left_of, text_of};
 
 use crate::c_name::is_name;
 use crate::pieces::{Stop, joined};
 use crate::reader::{Reader, Text, Word, begins_with_digit, first_word};
+use crate::reads::Reads;
 use crate::type_heads::Set;
 use std::alloc::{AllocError, Global};
 
@@ -76,34 +78,44 @@ pub(crate) fn arguments<'d>(
     alloc: Global,
     mut reader: Reader<'d>,
     levels: u32,
+    reads: &mut Reads,
 ) -> Result<Text<'d>, Stop>
     ensures said { Gives text_of result (arguments_of (type_at levels) (left_of reader.entry)) }
     ensures shorter { IfOk result (λ t. length t.rest.now < length reader.entry.rest.now) }
+    ensures counted { IfOk result (λ t. Passed reads.old.count reads.new.count reader.entry.rest.now t.rest.now) }
+    ensures once { Within reads.old.count reads.new.count reader.entry.rest.now }
 {
     let mut texts = Vec::new(alloc);
-    reader.all_arguments(alloc, levels, &mut texts)?;
+    reader.all_arguments(alloc, levels, &mut texts, reads)?;
     let text = bracketed(alloc, &texts)?;
     Ok(Text {
         text,
-        rest: &reader.rest[1..],
+        rest: reads.past(reader.rest, 1),
     })
 }
 
 /// A template: its arguments have a table of their own.
 #[cycle(templates)]
 #[tactic(auto, unfolding(crate::specs::Templates::template, crate::specs::Templates::template_by))]
-pub(crate) fn template<'d>(alloc: Global, bytes: &'d [u8], levels: u32) -> Result<Text<'d>, Stop>
+pub(crate) fn template<'d>(
+    alloc: Global,
+    bytes: &'d [u8],
+    levels: u32,
+    reads: &mut Reads,
+) -> Result<Text<'d>, Stop>
     ensures said { Gives text_of result (template_at (type_at levels) bytes.now) }
     ensures shorter { IfOk result (λ t. length t.rest.now < length bytes.now) }
+    ensures counted { IfOk result (λ t. Passed reads.old.count reads.new.count bytes.now t.rest.now) }
+    ensures once { Within reads.old.count reads.new.count bytes.now }
 {
-    let Some(name) = first_word(bytes) else {
+    let Some(name) = first_word(bytes, reads) else {
         return Err(Stop::NoAnswer);
     };
     if !is_template_name(name.bytes) {
         return Err(Stop::NoAnswer);
     }
     let inner = named_reader(alloc, name)?;
-    let Text { text, rest } = arguments(alloc, inner, levels)?;
+    let Text { text, rest } = arguments(alloc, inner, levels, reads)?;
     let mut whole = Vec::from_slice(alloc, name.bytes)?;
     whole.extend_from_slice(&text)?;
     Ok(Text { text: whole, rest })

@@ -15,6 +15,7 @@ use Rattle.pdb_places.specs.AsIfEmpty.{if_read}
 use Rattle.pdb_resolve.specs.FileParts.{items_listed, modules_listed}
 use Rattle.pdb_resolve.specs.KeptParts.{IsAskedOf, IsMadeOf, IsPublicsOf, AreTablesOf, AreModulesOf, AreGlobalsOf, AreRead, codes_of, streams_of}
 use Rattle.pdb_resolve.specs.KeptNames.{AreNamesOf, IsFileKept}
+use Rattle.pdb_resolve.proofs.CrossingsGoOn.{crossings_on}
 
 pub asked_more : {A : Type 0} (told told' : Bool) (reading reading' : Option A) (p : Part A) → (told' ≡ true → told ≡ true) → reading ≡ reading' → IsAskedOf told reading p → IsAskedOf told' reading' p
 asked_more told told' reading reading' p falls same are = record { read = λ t h. are.read (falls t) h ∙ same; room = are.room }
@@ -24,7 +25,7 @@ asked_on a b reading p c are = asked_more a.told b.told (reading a.file) (readin
 
 made_on : (a b : State) (made : Option FunctionNames) → Continues a b → IsMadeOf a made → IsMadeOf b made
 made_on a b None c are = tt
-made_on a b (Some n) c are = λ told. let m = are (c.told told) in (m.0 ∙ ap (λ file. items_listed file 4) (sym c.file), m.1 ∙ ap (λ file. items_listed file 2) (sym c.file), m.2 ∙ ap (λ file. if_read (debug_information_in file)) (sym c.file))
+made_on a b (Some n) c are = λ told. let m = are (c.told told) in (m.0 ∙ ap (λ file. items_listed file 4) (sym c.file), m.1 ∙ ap (λ file. items_listed file 2) (sym c.file))
 
 pub tables_on : (a b : State) (t : NameTables) → Continues a b → AreTablesOf a t → AreTablesOf b t
 tables_on a b t c are = record {
@@ -58,6 +59,7 @@ pub names_on : (a b : State) (t : Tables) → Continues a b → AreNamesOf a t �
 names_on a b t c are = record {
   strings = asked_on a b (λ file. if_read (string_table_in file)) t.strings c are.strings;
   names = tables_on a b t.names c are.names;
+  crossings = crossings_on a b t.crossings c are.crossings;
   globals = globals_on a b t.globals c are.globals;
 }
 
@@ -70,10 +72,10 @@ file_on a b k c are = record {
 
 -- the globals were asked for
 pub with_globals : (a b : State) (k : KeptFile) (g : GlobalNames) → Continues a b → IsFileKept a k → AreGlobalsOf b g
-    → IsFileKept b (record { module_places = k.module_places; modules = k.modules; tables = record { strings = k.tables.strings; names = k.tables.names; globals = g } })
+    → IsFileKept b (record { module_places = k.module_places; modules = k.modules; tables = record { strings = k.tables.strings; names = k.tables.names; crossings = k.tables.crossings; globals = g } })
 with_globals a b k g c are new =
     let on = file_on a b k c are in
-    record { module_places = on.module_places; modules = on.modules; tables = record { strings = on.tables.strings; names = on.tables.names; globals = new } }
+    record { module_places = on.module_places; modules = on.modules; tables = record { strings = on.tables.strings; names = on.tables.names; crossings = on.tables.crossings; globals = new } }
 
 -- the tables were asked for
 pub with_tables : (a b : State) (k : KeptFile) (t : Tables) → Continues a b → IsFileKept a k → AreNamesOf b t → IsFileKept b (record { module_places = k.module_places; modules = k.modules; tables = t })

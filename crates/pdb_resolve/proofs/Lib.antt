@@ -3,5 +3,8 @@ pub mod Kepts
 pub mod OtherNames
 pub mod ImportLaws
 pub mod VariablesFound
+pub mod NumberLaws
+pub mod CrossingLaws
+mod CrossingsGoOn
 mod Continuing
 mod WholeModules

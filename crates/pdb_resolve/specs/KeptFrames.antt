@@ -1,17 +1,14 @@
 -- What contracts see of frames, and of the tables of names.
-use Rattle.std.specs.Prelude.{◌≡◌, ℕ, List, Option, Some, None, option_copied}
+use Rattle.std.specs.Prelude.{◌≡◌, ℕ, List, Option, Some, None}
 use Rattle.std.specs.Option.{option_map, unwrap_or}
 use Rattle.pdb.specs.LineInfo.{LineInfo}
 use Rattle.pdb.specs.LineProgram.{ProgramOf}
-use Rattle.pdb.specs.ModuleStream.{ModuleBytes}
 use Rattle.pdb.specs.Qualified.{Qualified}
 use Rattle.pdb.specs.Text.{name_bytes}
 use Rattle.pdb_resolve.specs.declared.frames.Frame.{Frame as FrameRead}
 use Rattle.pdb_resolve.specs.declared.frames.FunctionNames.{FunctionNames}
 use Rattle.pdb_resolve.specs.declared.frames.NamedFile.{NamedFile}
 use Rattle.pdb_resolve.specs.Frames.{Frame, Names, file_name, file_in}
-use Rattle.pdb_resolve.specs.FileParts.{modules_where}
-use Rattle.pdb_resolve.specs.AcrossModules.{global_id}
 use Rattle.pdb_code.specs.Namings.{shown_function_name}
 
 -- what a frame shows
@@ -21,10 +18,6 @@ shown_frame f = record { name = option_map shown_function_name f.name; displacem
 -- the names of functions and of files
 abbrev pub names_of : FunctionNames → Option (List ℕ) → Names
 names_of n strings = record { ids = n.ids; types = n.types; strings = strings }
-
--- the id that the whole file knows, by one that a call in a module has
-abbrev pub global_of_call : List ℕ → Option (List ℕ) → FunctionNames → ModuleBytes → ℕ → Option ℕ
-global_of_call file strings n m id = global_id file strings (modules_where (option_copied n.information)) m id
 
 -- a frame with a line record in a file of this name
 abbrev pub frame_named : Option (List ℕ) → Option Qualified → Option ℕ → LineInfo → Frame

@@ -22,7 +22,7 @@ pub record IsAskedOf {A : Type 0} (told : Bool) (reading : Option A) (p : Part A
 -- the names that were made are those of the file
 abbrev pub IsMadeOf : State → Option FunctionNames → Type 0
 IsMadeOf s None = Unit {0}
-IsMadeOf s (Some n) = s.told ≡ true → (n.ids ≡ items_listed s.file 4) × (n.types ≡ items_listed s.file 2) × (option_copied n.information ≡ if_read (debug_information_in s.file))
+IsMadeOf s (Some n) = s.told ≡ true → (n.ids ≡ items_listed s.file 4) × (n.types ≡ items_listed s.file 2)
 
 pub record AreTablesOf (s : State) (t : NameTables) : Type 0 where
   pub ids : IsAskedOf s.told (if_read (stream_of s.file 4 None)) t.ids

@@ -2,6 +2,10 @@ pub mod Frames
 pub mod FileParts
 pub mod AcrossModules
 pub mod ImportTables
+pub mod ModuleNumbers
+pub mod NumberViews
+pub mod Exported
+pub mod KeptCrossings
 pub mod KeptFrames
 pub mod CallViews
 pub mod Resolved

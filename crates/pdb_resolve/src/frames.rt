@@ -4,21 +4,23 @@ ghost use Rattle.std.specs.Prelude.{◌≡◌, ◌-◌, ◌++◌, [], ◌∷◌,
 ghost use Rattle.std.specs.Option.{option_map};
 ghost use Rattle.pdb.specs.FileViews.{shown_file};
 ghost use Rattle.pdb.specs.Qualified.{shown_qualified};
+ghost use Rattle.pdb.specs.Answers.{string_table_in};
 ghost use Rattle.pdb.specs.Source.{Continues, MayFail};
-ghost use Rattle.pdb_places.specs.AsIfEmpty.{OnlyFails};
+ghost use Rattle.pdb_places.specs.AsIfEmpty.{if_read, OnlyFails};
 ghost use Rattle.pdb.specs.Text.{name_bytes};
 ghost use Rattle.pdb_code.specs.ModuleCode.{Named, program_in, line_at};
+ghost use Rattle.pdb_resolve.specs.AcrossModules.{global_id_in};
 ghost use Rattle.pdb_resolve.specs.Frames.{file_name as file_name_of, frame_named_by, frame_of, frame_without, inlined_frame, named_id, no_frame};
 ghost use Rattle.pdb_code.specs.Namings.{plain, shown_function_name, IsNamed};
 ghost use Rattle.pdb_code.specs.Kept.{shown_call};
-ghost use Rattle.pdb_resolve.specs.KeptFrames.{shown_frame, names_of, global_of_call, frame_named, IsNamedIn};
+ghost use Rattle.pdb_resolve.specs.KeptFrames.{shown_frame, names_of, frame_named, IsNamedIn};
+ghost use Rattle.pdb_resolve.specs.KeptCrossings.{AreCrossingsOf, IsListedCode};
 
-use crate::across_modules::imported_id;
+use crate::crossings::{Crossings, ListedCode};
 use crate::module_code::ModuleCode;
 use pdb::{
-    DebugInformation, Error, FileIndex, FileInfo, IdIndex, ItemFinder, LineInfo, PDB,
-    PdbInternalSectionOffset, QualifiedName, RawString, Result, Source, StringTable,
-    qualified_name,
+    Error, FileIndex, FileInfo, IdIndex, ItemFinder, LineInfo, PDB, PdbInternalSectionOffset,
+    QualifiedName, RawString, Result, Source, StringTable, qualified_name,
 };
 use pdb_code::calls::InlinedCall;
 use pdb_code::function_names::{FunctionName, Naming};
@@ -46,8 +48,6 @@ pub struct Frame<'a> {
 pub struct FunctionNames<'a> {
     pub(crate) ids: ItemFinder<'a>,
     pub(crate) types: ItemFinder<'a>,
-    // The DBI stream, by whose modules an id of another module is found.
-    pub(crate) information: Option<&'a DebugInformation<'a>>,
 }
 
 /// The name of a file.
@@ -167,19 +167,24 @@ pub(crate) fn push_frame<'a>(frames: &mut Vec<Frame<'a>>, frame: Frame<'a>) -> R
 fn name_of_call<'a, 's, S: Source<'s>>(
     alloc: Global,
     pdb: &mut PDB<'s, S>,
-    code: &ModuleCode<'a>,
+    crossings: &mut Crossings<'a>,
+    code: &ListedCode<'_, 'a>,
     names: &FunctionNames<'a>,
     strings: Option<&'a StringTable<'a>>,
     id: IdIndex,
 ) -> Result<Option<QualifiedName<'a>>>
+    requires kept { AreCrossingsOf pdb.old crossings.old }
+    requires code { IsListedCode pdb.old code.now }
+    requires strings { pdb.old.told ≡ true → option_copied strings ≡ if_read (string_table_in pdb.old.file) }
     ensures continues { Continues pdb.old pdb.new }
-    ensures name { pdb.new.told ≡ true → IfOk result (λ n. option_map shown_qualified n ≡ named_id names.now.ids names.now.types (global_of_call pdb.old.file (option_copied strings.entry) names.now code.now id.0)) }
+    ensures kept { AreCrossingsOf pdb.new crossings.new }
+    ensures name { pdb.new.told ≡ true → IfOk result (λ n. option_map shown_qualified n ≡ named_id names.now.ids names.now.types (global_id_in pdb.old.file code.now.code.now id.0)) }
     ensures refused { IfErr result (λ e. OnlyFails (MayFail pdb.old pdb.new) e) }
 {
     if id.0 < 0x8000_0000 {
         return Ok(qualified_name(&names.ids, &names.types, id));
     }
-    match imported_id(alloc, pdb, strings, names.information, code.info(), id)? {
+    match crossings.imported_id(alloc, pdb, strings, code, id)? {
         Some(id) => Ok(qualified_name(&names.ids, &names.types, id)),
         None => Ok(None),
     }
@@ -190,20 +195,25 @@ pub(crate) fn push_inlined<'a, 's, S: Source<'s>>(
     alloc: Global,
     pdb: &mut PDB<'s, S>,
     frames: &mut Vec<Frame<'a>>,
-    code: &ModuleCode<'a>,
+    crossings: &mut Crossings<'a>,
+    code: &ListedCode<'_, 'a>,
     names: &FunctionNames<'a>,
     strings: Option<&'a StringTable<'a>>,
     calls: &[InlinedCall],
 ) -> Result<()>
+    requires kept { AreCrossingsOf pdb.old crossings.old }
+    requires code { IsListedCode pdb.old code.now }
+    requires strings { pdb.old.told ≡ true → option_copied strings ≡ if_read (string_table_in pdb.old.file) }
     ensures continues { Continues pdb.old pdb.new }
-    ensures pushed { pdb.new.told ≡ true → OnOk result (map shown_frame frames.new.items ≡ map shown_frame frames.old.items ++ map (inlined_frame (names_of names.now (option_copied strings.entry)) (global_of_call pdb.old.file (option_copied strings.entry) names.now code.now) (program_in code.now)) (reverse (map shown_call calls.now))) }
+    ensures kept { AreCrossingsOf pdb.new crossings.new }
+    ensures pushed { pdb.new.told ≡ true → OnOk result (map shown_frame frames.new.items ≡ map shown_frame frames.old.items ++ map (inlined_frame (names_of names.now (option_copied strings.entry)) (global_id_in pdb.old.file code.now.code.now) (program_in code.now.code.now)) (reverse (map shown_call calls.now))) }
     ensures refused { IfErr result (λ e. OnlyFails (MayFail pdb.old pdb.new) e) }
 {
     let mut left = calls;
     let mut last = None;
     while let Some((call, before)) = left.split_last() {
-        let name = name_of_call(alloc, pdb, code, names, strings, call.id)?;
-        let file = named_file(code, strings, last, call.line.file_index);
+        let name = name_of_call(alloc, pdb, crossings, code, names, strings, call.id)?;
+        let file = named_file(code.code, strings, last, call.line.file_index);
         push_frame(
             frames,
             frame_in(file.name, name_as_read(name), None, &call.line),

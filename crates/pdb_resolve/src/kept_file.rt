@@ -345,10 +345,10 @@ impl<'a, 's> KeptFile<'a, 's> {
         let Some(number) = number else {
             return bare_frames(alloc, place, other);
         };
-        match self.modules.code(number) {
+        match self.modules.listed_code(number) {
             Some(code) => self
                 .tables
-                .frames(alloc, pdb, code, procedure, other, place),
+                .frames(alloc, pdb, &code, procedure, other, place),
             None => bare_frames(alloc, place, other),
         }
     }

@@ -2,11 +2,14 @@
 #![tactic(auto)]
 
 mod across_modules;
+mod crossings;
+mod exported_ids;
 mod frames;
 mod global_ids;
 mod global_names;
 mod kept_file;
 mod module_code;
+mod module_numbers;
 mod modules;
 mod name_tables;
 mod part;
@@ -15,7 +18,6 @@ mod streams;
 mod tables;
 mod text;
 
-pub use across_modules::imported_id;
 pub use frames::{Frame, FunctionNames, plain_name};
 pub use global_ids::{CallNames, GlobalIds};
 pub use module_code::ModuleCode;

@@ -1,6 +1,6 @@
 //! The modules of a file, each of which is read once.
 
-ghost use Rattle.std.specs.Prelude.{◌≡◌, ◌+◌, ◌==◌, ℕ, List, map, replicate, None, ◌<◌, length, option_copied, slice_get, slice_set, vec_len, Some, IfOk, IfErr, OnOk, OnErr, true};
+ghost use Rattle.std.specs.Prelude.{◌≡◌, ◌+◌, ◌==◌, ℕ, List, map, replicate, None, ◌<◌, length, option_copied, slice_get, slice_set, vec_len, Some, IfSome, IfOk, IfErr, OnOk, OnErr, true};
 ghost use Rattle.pdb.specs.Error.TheVariants.{OutOfMemory};
 ghost use Rattle.pdb.specs.ModuleStream.{ModuleBytes};
 ghost use Rattle.pdb.specs.Answers.{module_info_in, debug_information_in};
@@ -16,6 +16,7 @@ ghost use Rattle.pdb.specs.Text.{name_bytes};
 ghost use Rattle.pdb_resolve.specs.WholeModules.{is_whole_numbered};
 ghost use Rattle.pdb_resolve.specs.KeptParts.{AreModulesOf, boxed, code_kept, codes_of, rooms_left, stream_kept, streams_of};
 
+use crate::crossings::ListedCode;
 use crate::module_code::ModuleCode;
 use crate::part::put_down;
 use pdb::{
@@ -342,6 +343,18 @@ impl<'a, 's> Modules<'a, 's> {
             Some(module) => has_no_stream(module),
             None => true,
         }
+    }
+
+    /// The code of the module of a number, if it was read, and the list in which it has that number.
+    pub(crate) fn listed_code(&self, number: usize) -> Option<ListedCode<'_, 'a>>
+        ensures code { option_map (λ c. c.code.now) result ≡ code_kept self.now number }
+        ensures listed { IfSome result (λ c. (c.number ≡ number) × (c.listed.now ≡ self.now.listed.items)) }
+    {
+        Some(ListedCode {
+            listed: self.listed.as_slice(),
+            number,
+            code: self.code(number)?,
+        })
     }
 
     /// The code of the module of a number, if it was read.

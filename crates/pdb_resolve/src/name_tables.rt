@@ -100,11 +100,7 @@ impl<'a, 's> NameTables<'a, 's> {
         }
         let ids = ids_of(alloc, ids_asked(pdb, &mut self.ids)?)?;
         let types = types_of(alloc, types_asked(pdb, &mut self.types)?)?;
-        self.made = Some(FunctionNames {
-            ids,
-            types,
-            information: self.information,
-        });
+        self.made = Some(FunctionNames { ids, types });
         Ok(())
     }
 }

@@ -10,6 +10,7 @@ ghost use Rattle.pdb_resolve.specs.KeptFrames.{shown_frame};
 ghost use Rattle.pdb_variables.specs.VariableViews.{shown_variable};
 ghost use Rattle.pdb_resolve.specs.WholeModules.{is_whole_at};
 
+use crate::crossings::Crossings;
 use crate::frames::{Frame, frame_nowhere, push_frame};
 use crate::global_names::GlobalNames;
 use crate::kept_file::KeptFile;
@@ -112,6 +113,7 @@ impl<'a, 's, S: Source<'s>> Resolver<'a, 's, S> {
                 made: None,
                 information,
             },
+            crossings: Crossings::new(alloc),
             globals: GlobalNames {
                 globals: Part::unasked(slice::from_mut(&mut streams.globals)),
                 publics: None,

@@ -12,8 +12,10 @@ ghost use Rattle.pdb_code.specs.ModuleCode.{Named, program_in, inlined_at, proce
 ghost use Rattle.pdb_code.specs.Listed.{shown_procedure};
 ghost use Rattle.pdb_resolve.specs.KeptFrames.{shown_frame};
 ghost use Rattle.pdb_code.specs.Namings.{IsNamed};
+ghost use Rattle.pdb_resolve.specs.KeptCrossings.{AreCrossingsOf, IsListedCode};
 ghost use Rattle.pdb_resolve.specs.KeptParts.{IsAskedOf, AreTablesOf};
 
+use crate::crossings::{Crossings, ListedCode};
 use crate::frames::{Frame, push_inlined, push_outer};
 use crate::global_names::GlobalNames;
 use crate::module_code::ModuleCode;
@@ -24,11 +26,12 @@ use pdb_code::function_names::{Naming, nothing};
 use pdb_code::procedures::ListedProcedure;
 use std::alloc::Global;
 
-/// The string table, the names of functions, and the public symbols.
+/// The string table, the names of functions, what leads to ids of other modules, and the public symbols.
 #[derive(Drop)]
 pub(crate) struct Tables<'a, 's> {
     pub(crate) strings: Part<'a, StringTable<'s>>,
     pub(crate) names: NameTables<'a, 's>,
+    pub(crate) crossings: Crossings<'a>,
     pub(crate) globals: GlobalNames<'a, 's>,
 }
 
@@ -55,20 +58,24 @@ fn inlined_frames<'a, 's, S: Source<'s>>(
     alloc: Global,
     pdb: &mut PDB<'s, S>,
     names: &mut NameTables<'a, 's>,
-    code: &ModuleCode<'a>,
+    crossings: &mut Crossings<'a>,
+    code: &ListedCode<'_, 'a>,
     strings: Option<&'a StringTable<'a>>,
     procedure: Option<ListedProcedure>,
     place: PdbInternalSectionOffset,
 ) -> Result<Vec<Frame<'a>>>
-    requires procedure { option_map shown_procedure procedure ≡ procedure_at place code.now }
+    requires procedure { option_map shown_procedure procedure ≡ procedure_at place code.now.code.now }
     requires names { AreTablesOf pdb.old names.old }
+    requires crossings { AreCrossingsOf pdb.old crossings.old }
+    requires code { IsListedCode pdb.old code.now }
     requires strings { pdb.old.told ≡ true → option_copied strings ≡ if_read (string_table_in pdb.old.file) }
     ensures continues { Continues pdb.old pdb.new }
     ensures kept { AreTablesOf pdb.new names.new }
-    ensures frames { pdb.new.told ≡ true → IfOk result (λ fs. map shown_frame fs.items ≡ map (inlined_frame (names_in pdb.old.file) (global_id_in pdb.old.file code.now) (program_in code.now)) (reverse (inlined_at place code.now))) }
+    ensures crossings { AreCrossingsOf pdb.new crossings.new }
+    ensures frames { pdb.new.told ≡ true → IfOk result (λ fs. map shown_frame fs.items ≡ map (inlined_frame (names_in pdb.old.file) (global_id_in pdb.old.file code.now.code.now) (program_in code.now.code.now)) (reverse (inlined_at place code.now.code.now))) }
     ensures refused { IfErr result (λ e. OnlyFails (MayFail pdb.old pdb.new) e) }
 {
-    let calls = code.inlined_in(alloc, place, procedure)?;
+    let calls = code.code.inlined_in(alloc, place, procedure)?;
     if calls.is_empty() {
         return Ok(Vec::new(alloc));
     }
@@ -81,6 +88,7 @@ fn inlined_frames<'a, 's, S: Source<'s>>(
                 alloc,
                 pdb,
                 &mut frames,
+                crossings,
                 code,
                 made,
                 strings,
@@ -123,16 +131,17 @@ impl<'a, 's> Tables<'a, 's> {
         &mut self,
         alloc: Global,
         pdb: &mut PDB<'s, S>,
-        code: &ModuleCode<'a>,
+        code: &ListedCode<'_, 'a>,
         procedure: Option<ListedProcedure>,
         other: Naming<'a>,
         place: PdbInternalSectionOffset,
     ) -> Result<Vec<Frame<'a>>>
         requires names { AreNamesOf pdb.old self.old }
-        requires procedure { option_map shown_procedure procedure ≡ procedure_at place code.now }
+        requires code { IsListedCode pdb.old code.now }
+        requires procedure { option_map shown_procedure procedure ≡ procedure_at place code.now.code.now }
         ensures continues { Continues pdb.old pdb.new }
         ensures kept { AreNamesOf pdb.new self.new }
-        ensures frames { pdb.new.told ≡ true → (n : Named) → IsNamed other.entry n → IfOk result (λ fs. map shown_frame fs.items ≡ frames_in (names_in pdb.old.file) (global_id_in pdb.old.file code.now) n place code.now) }
+        ensures frames { pdb.new.told ≡ true → (n : Named) → IsNamed other.entry n → IfOk result (λ fs. map shown_frame fs.items ≡ frames_in (names_in pdb.old.file) (global_id_in pdb.old.file code.now.code.now) n place code.now.code.now) }
         ensures refused { IfErr result (λ e. OnlyFails (MayFail pdb.old pdb.new) e) }
     {
         let strings = strings_asked(pdb, &mut self.strings)?;
@@ -140,13 +149,14 @@ impl<'a, 's> Tables<'a, 's> {
             alloc,
             pdb,
             &mut self.names,
+            &mut self.crossings,
             code,
             strings,
             procedure,
             place,
         )?;
-        let naming = outer_naming(alloc, code, procedure, other, place)?;
-        push_outer(&mut frames, code, strings, naming, place)?;
+        let naming = outer_naming(alloc, code.code, procedure, other, place)?;
+        push_outer(&mut frames, code.code, strings, naming, place)?;
         Ok(frames)
     }
 }

@@ -1,5 +1,6 @@
 //! Code of modules that are put together record by record.
 
+use crate::crossings::{Crossings, ListedCode};
 use crate::frames::push_inlined;
 use crate::tests::files::{file_of_streams, is};
 use crate::tests::modules::info_of;
@@ -399,7 +400,6 @@ fn frames_have_the_files_of_their_own_lines(rt: HostRuntime) -> Result<()> {
     let names = FunctionNames {
         ids: ItemFinder::empty(alloc),
         types: ItemFinder::empty(alloc),
-        information: None,
     };
     // There is no file at 16.
     let mut calls = Vec::new(alloc);
@@ -409,11 +409,17 @@ fn frames_have_the_files_of_their_own_lines(rt: HostRuntime) -> Result<()> {
     let mut frames = Vec::new(alloc);
     let file = file_of_streams(alloc, [b"", b"", b"", b"", b"", b"", b"", b"", b""])?;
     let mut pdb = PDB::open(alloc, MemorySource::new(file.as_slice()))?;
+    let asked = ListedCode {
+        listed: &[],
+        number: 0,
+        code: &code,
+    };
     push_inlined(
         alloc,
         &mut pdb,
         &mut frames,
-        &code,
+        &mut Crossings::new(alloc),
+        &asked,
         &names,
         Some(&strings),
         calls.as_slice(),

@@ -1,9 +1,10 @@
 //! Names of inlined calls whose ids are those of another module.
 
-use crate::tests::files::{file_of_streams, numbers, put, put_numbers};
-use crate::tests::modules::SAMPLE;
+use crate::exported_ids::ExportedIds;
+use crate::tests::files::{file_of_streams, is, numbers, put, put_numbers};
+use crate::tests::modules::{SAMPLE, info_of};
 use crate::tests::resolver::{DBI, INFORMATION, texts_are};
-use pdb::Result;
+use pdb::{IdIndex, Local, Result};
 use std::alloc::Global;
 use std::process::Abort;
 
@@ -199,4 +200,34 @@ fn an_inlined_function_has_the_id_of_the_call(rt: HostRuntime) -> Result<()> {
         ..FOUND
     };
     has_text(&rt, rt.alloc(), made, "main\na.c:2:0\n\n")
+}
+
+#[test]
+fn the_first_export_of_a_number_is_found_in_any_order(rt: HostRuntime) -> Result<()> {
+    let alloc = rt.alloc();
+    let pairs = [
+        0x8000_0022,
+        7,
+        0x8000_0011,
+        8,
+        0x8000_0022,
+        9,
+        0x8000_0000,
+        10,
+    ];
+    let mut bytes = numbers(alloc, &[0xf8, 32])?;
+    bytes.extend_from_slice(numbers(alloc, &pairs)?.as_slice())?;
+    let info = info_of(&rt, bytes.as_slice(), (0, 0, 40))?;
+    let exports = ExportedIds::new(alloc, info.exports(alloc)?)?;
+    let wanted = [
+        (0x8000_0022, Some(7)),
+        (0x8000_0011, Some(8)),
+        (0x8000_0000, Some(10)),
+        (0x8000_0001, None),
+    ];
+    for (local, global) in wanted {
+        let found = exports.find(Local(IdIndex(local)));
+        is(&rt, "export", &found.map(|id| id.0), &global);
+    }
+    Ok(())
 }

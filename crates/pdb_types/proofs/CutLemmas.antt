@@ -22,15 +22,16 @@ take_beyond (a ∷ x) s m (suc n) e = ap (λ (l : List ℕ). a ∷ l) (take_beyo
 pub cut_full : (limit : ℕ) (before text : List ℕ) → length before ≤ limit → limit ≤ length before → IsCut limit before text before
 cut_full limit before text short full =
     let same : length before ≡ limit = omega arith in
-    record { is = sym (take_at before text limit same); fits = short }
+    record { is = sym (take_at before text limit same); fits = short; grows = omega arith }
 
 pub cut_none : (limit : ℕ) (before : List ℕ) → length before ≤ limit → IsCut limit before [] before
-cut_none limit before short = record { is = sym (ap (take limit) (append-nil before) ∙ take_all limit before short); fits = short }
+cut_none limit before short = record { is = sym (ap (take limit) (append-nil before) ∙ take_all limit before short); fits = short; grows = omega arith }
 
 pub cut_then : (limit : ℕ) (before first second middle now : List ℕ) → IsCut limit before first middle → IsCut limit middle second now → IsCut limit before (first ++ second) now
 cut_then limit before first second middle now a b = record {
   is = b.is ∙ ap (λ (m : List ℕ). take limit (m ++ second)) a.is ∙ take_cut limit (before ++ first) second ∙ ap (take limit) (append_assoc before first second);
   fits = b.fits;
+  grows = (let low = a.grows in let high = b.grows in omega (arith, low, high));
 }
 
 pub cut_three : (limit : ℕ) (before first second third one two now : List ℕ) → IsCut limit before first one → IsCut limit one second two → IsCut limit two third now → IsCut limit before (first ++ (second ++ third)) now
@@ -38,6 +39,13 @@ cut_three limit before first second third one two now a b c = cut_then limit bef
 
 pub cut_four : (limit : ℕ) (before first second third fourth one two three now : List ℕ) → IsCut limit before first one → IsCut limit one second two → IsCut limit two third three → IsCut limit three fourth now → IsCut limit before (first ++ (second ++ (third ++ fourth))) now
 cut_four limit before first second third fourth one two three now a b c d = cut_then limit before first (second ++ (third ++ fourth)) one now a (cut_three limit one second third fourth two three now b c d)
+
+-- below the limit the text is whole
+pub cut_whole : (limit : ℕ) (before text now : List ℕ) → IsCut limit before text now → length now < limit → length now ≡ length before + length text
+cut_whole limit before text now cut below =
+    let sized : length (before ++ text) ≡ length before + length text = length-append before text in
+    let taken = ap length cut.is ∙ length-take limit (before ++ text) in
+    omega (arith, sized, taken, below)
 
 -- ---- what was there
 
@@ -89,19 +97,20 @@ pub put_all : (limit : ℕ) (before text : List ℕ) → length before ≤ limit
 put_all limit before text short room =
     let sized : length (before ++ text) ≡ length before + length text = length-append before text in
     let fits : length (before ++ text) ≤ limit = omega (arith, sized) in
-    record { is = sym (take_all limit (before ++ text) fits); fits = fits }
+    record { is = sym (take_all limit (before ++ text) fits); fits = fits; grows = omega (arith, sized) }
 
 pub put_some : (limit : ℕ) (before text : List ℕ) → length before ≤ limit → limit - length before < length text → IsCut limit before text (before ++ take (limit - length before) text)
 put_some limit before text short room =
     let m = limit - length before in
     let here : length (take m text) ≡ m = length-take-le m text (omega arith) in
     let sized : length (before ++ take m text) ≡ length before + length (take m text) = length-append before (take m text) in
-    record { is = sym (take_beyond before text m limit (omega arith)); fits = omega (arith, sized, here) }
+    record { is = sym (take_beyond before text m limit (omega arith)); fits = omega (arith, sized, here); grows = omega (arith, sized) }
 
-pub truncated : (limit : ℕ) (before text whole : List ℕ) → whole ≡ before ++ text → IsCut limit before text (take limit whole)
-truncated limit before text whole e =
+pub truncated : (limit : ℕ) (before text whole : List ℕ) → length before ≤ limit → whole ≡ before ++ text → IsCut limit before text (take limit whole)
+truncated limit before text whole short e =
     let sized = length-take limit whole in
-    record { is = ap (take limit) e; fits = omega (arith, sized) }
+    let longer = ap length e ∙ length-append before text in
+    record { is = ap (take limit) e; fits = omega (arith, sized); grows = omega (arith, sized, longer) }
 
 -- ---- a list of arguments
 

@@ -14,3 +14,4 @@ pub mod MemberLaws
 pub mod OverloadLemmas
 pub mod ModifierSteps
 pub mod DeclarationSteps
+pub mod VisitSteps

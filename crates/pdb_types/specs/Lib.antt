@@ -24,5 +24,6 @@ pub mod SimpleViews
 pub mod FullTypes
 pub mod DefinitionViews
 pub mod TypeTexts
+pub mod Visits
 pub mod Wrappers
 pub mod NameViews

@@ -1,6 +1,6 @@
 //! Texts that are cut off at a limit.
 
-ghost use Rattle.std.specs.Prelude.{◌≡◌, ◌≤◌, length, OnErr, OnOk};
+ghost use Rattle.std.specs.Prelude.{◌≡◌, ◌≤◌, ◌<◌, ◌+◌, length, OnErr, OnOk};
 ghost use Rattle.std.specs.Fmt.{decimal};
 ghost use Rattle.pdb_types.specs.Cuts.{IsCut, IsKept};
 
@@ -13,6 +13,7 @@ pub(crate) fn put(out: &mut Vec<u8>, limit: usize, text: &[u8]) -> Result<(), Al
     requires { length out.old.items ≤ limit }
     ensures ok { OnOk result (IsCut limit out.old.items text.now out.new.items) }
     ensures err { OnErr result (IsKept out.old.items out.new.items) }
+    ensures whole { OnOk result (length out.new.items < limit → length out.new.items ≡ length out.old.items + length text.now) }
 {
     let room = limit - out.len();
     if text.len() <= room {

@@ -1,15 +1,17 @@
 //! Declarations of names with types, as far as they go.
 
-ghost use Rattle.std.specs.Prelude.{◌≡◌, ◌≤◌, ◌++◌, drop, length, OnErr, OnOk};
+ghost use Rattle.std.specs.Prelude.{◌≡◌, ◌≤◌, ◌<◌, ◌+◌, ◌*◌, ◌++◌, drop, length, OnErr, OnOk};
 ghost use Rattle.pdb_types.specs.Cuts.{IsCut, IsKept};
 ghost use Rattle.pdb_types.specs.FullTypes.{first_definition};
 ghost use Rattle.pdb_types.specs.TypeTexts.{parts};
 ghost use Rattle.pdb_types.specs.Declarations.{blank_behind, declared_in, shown_declaration};
+ghost use Rattle.pdb_types.specs.Visits.{Bounded, Paid};
 
+use crate::backs::put_back;
 use crate::cuts::put;
 use crate::definitions::TypeDefinitions;
-use crate::names::{put_back, put_front};
-use pdb_base::TypeIndex;
+use crate::fronts::put_front;
+use pdb_base::{Steps, TypeIndex};
 use pdb_items::ItemFinder;
 use std::alloc::AllocError;
 
@@ -39,13 +41,16 @@ fn put_front_and_blank(
     out: &mut Vec<u8>,
     limit: usize,
     index: u32,
+    steps: &mut Steps,
 ) -> Result<(), AllocError>
     requires { length out.old.items ≤ limit }
     ensures ok { OnOk result (IsCut limit out.old.items ((parts types.now (first_definition definitions.now) 64 index).front ++ blank_behind (parts types.now (first_definition definitions.now) 64 index).front) out.new.items) }
     ensures err { OnErr result (IsKept out.old.items out.new.items) }
+    ensures paid { OnOk result (length out.new.items < limit → Paid 64 steps.old.count steps.new.count out.old.items out.new.items) }
+    ensures most { Bounded 16256 limit steps.old.count steps.new.count out.old.items }
 {
     let start = out.len();
-    put_front(types, definitions, out, limit, index, DEPTH)?;
+    put_front(types, definitions, out, limit, index, DEPTH, steps)?;
     let blank = blank_behind(out.as_slice().split_at(start).1);
     put(out, limit, blank)
 }
@@ -59,19 +64,21 @@ fn put_declared(
     limit: usize,
     index: u32,
     name: &[u8],
+    steps: &mut Steps,
 ) -> Result<(), AllocError>
     requires { length out.old.items ≤ limit }
     ensures ok { OnOk result (IsCut limit out.old.items (declared_in name.now (parts types.now (first_definition definitions.now) 64 index)) out.new.items) }
     ensures err { OnErr result (IsKept out.old.items out.new.items) }
+    ensures paid { OnOk result (length out.new.items < limit → Paid 128 steps.old.count steps.new.count out.old.items out.new.items) }
+    ensures most { Bounded 16384 limit steps.old.count steps.new.count out.old.items }
 {
-    put_front_and_blank(types, definitions, out, limit, index)?;
+    put_front_and_blank(types, definitions, out, limit, index, steps)?;
     put(out, limit, name)?;
-    put_back(types, definitions, out, limit, index, DEPTH)
+    put_back(types, definitions, out, limit, index, DEPTH, steps)
 }
 
 /// Writes the declaration of a name with a type in C++, as `int (*name)(char)`, behind what the buffer holds. It has at
 /// most 65,536 bytes, the name among them; what is cut off shows as `<...>`, as in `put_name`.
-#[tactic(auto, unfolding(crate::specs::Declarations::shown_declaration), using(crate::proofs::CutLemmas::cut_short, crate::proofs::CutLemmas::cut_long, crate::proofs::CutLemmas::kept_cut))]
 pub fn put_declaration(
     types: &ItemFinder<'_>,
     definitions: &TypeDefinitions<'_>,
@@ -82,8 +89,29 @@ pub fn put_declaration(
     ensures ok { OnOk result (out.new.items ≡ out.old.items ++ shown_declaration types.now (first_definition definitions.now) index.0 name.now) }
     ensures err { OnErr result (IsKept out.old.items out.new.items) }
 {
+    put_declaration_counted(types, definitions, out, index, name, &mut Steps::new())
+}
+
+/// The same as `put_declaration`, with a step for each record that is read to follow types. A declaration takes at most
+/// 128 for each byte that is written, and 128 more. One that is cut off takes at most 4 for each of 65,537 bytes and 64
+/// levels.
+#[tactic(auto, unfolding(crate::specs::Declarations::shown_declaration), using(crate::proofs::CutLemmas::cut_short, crate::proofs::CutLemmas::cut_long, crate::proofs::CutLemmas::kept_cut))]
+pub fn put_declaration_counted(
+    types: &ItemFinder<'_>,
+    definitions: &TypeDefinitions<'_>,
+    out: &mut Vec<u8>,
+    index: TypeIndex,
+    name: &[u8],
+    steps: &mut Steps,
+) -> Result<(), AllocError>
+    ensures ok { OnOk result (out.new.items ≡ out.old.items ++ shown_declaration types.now (first_definition definitions.now) index.0 name.now) }
+    ensures err { OnErr result (IsKept out.old.items out.new.items) }
+    ensures paid { OnOk result (length out.new.items ≤ length out.old.items + 65536 → Paid 128 steps.old.count steps.new.count out.old.items out.new.items) }
+    ensures visits { steps.new.count ≤ steps.old.count + 4 * 64 * 65537 }
+{
     let start = out.len();
-    put_declared(types, definitions, out, start + LENGTH + 1, index.0, name)?;
+    let limit = start + LENGTH + 1;
+    put_declared(types, definitions, out, limit, index.0, name, steps)?;
     if out.len() > start + LENGTH {
         out.truncate(start + LENGTH);
         out.extend_from_slice(b"<...>")?;

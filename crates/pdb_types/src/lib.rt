@@ -1,10 +1,12 @@
 //! Names, sizes and contents of the types of Microsoft's program database (PDB) files.
 #![tactic(auto)]
 
+mod backs;
 mod cuts;
 mod declarations;
 mod definitions;
 mod enumerators;
+mod fronts;
 mod functions;
 pub mod laws;
 mod member_faults;
@@ -24,14 +26,15 @@ mod simple;
 mod sizes;
 mod tags;
 mod type_data;
+mod visits;
 mod whole_name;
 mod wrappers;
 
-pub use declarations::put_declaration;
+pub use declarations::{put_declaration, put_declaration_counted};
 pub use definitions::TypeDefinitions;
 pub use enumerators::{EnumeratorValue, bit_position, enumerator_value};
 pub use functions::function_type;
-pub use member_faults::MemberFaults;
+pub use member_faults::{ChainEnd, MemberFaults};
 pub use member_lists::MemberIter;
 pub use members::{FieldAttributes, Member};
 pub use overloads::{MethodListEntry, OverloadIter};
@@ -42,4 +45,4 @@ pub use records::{
 };
 pub use tags::{Class, Enumeration, Tag, Union};
 pub use type_data::TypeData;
-pub use whole_name::put_name;
+pub use whole_name::{put_name, put_name_counted};

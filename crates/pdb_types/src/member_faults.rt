@@ -49,35 +49,15 @@ struct ListEnd {
     end: Result<Option<u32>, Error>,
 }
 
-// How the lists end that go on in one another.
-#[derive(Clone, Copy)]
-enum ChainEnd {
-    // All are read, or as many as may be.
+/// How lists of members end that go on in one another (`LF_INDEX`).
+#[derive(Clone, Copy, Debug, PartialEq, Eq)]
+pub enum ChainEnd {
+    /// All are read, or as many as may be.
     Whole,
-    // One is named that was read before.
+    /// They continue in themselves: one names a list that was read before.
     Endless,
-    // One can't be read.
+    /// One can't be read.
     Refused(Error),
-}
-
-impl ChainEnd {
-    fn fault(self) -> Option<Error>
-        ensures { result ≡ fault_of self }
-    {
-        match self {
-            ChainEnd::Refused(error) => Some(error),
-            ChainEnd::Whole | ChainEnd::Endless => None,
-        }
-    }
-
-    fn is_endless(self) -> bool
-        ensures { result ≡ is_endless self }
-    {
-        match self {
-            ChainEnd::Endless => true,
-            ChainEnd::Whole | ChainEnd::Refused(_) => false,
-        }
-    }
 }
 
 // How lists end behind as many as may be read, by the list that would be next.
@@ -188,20 +168,13 @@ impl<'x, 't> MemberFaults<'x, 't> {
         unread_end(&read, left)
     }
 
-    /// The fault of the members of the list of this index, as `Tag::fields` has it: the error of `MemberIter` over it,
-    /// if it has one.
+    /// How the lists of members end that go on from the list of this index, as `Tag::fields` has it: 0 for none. That
+    /// they continue in themselves is no error of `MemberIter`.
     #[tactic(auto, using(crate::proofs::MemberFaultSteps::chain_fault))]
-    pub fn fault(&self, list: TypeIndex) -> Option<Error>
-        ensures { result ≡ (members_of self.now list.0).fault }
+    pub fn chain_end(&self, list: TypeIndex) -> ChainEnd
+        ensures ends { result ≡ chain_end self.now list.0 }
+        ensures fault { fault_of result ≡ (members_of self.now list.0).fault }
     {
-        self.chain(list.0).fault()
-    }
-
-    /// Whether the list of members of this index, as `Tag::fields` has it, continues in itself: `MemberIter` over it ends
-    /// with `Member::Endless`.
-    pub fn is_endless(&self, list: TypeIndex) -> bool
-        ensures { result ≡ is_endless (chain_end self.now list.0) }
-    {
-        self.chain(list.0).is_endless()
+        self.chain(list.0)
     }
 }

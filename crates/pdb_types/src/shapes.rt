@@ -1,7 +1,7 @@
 //! What the names of types depend on beside their texts: whether a pointer needs parentheses, and where qualifiers
 //! stand.
 
-ghost use Rattle.std.specs.Prelude.{◌≡◌, ◌++◌, ◌≤◌, ℕ, List, Option, length, OnErr, OnOk};
+ghost use Rattle.std.specs.Prelude.{◌≡◌, ◌++◌, ◌≤◌, ◌<◌, ◌+◌, ℕ, List, Option, length, OnErr, OnOk};
 ghost use Rattle.std.specs.Option.{option_map};
 ghost use Rattle.pdb_types.specs.Cuts.{IsCut, IsKept};
 ghost use Rattle.pdb_types.specs.TypeReading.{shown_type};
@@ -10,7 +10,8 @@ ghost use Rattle.pdb_types.specs.TypeTexts.{gap, is_function, is_plain, member_g
 use crate::cuts::put;
 use crate::simple::is_simple_pointer;
 use crate::type_data::TypeData;
-use crate::wrappers::wrapper_of;
+use crate::visits::visit_wrapper;
+use pdb_base::Steps;
 use pdb_items::ItemFinder;
 use std::alloc::AllocError;
 
@@ -44,11 +45,17 @@ impl Shape {
 
 // The shape of a type that says this.
 #[cycle(shapes)]
-pub(crate) fn shape_by(types: &ItemFinder<'_>, says: Option<TypeData<'_>>, depth: u32) -> Shape
-    ensures { (first : List ℕ → Option ℕ) → result ≡ (parts_of types.now first depth (parts types.now first depth) (option_map shown_type says.entry)).shape }
+pub(crate) fn shape_by(
+    types: &ItemFinder<'_>,
+    says: Option<TypeData<'_>>,
+    depth: u32,
+    steps: &mut Steps,
+) -> Shape
+    ensures said { (first : List ℕ → Option ℕ) → result ≡ (parts_of types.now first depth (parts types.now first depth) (option_map shown_type says.entry)).shape }
+    ensures few { steps.new.count ≤ steps.old.count + depth }
 {
     match says {
-        Some(TypeData::Modifier(modifier)) => shape_of(types, modifier.underlying.0, depth),
+        Some(TypeData::Modifier(modifier)) => shape_of(types, modifier.underlying.0, depth, steps),
         Some(TypeData::Array(_)) => Shape::Array,
         Some(TypeData::Procedure(_) | TypeData::MemberFunction(_)) => Shape::Function,
         _ => Shape::Plain,
@@ -58,24 +65,31 @@ pub(crate) fn shape_by(types: &ItemFinder<'_>, says: Option<TypeData<'_>>, depth
 // The shape of the type of an index.
 #[cycle(shapes)]
 #[tactic(auto, using(crate::proofs::NameSteps::parts_simple, crate::proofs::NameSteps::parts_end, crate::proofs::WrapperSteps::shape_step))]
-pub(crate) fn shape_of(types: &ItemFinder<'_>, index: u32, depth: u32) -> Shape
-    ensures { (first : List ℕ → Option ℕ) → result ≡ (parts types.now first depth index).shape }
+pub(crate) fn shape_of(types: &ItemFinder<'_>, index: u32, depth: u32, steps: &mut Steps) -> Shape
+    ensures said { (first : List ℕ → Option ℕ) → result ≡ (parts types.now first depth index).shape }
+    ensures few { steps.new.count ≤ steps.old.count + depth }
 {
     if index < 0x1000 || depth == 0 {
         return Shape::Plain;
     }
-    let says = wrapper_of(types, index);
-    shape_by(types, says, depth - 1)
+    let says = visit_wrapper(types, index, steps);
+    shape_by(types, says, depth - 1, steps)
 }
 
 // Whether qualifiers stand behind the front of a type that says this.
 #[cycle(sides)]
-fn is_right_by(types: &ItemFinder<'_>, says: Option<TypeData<'_>>, depth: u32) -> bool
-    ensures { (first : List ℕ → Option ℕ) → result ≡ (parts_of types.now first depth (parts types.now first depth) (option_map shown_type says.entry)).is_right }
+fn is_right_by(
+    types: &ItemFinder<'_>,
+    says: Option<TypeData<'_>>,
+    depth: u32,
+    steps: &mut Steps,
+) -> bool
+    ensures said { (first : List ℕ → Option ℕ) → result ≡ (parts_of types.now first depth (parts types.now first depth) (option_map shown_type says.entry)).is_right }
+    ensures few { steps.new.count ≤ steps.old.count + depth }
 {
     match says {
-        Some(TypeData::Modifier(modifier)) => is_right(types, modifier.underlying.0, depth),
-        Some(TypeData::Array(array)) => is_right(types, array.element.0, depth),
+        Some(TypeData::Modifier(modifier)) => is_right(types, modifier.underlying.0, depth, steps),
+        Some(TypeData::Array(array)) => is_right(types, array.element.0, depth, steps),
         Some(TypeData::Pointer(_)) => true,
         _ => false,
     }
@@ -84,8 +98,9 @@ fn is_right_by(types: &ItemFinder<'_>, says: Option<TypeData<'_>>, depth: u32) -
 // Whether qualifiers stand behind the front of the type of an index.
 #[cycle(sides)]
 #[tactic(auto, using(crate::proofs::NameSteps::parts_simple, crate::proofs::NameSteps::parts_end, crate::proofs::WrapperSteps::side_step))]
-pub(crate) fn is_right(types: &ItemFinder<'_>, index: u32, depth: u32) -> bool
-    ensures { (first : List ℕ → Option ℕ) → result ≡ (parts types.now first depth index).is_right }
+pub(crate) fn is_right(types: &ItemFinder<'_>, index: u32, depth: u32, steps: &mut Steps) -> bool
+    ensures said { (first : List ℕ → Option ℕ) → result ≡ (parts types.now first depth index).is_right }
+    ensures few { steps.new.count ≤ steps.old.count + depth }
 {
     if index < 0x1000 {
         return is_simple_pointer(index);
@@ -93,8 +108,8 @@ pub(crate) fn is_right(types: &ItemFinder<'_>, index: u32, depth: u32) -> bool
     if depth == 0 {
         return false;
     }
-    let says = wrapper_of(types, index);
-    is_right_by(types, says, depth - 1)
+    let says = visit_wrapper(types, index, steps);
+    is_right_by(types, says, depth - 1, steps)
 }
 
 // What stands between the front of a type of this shape and a star.
@@ -120,6 +135,7 @@ pub(crate) fn put_member_gap(
     requires { length out.old.items ≤ limit }
     ensures ok { OnOk result (IsCut limit out.old.items (member_gap shape) out.new.items) }
     ensures err { OnErr result (IsKept out.old.items out.new.items) }
+    ensures long { OnOk result (length out.new.items < limit → length out.old.items < length out.new.items) }
 {
     if shape.is_plain() {
         put(out, limit, b" ")
@@ -136,9 +152,11 @@ pub(crate) fn put_mark(
     shape: Shape,
     mark: &[u8],
 ) -> Result<(), AllocError>
-    requires { length out.old.items ≤ limit }
+    requires short { length out.old.items ≤ limit }
+    requires marked { 0 < length mark.now }
     ensures ok { OnOk result (IsCut limit out.old.items (gap shape ++ mark.now) out.new.items) }
     ensures err { OnErr result (IsKept out.old.items out.new.items) }
+    ensures long { OnOk result (length out.new.items < limit → length out.old.items < length out.new.items) }
 {
     put_gap(out, limit, shape)?;
     put(out, limit, mark)

@@ -454,30 +454,28 @@ fn faults_of_lists_that_many_types_have(rt: HostRuntime) -> Result<()> {
     let class = b"\x01\x10\x74\0\0\0\x01\0";
     let bytes = stream(alloc, &[&goes_on, &cut, &unknown, &itself, &whole, class])?;
     let types = ItemFinder::new(alloc, few(&rt, &bytes))?;
-    let eof = Some(Error::UnexpectedEof);
-    let member = Some(Error::UnimplementedFeature(Feature::SymbolDataFormat));
+    let eof = ChainEnd::Refused(Error::UnexpectedEof);
+    let member = ChainEnd::Refused(Error::UnimplementedFeature(Feature::SymbolDataFormat));
     let wanted = [
-        (0, None),
+        (0, ChainEnd::Whole),
         (0x1000, eof),
         (0x1001, eof),
         (0x1002, member),
-        (0x1003, None),
-        (0x1004, None),
+        (0x1003, ChainEnd::Endless),
+        (0x1004, ChainEnd::Whole),
         (0x1005, eof),
         (0x1006, eof),
         (0xfff, eof),
     ];
     let faults = MemberFaults::of_types(alloc, &types, ItemIter::new(few(&rt, &bytes))?)?;
-    for (list, fault) in wanted {
-        is(&rt, "fault", &faults.fault(TypeIndex(list)), &fault);
-        let endless = faults.is_endless(TypeIndex(list));
-        is(&rt, "endless", &endless, &(list == 0x1003));
+    for (list, end) in wanted {
+        is(&rt, "end", &faults.chain_end(TypeIndex(list)), &end);
     }
     // The items of another stream take time, and change nothing.
     let other = stream(alloc, &[class, &whole])?;
     let faults = MemberFaults::of_types(alloc, &types, ItemIter::new(few(&rt, &other))?)?;
-    for (list, fault) in wanted {
-        is(&rt, "fault", &faults.fault(TypeIndex(list)), &fault);
+    for (list, end) in wanted {
+        is(&rt, "end", &faults.chain_end(TypeIndex(list)), &end);
     }
     Ok(())
 }

@@ -1,6 +1,6 @@
 //! Answers to the lines of standard input.
 
-ghost use Rattle.std.specs.Prelude.{◌≡◌, ◌<◌, ◌++◌, ◌⊎◌, ⊤, true, false, IfOk, IfErr, IfSome, IsErrOf, OnOk, Some, length};
+ghost use Rattle.std.specs.Prelude.{◌≡◌, ◌<◌, ◌++◌, ◌⊎◌, true, false, IfOk, IfErr, IfSome, IsErrOf, OnOk, Some, length};
 ghost use Rattle.std.specs.IoError.{error_kind};
 ghost use Rattle.std.specs.Io.KnownBytes.{IsAtEnd};
 ghost use Rattle.std.specs.Io.BufRead.{drop_through, strip_last, take_through};
@@ -8,7 +8,8 @@ ghost use Rattle.pdb.specs.Source.{Continues, MayFail};
 ghost use Rattle.tool_arguments.specs.CodeAddresses.{without_blanks};
 ghost use Rattle.tool_addresses.specs.AnsweredLines.{AnsweredUpTo, lines_of, of_first_line};
 ghost use Rattle.tool_addresses.specs.RequestTexts.{line_shown, unasked_text};
-ghost use Rattle.tool_output.specs.Stops.{Halts, StopsComposing, stop_of_kind};
+ghost use Rattle.tool_output.specs.Stops.{StopsAnswering, StopsComposing, stop_of_kind};
+ghost use Rattle.tool_output.specs.WriteFailures.{failures_after};
 ghost use Rattle.tool_output.specs.declared.stop.Stop.{Stop};
 ghost use Rattle.tool_printing.specs.Printing.{Prints, all_shown};
 
@@ -75,7 +76,7 @@ fn line_stop(e: &io::Error) -> Stop
 {
     match e.kind() {
         ErrorKind::OutOfMemory => Stop::Memory,
-        _ => Stop::Read,
+        _ => Stop::Input,
     }
 }
 
@@ -87,7 +88,7 @@ fn read_line<R: BufRead>(input: &mut R, line: &mut Vec<u8>) -> Result<usize, Sto
     ensures end { IfOk result (λ n. n ≡ 0 → IsAtEnd (R.remaining input.old)) }
     ensures count { IfOk result (λ n. n ≡ length line.new.items) }
     ensures some { IfOk result (λ n. 0 < n → IfSome (R.remaining input.old) (λ xs. 0 < length xs)) }
-    ensures unwritten { IfErr result (λ e. (e ≡ Stop.Memory) ⊎ (e ≡ Stop.Read)) }
+    ensures unwritten { IfErr result (λ e. (e ≡ Stop.Memory) ⊎ (e ≡ Stop.Input)) }
 {
     line.clear();
     input.read_until(b'\n', line).map_err(|e| line_stop(&e))
@@ -127,7 +128,8 @@ fn answer_line<'s, S: Source<'s>, R: BufRead, P: Printer>(
 ) -> Result<bool, Stop>
     ensures continues { Continues resolver.old resolver.new }
     ensures prints { resolver.new.told ≡ true → IfSome (R.remaining input.old) (λ xs. Prints (of_first_line (line_shown resolver.old.file options) xs) (P.state out.old) (P.state out.new) result) }
-    ensures halts { Halts ⊤ (P.state out.old) (P.state out.new) result }
+    ensures stops { IfErr result (StopsAnswering (MayFail resolver.old resolver.new)) }
+    ensures failures { (P.state out.new).failures ≡ failures_after (P.state out.old).failures result }
     // The first line that was left, and no more, was read.
     ensures read { IfSome (R.remaining input.old) (λ xs. OnOk result (R.remaining input.new ≡ Some (drop_through 10 xs))) }
     // There was a line exactly where bytes were left.
@@ -161,7 +163,8 @@ pub fn answer_lines<'s, S: Source<'s>, R: BufRead, P: Printer>(
 ) -> Result<(), Stop>
     ensures continues { Continues resolver.old resolver.new }
     ensures prints { resolver.new.told ≡ true → IfSome (R.remaining input.old) (λ xs. Prints (all_shown (line_shown resolver.old.file options) (lines_of xs)) (P.state out.old) (P.state out.new) result) }
-    ensures halts { Halts ⊤ (P.state out.old) (P.state out.new) result }
+    ensures stops { IfErr result (StopsAnswering (MayFail resolver.old resolver.new)) }
+    ensures failures { (P.state out.new).failures ≡ failures_after (P.state out.old).failures result }
     // No line is read before the texts of those before it were printed.
     ensures order { resolver.new.told ≡ true → IsErrOf result Stop.Write → IfSome (R.remaining input.old) (λ xs. IfSome (R.remaining input.new) (λ rest. AnsweredUpTo (line_shown resolver.old.file options) xs rest (P.state out.old) (P.state out.new))) }
 {
@@ -171,5 +174,5 @@ pub fn answer_lines<'s, S: Source<'s>, R: BufRead, P: Printer>(
             return Ok(());
         }
     }
-    Err(Stop::Read)
+    Err(Stop::Input)
 }

@@ -104,7 +104,7 @@ fn put_parts(
     }
 }
 
-/// Where a variable is; `-` where it is nowhere.
+/// Where a variable is; `-` if it is nowhere.
 fn put_location(
     out: &mut Vec<u8>,
     machine: Option<Machine>,
@@ -163,7 +163,7 @@ fn empty_texts(alloc: Global, count: usize) -> Result<Vec<Vec<u8>>, AllocError>
     Ok(texts)
 }
 
-/// The line of a variable behind the text of this number, where there is one.
+/// The line of a variable behind the text of this number, if there is one.
 fn put_in_text(
     texts: &mut Vec<Vec<u8>>,
     number: usize,
@@ -190,7 +190,7 @@ impl OwnedLines {
         })
     }
 
-    /// One more line; nothing where the variable is of another call.
+    /// One more line; nothing if the variable is of another call.
     fn put(&mut self, machine: Option<Machine>, variable: &VariableAt<'_>) -> Result<(), AllocError>
         ensures own { OnOk result (self.new.own.items ≡ own_behind (variable_line machine (shown_variable variable.now)) variable.now.owner self.old.own.items) }
         ensures calls { OnOk result (call_texts self.new ≡ calls_behind (variable_line machine (shown_variable variable.now)) variable.now.owner (call_texts self.old)) }

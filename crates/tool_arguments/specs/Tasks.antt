@@ -3,7 +3,7 @@ use Rattle.std.specs.Prelude.{ℕ, ◌+◌, List, [], ◌∷◌, codes, length, 
 use Rattle.std.specs.Str.{bytes_eq}
 use Rattle.tool_arguments.specs.Commands.{command_in, named_in}
 use Rattle.tool_arguments.specs.Operands.{WordAt, address_in, all_in, first_empty, module_in, operand_view, operands_of, source_in, type_in}
-use Rattle.tool_arguments.specs.Options.{is_dashes, options_of}
+use Rattle.tool_arguments.specs.Options.{behind_word, options_of}
 use Rattle.tool_arguments.specs.Requests.{AddressOf, address_view}
 use Rattle.tool_arguments.specs.SourcesAsked.{SourceOf}
 use Rattle.tool_arguments.specs.SourceViews.{source_view}
@@ -12,6 +12,7 @@ use Rattle.tool_arguments.specs.declared.commands.Command.TheVariants as command
 use Rattle.tool_arguments.specs.declared.mistakes.Mistake.{Mistake}
 use Rattle.tool_arguments.specs.declared.mistakes.Wrong.{Wrong}
 use Rattle.tool_arguments.specs.declared.mistakes.Wrong.TheVariants as wrong
+use Rattle.tool_arguments.specs.declared.options.Next.{Next}
 use Rattle.tool_arguments.specs.declared.options.Next.TheVariants.{Word}
 use Rattle.tool_arguments.specs.declared.options.Detail.TheVariants.{Variables}
 use Rattle.tool_arguments.specs.declared.options.Options.{Options}
@@ -164,10 +165,15 @@ over_operands c o operands n = over_split c o (split_first operands) n
 abbrev pub is_help : List ℕ → Bool
 is_help word = bytes_eq word (codes "-h") || bytes_eq word (codes "--help")
 
--- one of these arguments, before options end, asks for help
-abbrev pub wants_help : List (List ℕ) → Bool
-wants_help [] = false
-wants_help (word ∷ words) = if is_dashes word then false else if is_help word then true else wants_help words
+-- an argument asks for help where an option may stand: the value of an option, and what stands behind `--`, doesn't
+abbrev pub asks_for_help : Next → List ℕ → Bool
+asks_for_help Word word = is_help word
+asks_for_help next word = false
+
+-- one of these arguments asks for help
+abbrev pub wants_help : Next → List (List ℕ) → Bool
+wants_help next [] = false
+wants_help next (word ∷ words) = if asks_for_help next word then true else wants_help (behind_word next word) words
 
 abbrev pub with_options : Command → List (List ℕ) → Result Options Mistake → ℕ → Result TaskOf Mistake
 with_options c words (Ok o) n = over_operands c o (operands_of Word words 1) n
@@ -175,7 +181,7 @@ with_options c words (Err mistake) n = Err mistake
 
 -- a command with these arguments; n is their number with the command's name
 abbrev pub behind_command : Command → List (List ℕ) → ℕ → Result TaskOf Mistake
-behind_command c words n = if wants_help words then Ok (help (Some c)) else with_options c words (options_of c words 1) n
+behind_command c words n = if wants_help Word words then Ok (help (Some c)) else with_options c words (options_of c words 1) n
 
 abbrev pub behind_name : Option Command → List (List ℕ) → ℕ → Result TaskOf Mistake
 behind_name None words n = missing 0 wrong.UnknownCommand

@@ -4,14 +4,15 @@ ghost use Rattle.std.specs.Prelude.{◌≡◌, ◌+◌, ◌<◌, ◌^◌, drop, 
 ghost use Rattle.std.specs.Option.{option_map};
 ghost use Rattle.tool_arguments.specs.Mistakes.{Judges};
 ghost use Rattle.tool_arguments.specs.Operands.{operand_view};
-ghost use Rattle.tool_arguments.specs.Tasks.{addresses_task, behind_command, checks_task, ending, find_task, help_task, is_help, keys_task, module_task, over_file, over_operands, split_first, symbols_task, task_of, task_view, wants_help, where_task};
+ghost use Rattle.tool_arguments.specs.declared.options.Next.{Next};
+ghost use Rattle.tool_arguments.specs.Tasks.{addresses_task, asks_for_help, behind_command, checks_task, ending, find_task, help_task, is_help, keys_task, module_task, over_file, over_operands, split_first, symbols_task, task_of, task_view, wants_help, where_task};
 
 use crate::commands::{Command, command_in, named_in};
 use crate::mistakes::{Mistake, TaskError, Wrong};
 use crate::operands::{
     Operand, all_addresses, all_modules, all_sources, all_types, first_empty, operands_in,
 };
-use crate::options::{Detail, Options, OutputFormat, is_dashes, options_in};
+use crate::options::{Detail, Next, Options, OutputFormat, behind_word, options_in};
 use crate::requests::AddressWord;
 use crate::sources_asked::SourceAsked;
 use std::alloc::Global;
@@ -283,17 +284,26 @@ fn over_operands<'w>(
     }
 }
 
-/// Whether one of these arguments, before options end, asks for help.
-fn wants_help(words: &[String]) -> bool
-    ensures { result ≡ wants_help (map string_bytes words.now) }
+/// Whether an argument asks for help: only where an option may stand.
+fn asks_for_help(next: Next, word: &str) -> bool
+    ensures { result ≡ asks_for_help next word.now }
 {
+    match next {
+        Next::Word => is_help(word),
+        Next::Value(_) | Next::Operand => false,
+    }
+}
+
+/// Whether one of these arguments asks for help.
+fn wants_help(words: &[String]) -> bool
+    ensures { result ≡ wants_help Next.Word (map string_bytes words.now) }
+{
+    let mut next = Next::Word;
     for word in words {
-        if is_dashes(word.as_str()) {
-            return false;
-        }
-        if is_help(word.as_str()) {
+        if asks_for_help(next, word.as_str()) {
             return true;
         }
+        next = behind_word(next, word.as_str());
     }
     false
 }

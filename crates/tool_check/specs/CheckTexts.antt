@@ -14,8 +14,10 @@ use Rattle.pdb.specs.SymbolList.{Entry}
 use Rattle.pdb_resolve.specs.FileParts.{items_where}
 use Rattle.pdb_text.specs.Digits.{hex}
 use Rattle.pdb_types.specs.FullTypes.{says_of_item}
-use Rattle.tool_check.specs.Checks.{contributions_ended_in, ended_by, error_of, files_of_module, global_symbols_of_file, ids_in, is_damage, is_said, items_ended_by, items_of, lines_of_module, members_ended_by, modules_of_file, refused}
+use Rattle.pdb_types.specs.TypeSays.{TagSays}
+use Rattle.tool_check.specs.Checks.{contributions_ended_in, ended_by, error_of, files_of_module, global_symbols_of_file, has_endless_members, ids_in, is_damage, is_said, items_ended_by, items_of, lines_of_module, members_ended_by, modules_of_file, record_refused, refused}
 use Rattle.tool_output.specs.Absent.{lacks}
+use Rattle.tool_output.specs.ErrorLine.{message_of}
 use Rattle.tool_output.specs.FileNames.{names_in}
 use Rattle.tool_check.specs.Findings.{Subject, file_subject, line_of, module_subject, sound_in}
 use Rattle.tool_types.specs.TypeLines.{tag_said}
@@ -25,7 +27,7 @@ use Rattle.tool_arguments.specs.declared.options.OutputFormat.{OutputFormat}
 
 -- where the refusal tells of damage
 abbrev pub damage_text : Subject → List ℕ → Error → List ℕ
-damage_text subject label e = if is_damage e then line_of subject label e else []
+damage_text subject label e = if is_damage e then line_of subject label (message_of e) else []
 
 -- of a refusal or a fault, where there is one
 abbrev pub fault_text : Subject → List ℕ → Option Error → List ℕ
@@ -40,7 +42,7 @@ at_index word index = word ++ hex 8 index
 
 -- of the refusal of a symbol's record
 abbrev pub record_text : Subject → List ℕ → Entry → List ℕ
-record_text subject word s = fault_text subject (at_index word s.index) (refused (record_at s.bytes))
+record_text subject word s = fault_text subject (at_index word s.index) (record_refused s.bytes)
 
 -- of the fault of the annotations of an inline site at an index
 abbrev pub site_text : Subject → ℕ → Result Data Error → List ℕ
@@ -121,9 +123,18 @@ abbrev pub unless : Bool → List ℕ → List ℕ
 unless true text = []
 unless false text = text
 
--- of the fault of the members of a type
+-- of a list of members that continues in itself
+abbrev pub endless_text : Subject → List ℕ → Bool → List ℕ
+endless_text subject label false = []
+endless_text subject label true = line_of subject label (codes "the list of members continues in itself")
+
+-- of the members of what has a tag
+abbrev pub members_text : Subject → List ℕ → List ItemEntry → Option TagSays → List ℕ
+members_text subject label types tag = fault_text subject label (members_ended_by types tag) ++ endless_text subject label (has_endless_members types tag)
+
+-- of the members of a type
 abbrev pub type_text : Subject → List ItemEntry → ItemEntry → List ℕ
-type_text subject types x = fault_text subject (at_index (codes "type ") x.index) (members_ended_by types (tag_said (says_of_item (Some x))))
+type_text subject types x = members_text subject (at_index (codes "type ") x.index) types (tag_said (says_of_item (Some x)))
 
 -- of the members of the types of a stream
 unfoldable pub type_texts : Subject → List ℕ → List ℕ

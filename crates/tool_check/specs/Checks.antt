@@ -7,6 +7,8 @@ use Rattle.pdb.specs.Left.{Left}
 use Rattle.pdb.specs.Answers.{address_map_in, debug_information_in, frame_table_in, global_symbols_in, information_in, sections_in, string_table_in}
 use Rattle.pdb.specs.Contributions.{contributions_in}
 use Rattle.pdb.specs.Features.{has_ids_of}
+use Rattle.pdb.specs.Data.{Data}
+use Rattle.pdb.specs.Forms.{record_at}
 use Rattle.pdb.specs.Header.{header_of}
 use Rattle.pdb.specs.DBIHeader.{DBIHeader}
 use Rattle.pdb.specs.Modules.{ModuleEntry, modules_in}
@@ -15,6 +17,8 @@ use Rattle.pdb.specs.SymbolList.{Entry, symbols_from}
 use Rattle.pdb.specs.LineInfo.{LineInfo}
 use Rattle.pdb.specs.Lines.{lines_of}
 use Rattle.pdb.specs.Files.{FileOf, files_of}
+use Rattle.pdb_records.specs.RecordReading.{further_at}
+use Rattle.pdb_types.specs.MemberEnds.{chain_end, is_endless}
 use Rattle.pdb_types.specs.MemberLists.{members_of}
 use Rattle.pdb_types.specs.TypeSays.{TagSays}
 use Rattle.pdb.specs.ModuleStream.{ModuleBytes, line_program_of}
@@ -32,6 +36,18 @@ is_damage e = true
 abbrev pub refused : {A : Type 0} → Result A Error → Option Error
 refused (Ok x) = None
 refused (Err e) = Some e
+
+-- the refusal of a symbol's record: one of a kind without a layout of a symbol may be a further record
+abbrev pub refused_of : List ℕ → Error → Option Error
+refused_of b (UnimplementedSymbolKind kind) = refused (further_at b)
+refused_of b e = Some e
+
+abbrev pub refused_by : List ℕ → Result Data Error → Option Error
+refused_by b (Ok d) = None
+refused_by b (Err e) = refused_of b e
+
+unfoldable pub record_refused : List ℕ → Option Error
+record_refused b = refused_by b (record_at b)
 
 -- what a list ends with: its refusal, or its fault
 abbrev pub ended_by : {A : Type 0} → Result (Left A) Error → Option Error
@@ -91,6 +107,11 @@ items_ended_by (Err e) = Some e
 abbrev pub members_ended_by : List ItemEntry → Option TagSays → Option Error
 members_ended_by types None = None
 members_ended_by types (Some tag) = if tag.is_forward then None else (members_of types tag.fields.0).fault
+
+-- whether the list of members of what has a tag continues in itself
+abbrev pub has_endless_members : List ItemEntry → Option TagSays → Bool
+has_endless_members types None = false
+has_endless_members types (Some tag) = if tag.is_forward then false else is_endless (chain_end types tag.fields.0)
 
 -- whether the information stream says that stream 4 has ids
 unfoldable pub ids_in : List ℕ → Result Bool Error

@@ -1,10 +1,8 @@
--- The line of an error that `check` finds, in a format.
+-- The line of what `check` finds, in a format.
 use Rattle.std.specs.Prelude.{ℕ, List, [], ◌++◌, codes}
 use Rattle.std.specs.Fmt.{decimal}
 use Rattle.json.specs.Json.{Json, null, object, Members, no_members, member}
-use Rattle.pdb.specs.Error.{Error}
 use Rattle.pdb_text.specs.OneLine.{one_line}
-use Rattle.tool_output.specs.ErrorLine.{message_of}
 use Rattle.tool_output.specs.Objects.{json_line, text_value}
 use Rattle.tool_arguments.specs.declared.options.OutputFormat.{OutputFormat}
 use Rattle.tool_arguments.specs.declared.options.OutputFormat.TheVariants.{Text, Json as Objects}
@@ -23,26 +21,26 @@ file_subject format name = record { format = format; file = name; part = [] }
 abbrev pub module_subject : OutputFormat → List ℕ → ℕ → Subject
 module_subject format name k = record { format = format; file = name; part = codes "module " ++ decimal k }
 
--- ---- an error at a label of a file
+-- ---- what is wrong at a label of a file
 
 -- `FILE: WHERE: TEXT`
-unfoldable pub finding_line : List ℕ → List ℕ → Error → List ℕ
-finding_line file label e = one_line file ++ codes ": " ++ label ++ codes ": " ++ message_of e ++ codes "\n"
+unfoldable pub finding_line : List ℕ → List ℕ → List ℕ → List ℕ
+finding_line file label what = one_line file ++ codes ": " ++ label ++ codes ": " ++ what ++ codes "\n"
 
 -- the same as a JSON object
-abbrev pub label_members : List ℕ → Error → Members
-label_members label e = member (codes "where") (text_value label) (member (codes "text") (text_value (message_of e)) no_members)
+abbrev pub label_members : List ℕ → List ℕ → Members
+label_members label what = member (codes "where") (text_value label) (member (codes "text") (text_value what) no_members)
 
-abbrev pub finding_value : List ℕ → List ℕ → Error → Json
-finding_value file label e = object (member (codes "file") (text_value file) (label_members label e))
+abbrev pub finding_value : List ℕ → List ℕ → List ℕ → Json
+finding_value file label what = object (member (codes "file") (text_value file) (label_members label what))
 
-abbrev pub finding_in : OutputFormat → List ℕ → List ℕ → Error → List ℕ
-finding_in Text file label e = finding_line file label e
-finding_in Objects file label e = json_line (finding_value file label e)
+abbrev pub finding_in : OutputFormat → List ℕ → List ℕ → List ℕ → List ℕ
+finding_in Text file label what = finding_line file label what
+finding_in Objects file label what = json_line (finding_value file label what)
 
 -- at a label of the part
-unfoldable pub line_of : Subject → List ℕ → Error → List ℕ
-line_of subject label e = finding_in subject.format subject.file (subject.part ++ label) e
+unfoldable pub line_of : Subject → List ℕ → List ℕ → List ℕ
+line_of subject label what = finding_in subject.format subject.file (subject.part ++ label) what
 
 -- ---- a file without an error
 

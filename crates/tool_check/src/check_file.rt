@@ -14,7 +14,7 @@ ghost use Rattle.tool_output.specs.declared.stop.Stop.{Stop};
 
 use crate::check_types::put_types;
 use crate::file_parts::{FilePart, put_part};
-use crate::findings::{put_answer, put_end, put_list, put_refusal, put_refused_record};
+use crate::findings::{put_answer, put_end, put_list, put_refusal, put_unparsed};
 use crate::subject::Subject;
 use pdb::{DebugInformation, Error, FallibleIterator, PDB, Source, Symbol, SymbolIter};
 use std::alloc::Global;
@@ -94,6 +94,7 @@ fn put_contributions<'s, S: Source<'s>>(
 }
 
 /// The line of a global symbol whose record has an error.
+#[tactic(auto, unfolding(crate::specs::Checks::record_refused))]
 fn put_record(
     alloc: Global,
     out: &mut Vec<u8>,
@@ -104,10 +105,9 @@ fn put_record(
     ensures unwritten { IfErr result (StopsComposing ⊥) }
     ensures text { OnOk result (out.new.items ≡ out.old.items ++ record_text subject.now word.now (symbol_of symbol.now)) }
 {
-    let index = symbol.index();
     match symbol.parse(alloc) {
         Ok(_parsed) => Ok(()),
-        Err(e) => put_refused_record(alloc, out, subject, word, index, e),
+        Err(e) => put_unparsed(alloc, out, subject, word, symbol, e),
     }
 }
 
@@ -224,7 +224,7 @@ fn has_ids<'s, S: Source<'s>>(pdb: &mut PDB<'s, S>) -> Result<bool, Stop>
     }
 }
 
-/// The line of the ids, where the information stream says that they are there.
+/// The line of the ids, if the information stream says that they are there.
 #[tactic(auto, unfolding(crate::specs::CheckTexts::ids_text))]
 fn put_ids<'s, S: Source<'s>>(
     pdb: &mut PDB<'s, S>,

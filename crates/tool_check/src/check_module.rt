@@ -11,7 +11,7 @@ ghost use Rattle.tool_check.specs.CheckTexts.{at_index, fault_text, lines_text, 
 ghost use Rattle.tool_output.specs.Stops.{StopsComposing};
 ghost use Rattle.tool_output.specs.declared.stop.Stop.{Stop};
 
-use crate::findings::{put_damage_at, put_end, put_refusal, put_refused_record};
+use crate::findings::{put_damage_at, put_end, put_refusal, put_unparsed};
 use crate::subject::Subject;
 use pdb::{
     FallibleIterator, InlineSiteSymbol, ModuleInfo, Symbol, SymbolData, SymbolIndex, SymbolIter,
@@ -35,7 +35,7 @@ fn put_site(
     }
 }
 
-/// The line of the fault of the annotations, where a record says an inline site.
+/// The line of the fault of the annotations, if a record says an inline site.
 fn put_site_of(
     alloc: Global,
     out: &mut Vec<u8>,
@@ -52,7 +52,7 @@ fn put_site_of(
 }
 
 /// The line of a symbol whose record has an error, or of a site whose annotations have a fault.
-#[tactic(auto, unfolding(crate::specs::CheckTexts::symbol_text))]
+#[tactic(auto, unfolding(crate::specs::CheckTexts::symbol_text, crate::specs::Checks::record_refused))]
 fn put_symbol(
     alloc: Global,
     out: &mut Vec<u8>,
@@ -62,10 +62,9 @@ fn put_symbol(
     ensures text { OnOk result (out.new.items ≡ out.old.items ++ symbol_text subject.now (symbol_of symbol.now)) }
     ensures unwritten { IfErr result (StopsComposing ⊥) }
 {
-    let index = symbol.index();
     match symbol.parse(alloc) {
-        Ok(parsed) => Ok(put_site_of(alloc, out, subject, index, &parsed)?),
-        Err(e) => put_refused_record(alloc, out, subject, b" symbol ", index, e),
+        Ok(parsed) => Ok(put_site_of(alloc, out, subject, symbol.index(), &parsed)?),
+        Err(e) => put_unparsed(alloc, out, subject, b" symbol ", symbol, e),
     }
 }
 

@@ -1,37 +1,52 @@
 //! What is wrong with the types of a file, and with their members.
 
-ghost use Rattle.std.specs.Prelude.{◌≡◌, ◌++◌, ◌⊎◌, flat_map, None, OnOk, IfErr, true};
+ghost use Rattle.std.specs.Prelude.{◌≡◌, ◌++◌, ◌⊎◌, codes, flat_map, None, OnOk, IfErr, true};
 ghost use Rattle.std.specs.Option.{option_map};
 ghost use Rattle.pdb.specs.Container.{stream_of};
 ghost use Rattle.pdb.specs.Source.{Continues, MayFail};
 ghost use Rattle.pdb_items.specs.ItemViews.{item_of, items_left};
+ghost use Rattle.pdb_types.specs.MemberEnds.{fault_of, is_endless};
 ghost use Rattle.pdb_types.specs.TypeReading.{shown_tag};
-ghost use Rattle.tool_check.specs.Checks.{members_ended_by};
-ghost use Rattle.tool_check.specs.CheckTexts.{listed_types_text, type_text, type_texts};
+ghost use Rattle.tool_check.specs.Checks.{has_endless_members, members_ended_by};
+ghost use Rattle.tool_check.specs.CheckTexts.{at_index, endless_text, listed_types_text, type_text, type_texts};
 ghost use Rattle.tool_output.specs.Stops.{StopsComposing};
 ghost use Rattle.tool_output.specs.declared.stop.Stop.{Stop};
 
 use crate::check_file::put_items_refusal;
-use crate::findings::{put_damage_at, put_list};
+use crate::findings::{label_at, put_damage_at, put_list};
 use crate::subject::Subject;
-use pdb::{Error, FallibleIterator, Item, ItemIter, PDB, Source, TypeInformation};
+use pdb::{FallibleIterator, Item, ItemIter, PDB, Source, TypeInformation};
 use pdb_resolve::types_of;
-use pdb_types::{MemberFaults, Tag};
+use pdb_types::{ChainEnd, MemberFaults, Tag};
 use std::alloc::{AllocError, Global};
 use tool_output::stop::{Stop, stop_of};
 use tool_types::type_lines::{said_of, tag_said};
 
-/// The fault of the members of what has this tag; what is only declared has none.
-fn members_ended_by(faults: &MemberFaults<'_, '_>, tag: &Option<Tag<'_>>) -> Option<Error>
-    ensures { result ≡ members_ended_by faults.now (option_map shown_tag tag.now) }
+/// How the lists of members of what has this tag end; what is only declared has none.
+fn members_end(faults: &MemberFaults<'_, '_>, tag: &Option<Tag<'_>>) -> ChainEnd
+    ensures fault { fault_of result ≡ members_ended_by faults.now (option_map shown_tag tag.now) }
+    ensures endless { is_endless result ≡ has_endless_members faults.now (option_map shown_tag tag.now) }
 {
     match tag {
-        Some(tag) if !tag.is_forward => faults.fault(tag.fields),
-        _ => None,
+        Some(tag) if !tag.is_forward => faults.chain_end(tag.fields),
+        _ => ChainEnd::Whole,
     }
 }
 
-/// The line of the fault of a type's members.
+/// The line of the list of members of a type that continues in itself.
+fn put_endless(
+    alloc: Global,
+    out: &mut Vec<u8>,
+    subject: &Subject<'_>,
+    index: u32,
+) -> Result<(), AllocError>
+    ensures { OnOk result (out.new.items ≡ out.old.items ++ endless_text subject.now (at_index (codes "type ") index) true) }
+{
+    let label = label_at(alloc, b"type ", index)?;
+    subject.put_line(out, &label, b"the list of members continues in itself")
+}
+
+/// The lines of what is wrong with the members of a type.
 fn put_type(
     alloc: Global,
     out: &mut Vec<u8>,
@@ -41,9 +56,10 @@ fn put_type(
 ) -> Result<(), AllocError>
     ensures { OnOk result (out.new.items ≡ out.old.items ++ type_text subject.now faults.now (item_of item.now)) }
 {
-    match members_ended_by(faults, &tag_said(&said_of(item))) {
-        Some(e) => put_damage_at(alloc, out, subject, b"type ", item.index(), e),
-        None => Ok(()),
+    match members_end(faults, &tag_said(&said_of(item))) {
+        ChainEnd::Whole => Ok(()),
+        ChainEnd::Refused(e) => put_damage_at(alloc, out, subject, b"type ", item.index(), e),
+        ChainEnd::Endless => put_endless(alloc, out, subject, item.index()),
     }
 }
 

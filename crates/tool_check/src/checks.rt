@@ -94,7 +94,7 @@ fn put_listed<'s, S: Source<'s>>(
     }
 }
 
-/// The lines of the modules of a file; none where their list has an error.
+/// The lines of the modules of a file; none if their list has an error.
 #[tactic(auto, unfolding(crate::specs::Checks::modules_of_file))]
 fn put_modules<'s, S: Source<'s>>(
     alloc: Global,

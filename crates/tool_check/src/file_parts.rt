@@ -44,7 +44,7 @@ fn label_of(part: FilePart) -> &'static [u8]
     }
 }
 
-/// The error of a part, where it can't be read.
+/// The error of a part, if it can't be read.
 fn error_of<'s, S: Source<'s>>(pdb: &mut PDB<'s, S>, part: FilePart) -> Option<Error>
     ensures continues { Continues pdb.old pdb.new }
     ensures failed { IfSome result (λ e. e ≡ Error.IoError → MayFail pdb.old pdb.new) }
@@ -60,7 +60,7 @@ fn error_of<'s, S: Source<'s>>(pdb: &mut PDB<'s, S>, part: FilePart) -> Option<E
     }
 }
 
-/// The line of a part's error, where it has one.
+/// The line of a part's error, if it has one.
 #[inline(always)]
 #[tactic(auto, unfolding(crate::specs::CheckTexts::part_text))]
 pub fn put_part<'s, S: Source<'s>>(

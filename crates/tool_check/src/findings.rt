@@ -2,15 +2,18 @@
 
 ghost use Rattle.std.specs.Prelude.{◌≡◌, ◌≢◌, ◌++◌, ◌⊎◌, codes, OnOk, IfOk, IfErr, IsErrOf};
 ghost use Rattle.pdb.specs.Error.{Error};
-ghost use Rattle.tool_check.specs.Checks.{is_damage};
+ghost use Rattle.pdb.specs.Views.{symbol_of};
+ghost use Rattle.tool_check.specs.Checks.{is_damage, refused_of};
 ghost use Rattle.tool_check.specs.CheckTexts.{at_index, damage_text, fault_text};
 ghost use Rattle.tool_output.specs.Stops.{StopsComposing};
 ghost use Rattle.tool_output.specs.declared.stop.Stop.{Stop};
 
 use crate::subject::Subject;
-use pdb::{Error, FallibleIterator, SymbolIndex};
+use pdb::{Error, FallibleIterator, Symbol, SymbolIndex};
+use pdb_records::Record;
 use pdb_text::put_hex8;
 use std::alloc::{AllocError, Global};
+use tool_output::error_line::put_message;
 use tool_output::stop::Stop;
 
 /// Whether an error is damage, and not of what isn't there, or of a kind of symbol without a format.
@@ -25,7 +28,7 @@ fn is_damage(e: Error) -> bool
     }
 }
 
-/// The line of an error, where it is damage.
+/// The line of an error, if it is damage.
 pub fn put_damage(
     out: &mut Vec<u8>,
     subject: &Subject<'_>,
@@ -34,14 +37,25 @@ pub fn put_damage(
 ) -> Result<(), AllocError>
     ensures { OnOk result (out.new.items ≡ out.old.items ++ damage_text subject.now label.now e) }
 {
-    if is_damage(e) {
-        subject.put_line(out, label, e)
-    } else {
-        Ok(())
+    if !is_damage(e) {
+        return Ok(());
     }
+    let mut message = Vec::new(*out.allocator());
+    put_message(&mut message, e)?;
+    subject.put_line(out, label, &message)
 }
 
-/// The same of a symbol or a type: behind the word stands its index.
+/// The label of a symbol or a type: behind a word stands its index.
+pub fn label_at(alloc: Global, word: &[u8], index: u32) -> Result<Vec<u8>, AllocError>
+    ensures { IfOk result (λ label. label.items ≡ at_index word.now index) }
+{
+    let mut label = Vec::new(alloc);
+    label.extend_from_slice(word)?;
+    put_hex8(&mut label, index)?;
+    Ok(label)
+}
+
+/// The line of an error of a symbol or a type, if it is damage.
 pub fn put_damage_at(
     alloc: Global,
     out: &mut Vec<u8>,
@@ -52,13 +66,8 @@ pub fn put_damage_at(
 ) -> Result<(), AllocError>
     ensures { OnOk result (out.new.items ≡ out.old.items ++ damage_text subject.now (at_index word.now index) e) }
 {
-    if !is_damage(e) {
-        return Ok(());
-    }
-    let mut label = Vec::new(alloc);
-    label.extend_from_slice(word)?;
-    put_hex8(&mut label, index)?;
-    subject.put_line(out, &label, e)
+    let label = label_at(alloc, word, index)?;
+    put_damage(out, subject, &label, e)
 }
 
 /// The same of the error of a record; out of memory, and a source that failed, are passed on.
@@ -81,6 +90,28 @@ pub fn put_refused_record(
     }
 }
 
+/// The line of the error of a symbol's record that isn't one of a symbol's layouts: of such a kind it may be a further
+/// record. Out of memory, and a source that failed, are passed on.
+pub fn put_unparsed(
+    alloc: Global,
+    out: &mut Vec<u8>,
+    subject: &Subject<'_>,
+    word: &[u8],
+    symbol: &Symbol<'_>,
+    e: Error,
+) -> Result<(), Stop>
+    ensures text { OnOk result ((e ≢ Error.OutOfMemory) × (e ≢ Error.IoError) × (out.new.items ≡ out.old.items ++ fault_text subject.now (at_index word.now (symbol_of symbol.now).index) (refused_of (symbol_of symbol.now).bytes e))) }
+    ensures unwritten { IfErr result (StopsComposing (e ≡ Error.IoError)) }
+{
+    let Error::UnimplementedSymbolKind(_) = e else {
+        return put_refused_record(alloc, out, subject, word, symbol.index(), e);
+    };
+    match Record::parse(symbol) {
+        Ok(_) => Ok(()),
+        Err(e) => put_refused_record(alloc, out, subject, word, symbol.index(), e),
+    }
+}
+
 /// The line of the error of a call that reads the file; out of memory, and a source that failed, are passed on.
 pub fn put_refusal(
     out: &mut Vec<u8>,
@@ -98,7 +129,7 @@ pub fn put_refusal(
     }
 }
 
-/// The line of the error of a result, where it has one.
+/// The line of the error of a result, if it has one.
 pub fn put_answer<T: Drop>(
     out: &mut Vec<u8>,
     subject: &Subject<'_>,
@@ -116,7 +147,7 @@ pub fn put_answer<T: Drop>(
 }
 
 // piece: put_end
-/// The line of a list's fault, where it has one.
+/// The line of a list's fault, if it has one.
 pub fn put_end<I: FallibleIterator>(
     out: &mut Vec<u8>,
     subject: &Subject<'_>,
@@ -132,7 +163,7 @@ pub fn put_end<I: FallibleIterator>(
 }
 // end
 
-/// The line of a list's error or fault, where it has one.
+/// The line of a list's error or fault, if it has one.
 pub fn put_list<I: FallibleIterator>(
     out: &mut Vec<u8>,
     subject: &Subject<'_>,

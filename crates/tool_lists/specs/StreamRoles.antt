@@ -41,34 +41,55 @@ known_text FurtherTypeHashes = codes "further hashes of types"
 known_text IdHashes = codes "hashes of ids"
 known_text FurtherIdHashes = codes "further hashes of ids"
 
-abbrev pub what_text : What → List ℕ
-what_text (what.Known known) = known_text known
-what_text (what.Name name) = codes "name" ++ behind_blank (name_bytes name)
-what_text (what.Module k) = codes "module " ++ decimal k
+-- what a stream is, and the name that it has
+abbrev pub label_of : What → List ℕ
+label_of (what.Known known) = known_text known
+label_of (what.Name name) = codes "name"
+label_of (what.Module k) = codes "module " ++ decimal k
+
+abbrev pub name_of : What → List ℕ
+name_of (what.Name name) = name_bytes name
+name_of what = []
 
 -- ---- which they are
 
--- a stream, and what it is
+-- a stream, what it is, and the name that it has: empty where it has none
 pub record StreamRole : Type 0 where
   pub stream : ℕ
-  pub what : List ℕ
+  pub label : List ℕ
+  pub name : List ℕ
 
 abbrev pub role_view : Role → StreamRole
-role_view r = record { stream = r.stream; what = what_text r.what }
+role_view r = record { stream = r.stream; label = label_of r.what; name = name_of r.what }
+
+-- in a text the name stands on one line
+abbrev pub line_text : List ℕ → List ℕ → List ℕ
+line_text label name = label ++ behind_blank name
+
+-- in an object it stands as it is
+abbrev pub whole_behind_blank : List ℕ → List ℕ
+whole_behind_blank [] = []
+whole_behind_blank (b ∷ name) = codes " " ++ b ∷ name
+
+abbrev pub whole_text : List ℕ → List ℕ → List ℕ
+whole_text label name = label ++ whole_behind_blank name
 
 abbrev pub stream_number : Role → ℕ
 stream_number r = r.stream
 
 -- by an index, unless it is that of no stream
+abbrev pub named : List ℕ → List ℕ → ℕ → List StreamRole
+named label name n = if n == 65535 then [] else record { stream = n; label = label; name = name } ∷ []
+
 abbrev pub indexed : List ℕ → ℕ → List StreamRole
-indexed text n = if n == 65535 then [] else record { stream = n; what = text } ∷ []
+indexed label n = named label [] n
 
 -- those of one index in every file
 abbrev pub fixed_roles : List StreamRole
 fixed_roles = indexed (known_text OldDirectory) 0 ++ indexed (known_text Information) 1 ++ indexed (known_text Types) 2 ++ indexed (known_text DebugInformation) 3 ++ indexed (known_text Ids) 4
 
 abbrev pub name_roles : List Name → List StreamRole
-name_roles names = flat_map (λ n. indexed (codes "name" ++ behind_blank n.name) n.stream) names
+name_roles names = flat_map (λ n. named (codes "name") n.name n.stream) names
 
 -- those that the header of the DBI stream names
 abbrev pub header_roles : DBIHeader → List StreamRole

@@ -19,7 +19,7 @@ use Rattle.tool_arguments.specs.declared.options.OutputFormat.{OutputFormat}
 use Rattle.tool_arguments.specs.declared.options.OutputFormat.TheVariants.{Text, Json as Objects}
 use Rattle.tool_lists.specs.StreamOrder.{is_of}
 use Rattle.tool_lists.specs.declared.stream_roles.Role.{Role}
-use Rattle.tool_lists.specs.StreamRoles.{StreamRole, role_view, stream_number, extra_roles, fixed_roles, hash_roles, header_roles, known_text, module_roles, name_roles}
+use Rattle.tool_lists.specs.StreamRoles.{StreamRole, role_view, stream_number, extra_roles, fixed_roles, hash_roles, header_roles, known_text, line_text, module_roles, name_roles, whole_text}
 use Rattle.tool_lists.specs.declared.stream_roles.Known.TheVariants.{TypeHashes, FurtherTypeHashes, IdHashes, FurtherIdHashes}
 
 -- ---- what all streams are
@@ -63,7 +63,7 @@ size_text None = codes "-"
 
 abbrev pub what_list : List StreamRole → List ℕ
 what_list [] = codes "-"
-what_list (r ∷ rs) = r.what ++ flat_map (λ x. codes ", " ++ x.what) rs
+what_list (r ∷ rs) = line_text r.label r.name ++ flat_map (λ x. codes ", " ++ line_text x.label x.name) rs
 
 -- of stream n, of this size, which is all of this
 unfoldable pub line_of : ℕ → Option ℕ → List StreamRole → List ℕ
@@ -76,7 +76,7 @@ size_value (Some size) = number_value size
 
 abbrev pub what_items : List StreamRole → Items
 what_items [] = no_items
-what_items (r ∷ rs) = item (text_value r.what) (what_items rs)
+what_items (r ∷ rs) = item (text_value (whole_text r.label r.name)) (what_items rs)
 
 abbrev pub what_member : List StreamRole → Members
 what_member here = member (codes "what") (array (what_items here)) no_members

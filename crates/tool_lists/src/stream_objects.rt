@@ -5,10 +5,10 @@ ghost use Rattle.json.specs.Json.{array};
 ghost use Rattle.json.specs.Token.{key};
 ghost use Rattle.json.specs.Tree.{json_tokens, members_tokens};
 ghost use Rattle.tool_output.specs.Objects.{Adds, json_line, text_value};
-ghost use Rattle.tool_lists.specs.StreamRoles.{role_view, what_text};
+ghost use Rattle.tool_lists.specs.StreamRoles.{label_of, name_of, role_view, whole_text};
 ghost use Rattle.tool_lists.specs.StreamTexts.{size_value, stream_value, what_items, what_member};
 
-use crate::stream_roles::{Role, What, put_what};
+use crate::stream_roles::{Role, What, put_whole};
 use json::Writer;
 use std::alloc::AllocError;
 use tool_output::objects::{
@@ -27,16 +27,16 @@ fn put_size(writer: &mut Writer, size: Option<u32>) -> Result<(), AllocError>
 
 /// What a stream is, as a string that is composed in `room`.
 fn put_one(writer: &mut Writer, room: &mut Vec<u8>, what: What<'_>) -> Result<(), AllocError>
-    ensures { Adds result writer.old writer.new (json_tokens (text_value (what_text what.entry))) }
+    ensures { Adds result writer.old writer.new (json_tokens (text_value (whole_text (label_of what.entry) (name_of what.entry)))) }
 {
     room.clear();
-    put_what(room, what)?;
+    put_whole(room, what)?;
     put_text(*room.allocator(), writer, room)
 }
 
 /// All that a stream is.
 fn put_all(writer: &mut Writer, room: &mut Vec<u8>, roles: &[Role<'_>]) -> Result<(), AllocError>
-    ensures { Adds result writer.old writer.new (flat_map (λ r. json_tokens (text_value r.what)) (map role_view roles.now)) }
+    ensures { Adds result writer.old writer.new (flat_map (λ r. json_tokens (text_value (whole_text r.label r.name))) (map role_view roles.now)) }
 {
     for role in roles {
         put_one(writer, room, role.what)?;

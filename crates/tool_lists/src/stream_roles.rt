@@ -4,7 +4,7 @@ ghost use Rattle.std.specs.Prelude.{◌≡◌, ◌++◌, ◌<◌, OnOk, map};
 ghost use Rattle.std.specs.Ordering.{nat_cmp};
 ghost use Rattle.std.specs.List.Sorted.{IsNonDecreasingBy, IsStableByKey};
 ghost use Rattle.pdb.specs.DbiViews.{modules_left, modules_steps};
-ghost use Rattle.tool_lists.specs.StreamRoles.{extra_roles, first_extra_roles, fixed_roles, hash_roles, header_roles, indexed, known_text, later_extra_roles, module_roles, name_roles, role_view, stream_number, what_text};
+ghost use Rattle.tool_lists.specs.StreamRoles.{extra_roles, first_extra_roles, fixed_roles, hash_roles, header_roles, indexed, known_text, label_of, later_extra_roles, line_text, module_roles, name_of, name_roles, named, role_view, stream_number, whole_text};
 
 use pdb::{
     DBIExtraStreams, DBIHeader, FallibleIterator, ModuleIter, RawString, StreamIndex, StreamNames,
@@ -109,21 +109,49 @@ pub enum What<'a> {
     Module(u64),
 }
 
-/// Puts what a stream is.
-pub fn put_what(out: &mut Vec<u8>, what: What<'_>) -> Result<(), AllocError>
-    ensures { OnOk result (out.new.items ≡ out.old.items ++ what_text what.entry) }
+/// Puts what a stream is, without the name that it has.
+fn put_label(out: &mut Vec<u8>, what: What<'_>) -> Result<(), AllocError>
+    ensures { OnOk result (out.new.items ≡ out.old.items ++ label_of what.entry) }
 {
     match what {
         What::Known(known) => out.extend_from_slice(known.as_str().as_bytes()),
-        What::Name(name) => {
-            out.extend_from_slice(b"name")?;
-            put_behind_blank(out, name.as_bytes())
-        }
+        What::Name(_) => out.extend_from_slice(b"name"),
         What::Module(k) => {
             out.extend_from_slice(b"module ")?;
             put_decimal(out, k)
         }
     }
+}
+
+/// The name that a stream has; empty if it has none.
+fn name_of(what: What<'_>) -> &[u8]
+    ensures { result.now ≡ name_of what.entry }
+{
+    match what {
+        What::Name(name) => name.as_bytes(),
+        What::Known(_) | What::Module(_) => &[],
+    }
+}
+
+/// Puts what a stream is, on one line.
+pub fn put_what(out: &mut Vec<u8>, what: What<'_>) -> Result<(), AllocError>
+    ensures { OnOk result (out.new.items ≡ out.old.items ++ line_text (label_of what.entry) (name_of what.entry)) }
+{
+    put_label(out, what)?;
+    put_behind_blank(out, name_of(what))
+}
+
+/// The same with its name as it is.
+pub fn put_whole(out: &mut Vec<u8>, what: What<'_>) -> Result<(), AllocError>
+    ensures { OnOk result (out.new.items ≡ out.old.items ++ whole_text (label_of what.entry) (name_of what.entry)) }
+{
+    put_label(out, what)?;
+    let name = name_of(what);
+    if name.is_empty() {
+        return Ok(());
+    }
+    out.push(b' ')?;
+    out.extend_from_slice(name)
 }
 
 /// A stream, and what it is.
@@ -148,7 +176,7 @@ fn put_role<'a>(
     index: StreamIndex,
     what: What<'a>,
 ) -> Result<(), AllocError>
-    ensures { OnOk result (map role_view roles.new.items ≡ map role_view roles.old.items ++ indexed (what_text what.entry) index.0) }
+    ensures { OnOk result (map role_view roles.new.items ≡ map role_view roles.old.items ++ named (label_of what.entry) (name_of what.entry) index.0) }
 {
     match index.msf_number() {
         Some(stream) => Ok(roles.push(Role { stream, what })?),

@@ -11,7 +11,7 @@ ghost use Rattle.tool_output.specs.FileNames.{names_in};
 ghost use Rattle.pdb.specs.Error.{Error};
 ghost use Rattle.pdb.specs.Source.{Continues, MayFail};
 ghost use Rattle.tool_lists.specs.StreamOrder.{is_of, rises};
-ghost use Rattle.tool_lists.specs.StreamRoles.{hash_roles, known_text, role_view, stream_number};
+ghost use Rattle.tool_lists.specs.StreamRoles.{hash_roles, known_text, line_text, role_view, stream_number};
 ghost use Rattle.tool_lists.specs.StreamTexts.{debug_roles, information_roles, line_in, line_of, read_or_none, role_line, roles_by, roles_of, size_text, stream_line, streams_command, what_list};
 ghost use Rattle.tool_output.specs.Stops.{Halts, StopsComposing};
 ghost use Rattle.tool_output.specs.declared.stop.Stop.{Stop};
@@ -44,7 +44,7 @@ fn put_size(out: &mut Vec<u8>, size: Option<u32>) -> Result<(), AllocError>
 
 /// All that a stream is, behind the first.
 fn put_more(out: &mut Vec<u8>, roles: &[Role<'_>]) -> Result<(), AllocError>
-    ensures { OnOk result (out.new.items ≡ out.old.items ++ flat_map (λ x. codes ", " ++ x.what) (map role_view roles.now)) }
+    ensures { OnOk result (out.new.items ≡ out.old.items ++ flat_map (λ x. codes ", " ++ line_text x.label x.name) (map role_view roles.now)) }
 {
     for role in roles {
         out.extend_from_slice(b", ")?;

@@ -7,7 +7,7 @@ use Rattle.pdb.specs.Error.TheVariants as refusal
 use Rattle.pdb_file.specs.declared.reading.FetchError.{FetchError}
 use Rattle.pdb_file.specs.declared.reading.FetchError.TheVariants as fetch
 use Rattle.tool_output.specs.declared.stop.Stop.{Stop}
-use Rattle.tool_output.specs.declared.stop.Stop.TheVariants.{Unopened, Read, Open, Image, NoPdb, Memory, Write}
+use Rattle.tool_output.specs.declared.stop.Stop.TheVariants.{Unopened, Read, Input, Open, Image, NoPdb, Memory, Write}
 use Rattle.tool_output.specs.WriteFailures.{failures_after}
 use Rattle.tool_printing.specs.Printing.{Printing}
 use Rattle.tool_output.specs.declared.fault.Fault.{Fault}
@@ -21,7 +21,7 @@ stop_of_fetch fetch.Memory = Memory
 -- a read of standard input that failed, by its kind
 abbrev pub stop_of_kind : ErrorKind → Stop
 stop_of_kind kind.OutOfMemory = Memory
-stop_of_kind k = Read
+stop_of_kind k = Input
 
 -- a refused call on an opened file
 abbrev pub stop_of_refusal : Error → Stop
@@ -64,6 +64,16 @@ StopsCommand io Write = Unit {0}
 StopsCommand io (Open e) = Unit {0}
 StopsCommand io stop = ⊥
 
+-- what answers lines of standard input
+abbrev pub StopsAnswering : Type 0 → Stop → Type 0
+StopsAnswering io Input = Unit {0}
+StopsAnswering io stop = StopsWriting io stop
+
+-- the same, and opens the file
+abbrev pub StopsAsked : Type 0 → Stop → Type 0
+StopsAsked io Input = Unit {0}
+StopsAsked io stop = StopsCommand io stop
+
 -- a call that prints stops for one of these causes, and a failed write is counted
 pub record Halts {X : Type 0} (io : Type 0) (old new : Printing) (result : Result X Stop) : Type 0 where
   pub cause : IfErr result (StopsWriting io)
@@ -73,6 +83,7 @@ pub record Halts {X : Type 0} (io : Type 0) (old new : Printing) (result : Resul
 abbrev pub status_of_stop : Stop → ℕ
 status_of_stop (Unopened why) = 3
 status_of_stop Read = 3
+status_of_stop Input = 3
 status_of_stop (Open e) = 4
 status_of_stop (Image e) = 4
 status_of_stop NoPdb = 4

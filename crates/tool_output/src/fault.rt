@@ -60,7 +60,7 @@ fn status_of_stop(stop: Stop) -> u8
     ensures { result ≡ status_of_stop stop }
 {
     match stop {
-        Stop::Unopened(_) | Stop::Read => 3,
+        Stop::Unopened(_) | Stop::Read | Stop::Input => 3,
         Stop::Open(_) | Stop::Image(_) | Stop::NoPdb => 4,
         Stop::Memory => 5,
         Stop::Write => 6,

@@ -31,8 +31,10 @@ pub enum Unopened {
 pub enum Stop {
     /// The file can't be opened.
     Unopened(Unopened),
-    /// The file, or standard input, can't be read.
+    /// The file can't be read.
     Read,
+    /// Standard input can't be read.
+    Input,
     /// The file can't be opened as a container.
     Open(Error),
     /// The image has an error.

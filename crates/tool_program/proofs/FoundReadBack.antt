@@ -66,8 +66,8 @@ where_reads_back kind addresses r file name h = document-print (where_value kind
 pub source_reads_back : (k : ℕ) (kind digest : List ℕ) (name : Option (List ℕ)) → k < 2 ^ 64 → document (print (json_tokens (source_value k kind digest name))) ≡ Some (source_value k kind digest name)
 source_reads_back k kind digest name h = document-print (source_value k kind digest name) (IsNumber-decimal k h, (tt, (digest_numbers digest, (file_numbers name, tt)))) (omega (arith, source_depth k kind digest name))
 
-pub finding_reads_back : (file place : List ℕ) (e : Error) → document (print (json_tokens (finding_value file place e))) ≡ Some (finding_value file place e)
-finding_reads_back file place e = document-print (finding_value file place e) (tt, (tt, (tt, tt))) (omega arith)
+pub finding_reads_back : (file place what : List ℕ) → document (print (json_tokens (finding_value file place what))) ≡ Some (finding_value file place what)
+finding_reads_back file place what = document-print (finding_value file place what) (tt, (tt, (tt, tt))) (omega arith)
 
 pub sound_reads_back : (file : List ℕ) → document (print (json_tokens (sound_value file))) ≡ Some (sound_value file)
 sound_reads_back file = document-print (sound_value file) (tt, (tt, (tt, tt))) (omega arith)

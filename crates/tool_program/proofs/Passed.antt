@@ -1,6 +1,6 @@
 -- Calls over a file that pass on how another one ended.
 use Rattle.std.proofs.Common.{◌≡◌, ◌≢◌, ℕ, Bool, true, inl, inr, List, Option, Some, None, length, Result, Ok, Err, refl, sym, ◌∙◌}
-use Rattle.std.specs.Prelude.{IfErr, IfOk, IfSome, IsErrAnd, IsErrOf, OnErr}
+use Rattle.std.specs.Prelude.{IfErr, IfOk, IfSome, IsErrAnd, IsErrOf, Vec}
 use Rattle.pdb.specs.Container.{opens}
 use Rattle.pdb.specs.Error.{Error}
 use Rattle.pdb_file.specs.FileBytes.{size_by}
@@ -9,19 +9,17 @@ use Rattle.tool_arguments.specs.Operands.{WordAt}
 use Rattle.tool_arguments.specs.declared.options.OutputFormat.{OutputFormat}
 use Rattle.tool_check.specs.CheckTexts.{check_text, findings_text, is_nothing}
 use Rattle.tool_output.specs.EachFile.{GivesText, file_text_view}
-use Rattle.tool_output.specs.Stops.{StopsComposing, StopsOpening, StopsWriting}
+use Rattle.tool_output.specs.Stops.{StopsAnswering, StopsComposing, StopsOpening, StopsWriting}
 use Rattle.tool_output.specs.declared.each_file.FileText.{FileText}
 use Rattle.tool_output.specs.declared.stop.Stop.{Stop}
-use Rattle.tool_output.specs.declared.stop.Stop.TheVariants.{Memory, Open, Read, Write}
+use Rattle.tool_output.specs.declared.stop.Stop.TheVariants.{Input, Memory, Open, Read, Write}
 use Rattle.tool_program.specs.Hosts.{OpensAs}
 use Rattle.tool_program.specs.KeyLines.{key_line}
 use Rattle.tool_program.specs.SeveralFiles.{checked_by, keyed, line_told}
+use Rattle.tool_program.specs.Wanted.{IsHalted, PrintsWanted}
+use Rattle.tool_printing.specs.Printing.{Printing, Shown}
 
 -- ---- errors that are passed on
-
-pub on_err : {X E : Type 0} (r : Result X E) (P : E → Type 0) (Q : Type 0) → IsErrAnd r P → Q → OnErr r Q
-on_err (Ok x) P Q is h = absurd is
-on_err (Err e) P Q is h = h
 
 pub same_stop : {X : Type 0} (r : Result X Stop) (a b : Stop) → IsErrAnd r (λ x. x ≡ a) → IsErrOf r b → a ≡ b
 same_stop (Ok x) a b is of = absurd is
@@ -44,6 +42,20 @@ unread_writing io r Memory is stops never of = let there = same_stop r Memory Re
 unread_writing io r Write is stops never of = let there = same_stop r Write Read is of in absurd cc
 unread_writing io r Read is stops never of = never stops
 unread_writing io r a is stops never of = absurd stops
+
+pub unread_answering : {X : Type 0} (io : Type 0) (r : Result X Stop) (a : Stop) → IsErrAnd r (λ x. x ≡ a) → StopsAnswering io a → (io → ⊥) → IsErrOf r Read → ⊥
+unread_answering io r Memory is stops never of = let there = same_stop r Memory Read is of in absurd cc
+unread_answering io r Write is stops never of = let there = same_stop r Write Read is of in absurd cc
+unread_answering io r Input is stops never of = let there = same_stop r Input Read is of in absurd cc
+unread_answering io r Read is stops never of = never stops
+unread_answering io r a is stops never of = absurd stops
+
+-- ---- texts of a file that may be the wanted one
+
+pub wanted_err : {Z : Type 0} (file : List ℕ) (wanted : Option (List ℕ)) (text : Shown) (old new : Printing) (r : Result (Option (Vec ℕ Z)) Stop) (P : Stop → Type 0)
+    → IsErrAnd r P → IsHalted file wanted text old new → PrintsWanted file wanted text old new r
+wanted_err file wanted text old new (Ok key) P is h = absurd is
+wanted_err file wanted text old new (Err e) P is h = h
 
 -- ---- texts of files
 

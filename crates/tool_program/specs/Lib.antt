@@ -3,6 +3,7 @@ pub mod FileTexts
 pub mod Hosts
 pub mod KeyLines
 pub mod Messages
+pub mod ReadBack
 pub mod SeveralFiles
 pub mod Tasks
 pub mod Wanted

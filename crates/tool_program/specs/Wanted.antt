@@ -1,5 +1,6 @@
 -- Which PDB is wanted, and what is printed of a file where one is.
-use Rattle.std.specs.Prelude.{◌≡◌, ℕ, List, map, ◌⊎◌, Option, Some, None, Result, Ok, Err, if◌then◌else◌}
+use Rattle.std.specs.Prelude.{◌≡◌, ℕ, List, map, ◌⊎◌, Option, Some, None, IfSome, Result, Ok, Err, if◌then◌else◌, Vec, vec_items}
+use Rattle.std.specs.Option.{option_map}
 use Rattle.std.specs.Char.{to_ascii_uppercase}
 use Rattle.std.specs.List.{filter}
 use Rattle.std.specs.Str.{bytes_eq}
@@ -10,10 +11,13 @@ use Rattle.pdb.specs.Keys.{key_in, key_text}
 use Rattle.pdb_image.specs.declared.error.ImageError.{ImageError}
 use Rattle.pdb_image.specs.Debug.{Reference}
 use Rattle.pdb_image.specs.Images.{Said, image_of}
+use Rattle.tool_addresses.specs.AnsweredLines.{lines_of}
+use Rattle.tool_addresses.specs.RequestTexts.{line_shown}
 use Rattle.tool_arguments.specs.Options.{is_key_digit}
+use Rattle.tool_arguments.specs.declared.options.Options.{Options}
 use Rattle.tool_output.specs.declared.stop.Stop.{Stop}
 use Rattle.tool_output.specs.declared.stop.Stop.TheVariants.{Image, Memory, NoPdb, Open, Read}
-use Rattle.tool_printing.specs.Printing.{Halted, Printed, Printing, Shown}
+use Rattle.tool_printing.specs.Printing.{Halted, Printed, Printing, Shown, all_shown}
 
 -- the key that a value of `--key` spells: its hex digits, the letters as upper ones
 abbrev pub wanted_key : List ℕ → List ℕ
@@ -51,11 +55,20 @@ PrintedUnless text old new (Some key) = new ≡ old
 
 -- a file's text was printed where it is the wanted one, and else its key is answered
 abbrev pub IsPrinted : List ℕ → Option (List ℕ) → Shown → Printing → Printing → Option (List ℕ) → Type 0
-IsPrinted file wanted text old new answer = (other_key file wanted ≡ Ok answer) × PrintedUnless text old new answer
+IsPrinted file wanted text old new key = (other_key file wanted ≡ Ok key) × PrintedUnless text old new key
 
 -- nothing was printed, or the file is the wanted one and a beginning of its text was
 abbrev pub IsHalted : List ℕ → Option (List ℕ) → Shown → Printing → Printing → Type 0
 IsHalted file wanted text old new = (new ≡ old) ⊎ ((other_key file wanted ≡ Ok None) × Halted text old new)
+
+-- a call printed the text of a file, where it is the wanted one; a beginning of it where the call failed
+abbrev pub PrintsWanted : {Z : Type 0} → List ℕ → Option (List ℕ) → Shown → Printing → Printing → Result (Option (Vec ℕ Z)) Stop → Type 0
+PrintsWanted file wanted text old new (Ok key) = IsPrinted file wanted text old new (option_map vec_items key)
+PrintsWanted file wanted text old new (Err stop) = IsHalted file wanted text old new
+
+-- a call printed the texts of a reader's lines over it so
+abbrev pub AnswersWanted : {Z : Type 0} → List ℕ → Option (List ℕ) → Options → Option (List ℕ) → Printing → Printing → Result (Option (Vec ℕ Z)) Stop → Type 0
+AnswersWanted file wanted options input old new result = IfSome input (λ xs. PrintsWanted file wanted (all_shown (line_shown file options) (lines_of xs)) old new result)
 
 -- why it can't be opened, or why it has no key to compare
 abbrev pub IsRefused : List ℕ → Option (List ℕ) → Error → Type 0

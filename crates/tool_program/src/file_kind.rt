@@ -63,7 +63,7 @@ fn front_kind(front: &[u8]) -> Option<FileKind>
     }
 }
 
-/// What a file is, by its first 52 bytes (all where it has fewer) and its size; none where nothing is known.
+/// What a file is, by its first 52 bytes (all if it has fewer) and its size; none if nothing is known.
 #[tactic(auto, unfolding(crate::specs::FileKinds::file_kind))]
 pub fn file_kind(front: &[u8], size: u64) -> Option<FileKind>
     ensures { result ≡ file_kind front.now size }

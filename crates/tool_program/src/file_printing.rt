@@ -1,18 +1,17 @@
 //! What is printed of a file.
 
-ghost use Rattle.std.specs.Prelude.{◌≡◌, ⊤, false, true, Ok, Err, IfErr, IfOk, IfSome, IsErrOf, OnErr, OnOk, length, option_copied};
-ghost use Rattle.std.specs.Option.{ForSome, option_map};
+ghost use Rattle.std.specs.Prelude.{◌≡◌, ⊤, false, true, Ok, IfErr, IfOk, IsErrOf, OnOk, option_copied};
 ghost use Rattle.pdb.specs.Container.{opens};
 ghost use Rattle.pdb.specs.Error.{Error};
 ghost use Rattle.pdb.specs.Source.{Continues, IsKnown};
-ghost use Rattle.tool_addresses.specs.AnsweredLines.{lines_of};
-ghost use Rattle.tool_addresses.specs.RequestTexts.{address_shown, line_shown};
-ghost use Rattle.tool_output.specs.Stops.{Halts, StopsCommand, StopsComposing};
+ghost use Rattle.tool_addresses.specs.RequestTexts.{address_shown};
+ghost use Rattle.tool_output.specs.Stops.{Halts, StopsAsked, StopsCommand, StopsComposing};
 ghost use Rattle.tool_output.specs.WriteFailures.{failures_after};
 ghost use Rattle.tool_output.specs.declared.stop.Stop.{Stop};
 ghost use Rattle.tool_printing.specs.Printing.{Prints, all_shown};
 ghost use Rattle.tool_program.specs.FileTexts.{file_shown};
-ghost use Rattle.tool_program.specs.Wanted.{IsHalted, IsPrinted, IsRefused};
+ghost use Rattle.tool_program.specs.Hosts.{OfKnown};
+ghost use Rattle.tool_program.specs.Wanted.{AnswersWanted, IsRefused, PrintsWanted};
 
 use crate::wanted::other_key;
 use bumpalo::Bump;
@@ -93,7 +92,7 @@ fn print_task<'s, S: Source<'s>, P: Printer>(
     }
 }
 
-/// Prints what is asked for of a file of this size, where it is the wanted one; else returns its key. No more of the file
+/// Prints what is asked for of a file of this size, if it is the wanted one; else returns its key. No more of the file
 /// is read than both ask for.
 pub fn print_file<R: ReadAt, P: Printer>(
     alloc: Global,
@@ -103,12 +102,11 @@ pub fn print_file<R: ReadAt, P: Printer>(
     task: &FileTask<'_>,
     out: &mut P,
 ) -> Result<Option<Vec<u8>>, Stop>
-    ensures printed { ForSome (R.known bytes.now) (λ G. length G ≡ size → IfOk result (λ o. IsPrinted G (option_copied wanted.entry) (file_shown G task.now) (P.state out.old) (P.state out.new) (option_map (λ v. v.items) o))) }
-    ensures opened { ForSome (R.known bytes.now) (λ G. length G ≡ size → OnOk result (opens G ≡ Ok tt)) }
-    ensures refused { ForSome (R.known bytes.now) (λ G. length G ≡ size → (e : Error) → IsErrOf result (Stop.Open e) → IsRefused G (option_copied wanted.entry) e) }
-    ensures halted { ForSome (R.known bytes.now) (λ G. length G ≡ size → OnErr result (IsHalted G (option_copied wanted.entry) (file_shown G task.now) (P.state out.old) (P.state out.new))) }
+    ensures prints { OfKnown (R.known bytes.now) size (λ F. PrintsWanted F (option_copied wanted.entry) (file_shown F task.now) (P.state out.old) (P.state out.new) result) }
+    ensures opened { OfKnown (R.known bytes.now) size (λ F. OnOk result (opens F ≡ Ok tt)) }
+    ensures refused { OfKnown (R.known bytes.now) size (λ F. (e : Error) → IsErrOf result (Stop.Open e) → IsRefused F (option_copied wanted.entry) e) }
+    ensures steady { R.is_steady bytes.now ≡ true → OfKnown (R.known bytes.now) size (λ F. IsErrOf result Stop.Read → ⊥) }
     ensures stops { IfErr result (StopsCommand ⊤) }
-    ensures steady { R.is_steady bytes.now ≡ true → ForSome (R.known bytes.now) (λ G. length G ≡ size → IsErrOf result Stop.Read → ⊥) }
     ensures failures { (P.state out.new).failures ≡ failures_after (P.state out.old).failures result }
 {
     let arena = Bump::new(alloc);
@@ -124,7 +122,7 @@ pub fn print_file<R: ReadAt, P: Printer>(
     }
 }
 
-/// Prints the texts of the lines of a reader over a file of this size, each before the next is read, where it is the
+/// Prints the texts of the lines of a reader over a file of this size, each before the next is read, if it is the
 /// wanted one; else returns its key. No more of the file is read than its key and the lines ask for.
 pub fn answer_file<R: ReadAt, I: BufRead, P: Printer>(
     alloc: Global,
@@ -135,11 +133,11 @@ pub fn answer_file<R: ReadAt, I: BufRead, P: Printer>(
     input: &mut I,
     out: &mut P,
 ) -> Result<Option<Vec<u8>>, Stop>
-    ensures printed { ForSome (R.known bytes.now) (λ G. length G ≡ size → IfSome (I.remaining input.old) (λ xs. IfOk result (λ o. IsPrinted G (option_copied wanted.entry) (all_shown (line_shown G options) (lines_of xs)) (P.state out.old) (P.state out.new) (option_map (λ v. v.items) o)))) }
-    ensures opened { ForSome (R.known bytes.now) (λ G. length G ≡ size → OnOk result (opens G ≡ Ok tt)) }
-    ensures refused { ForSome (R.known bytes.now) (λ G. length G ≡ size → (e : Error) → IsErrOf result (Stop.Open e) → IsRefused G (option_copied wanted.entry) e) }
-    ensures halted { ForSome (R.known bytes.now) (λ G. length G ≡ size → IfSome (I.remaining input.old) (λ xs. OnErr result (IsHalted G (option_copied wanted.entry) (all_shown (line_shown G options) (lines_of xs)) (P.state out.old) (P.state out.new)))) }
-    ensures stops { IfErr result (StopsCommand ⊤) }
+    ensures prints { OfKnown (R.known bytes.now) size (λ F. AnswersWanted F (option_copied wanted.entry) options (I.remaining input.old) (P.state out.old) (P.state out.new) result) }
+    ensures opened { OfKnown (R.known bytes.now) size (λ F. OnOk result (opens F ≡ Ok tt)) }
+    ensures refused { OfKnown (R.known bytes.now) size (λ F. (e : Error) → IsErrOf result (Stop.Open e) → IsRefused F (option_copied wanted.entry) e) }
+    ensures steady { R.is_steady bytes.now ≡ true → OfKnown (R.known bytes.now) size (λ F. IsErrOf result Stop.Read → ⊥) }
+    ensures stops { IfErr result (StopsAsked ⊤) }
     ensures failures { (P.state out.new).failures ≡ failures_after (P.state out.old).failures result }
 {
     let arena = Bump::new(alloc);

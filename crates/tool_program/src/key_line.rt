@@ -1,12 +1,13 @@
 //! The lines of `key`: of a PDB, and of an image with the PDB that it names.
 
-ghost use Rattle.std.specs.Prelude.{◌≡◌, ◌≢◌, ◌↔◌, ◌<◌, ◌++◌, true, false, Some, Ok, Err, IfOk, IfErr, IsErrOf, OnOk, Option, length, ⊤};
-ghost use Rattle.std.specs.Option.{ForSome, option_map};
+ghost use Rattle.std.specs.Prelude.{◌≡◌, ◌≢◌, ◌↔◌, ◌<◌, ◌++◌, true, false, Ok, Err, IfOk, IfErr, IsErrOf, OnOk, Option, ⊤};
+ghost use Rattle.std.specs.Option.{option_map};
 ghost use Rattle.pdb.specs.Error.{Error};
 ghost use Rattle.pdb.specs.Refusal.{Gives};
-ghost use Rattle.pdb.specs.Source.{Continues, IsKnown, MayFail, view_bytes};
+ghost use Rattle.pdb.specs.Source.{Continues, MayFail, view_bytes};
 ghost use Rattle.pdb_image.specs.Headers.{is_image};
 ghost use Rattle.pdb_image.specs.Images.{image_of, reference, said};
+ghost use Rattle.tool_program.specs.Hosts.{OfKnown, OfSource, StopsAs};
 ghost use Rattle.tool_program.specs.KeyLines.{StopsLine, image_in as line_of_image, image_line as image_line_of, image_text as text_of_image, key_line as key_line_of, own_key, pdb_in as line_of_pdb, pdb_named, pdb_text as text_of_pdb};
 ghost use Rattle.tool_program.specs.Wanted.{StopsImage, wants_in as wants_there};
 ghost use Rattle.tool_output.specs.Stops.{StopsComposing, StopsOpening};
@@ -157,8 +158,8 @@ fn begins_as_image<'s, S: Source<'s>>(alloc: Global, source: &mut S) -> Result<b
 
 /// All bytes of a source's file of this size.
 fn whole<'s, S: Source<'s>>(alloc: Global, source: &mut S, size: u64) -> Result<View<'s>, Stop>
-    ensures bytes { IsKnown (S.state source.old) → length (S.state source.old).file ≡ size → IfOk result (λ v. view_bytes v ≡ (S.state source.old).file) }
-    ensures stops { IsKnown (S.state source.old) → length (S.state source.old).file ≡ size → IfErr result (StopsComposing (MayFail (S.state source.old) (S.state source.new))) }
+    ensures bytes { OfSource (S.state source.old) size (λ F. IfOk result (λ v. view_bytes v ≡ F)) }
+    ensures stops { OfSource (S.state source.old) size (λ _. IfErr result (StopsComposing (MayFail (S.state source.old) (S.state source.new)))) }
     ensures opening { IfErr result (StopsOpening (MayFail (S.state source.old) (S.state source.new))) }
 {
     let all = SourceSlice {
@@ -171,7 +172,7 @@ fn whole<'s, S: Source<'s>>(alloc: Global, source: &mut S, size: u64) -> Result<
     }
 }
 
-/// The line of a source's file of this size: of an image where it begins with `MZ`, of which all is viewed; else of a
+/// The line of a source's file of this size: of an image if it begins with `MZ`, of which all is viewed; else of a
 /// PDB, of which no more is viewed than its key asks for.
 #[tactic(auto, unfolding(crate::specs::KeyLines::key_line))]
 fn line_of<'s, S: Source<'s>>(
@@ -181,8 +182,8 @@ fn line_of<'s, S: Source<'s>>(
     size: u64,
     name: &[u8],
 ) -> Result<Vec<u8>, Stop>
-    ensures line { IsKnown (S.state source) → length (S.state source).file ≡ size → IfOk result (λ v. key_line_of format name.now (S.state source).file ≡ Ok v.items) }
-    ensures stopped { IsKnown (S.state source) → length (S.state source).file ≡ size → (s : Stop) → s ≢ Stop.Memory → s ≢ Stop.Read → IsErrOf result s → key_line_of format name.now (S.state source).file ≡ Err s }
+    ensures line { OfSource (S.state source) size (λ F. IfOk result (λ v. key_line_of format name.now F ≡ Ok v.items)) }
+    ensures stopped { OfSource (S.state source) size (λ F. StopsAs result (key_line_of format name.now F)) }
     ensures steady { IsErrOf result Stop.Read → (S.state source).steady ≡ false }
     ensures stops { IfErr result (StopsLine ⊤) }
 {
@@ -194,7 +195,7 @@ fn line_of<'s, S: Source<'s>>(
     Ok(pdb_in(alloc, format, &key, name)?)
 }
 
-/// The line of a file of this size and name: of an image where it begins with `MZ`, else of a PDB, of which no more is
+/// The line of a file of this size and name: of an image if it begins with `MZ`, else of a PDB, of which no more is
 /// read than its key asks for.
 pub fn key_line<R: ReadAt>(
     alloc: Global,
@@ -203,9 +204,9 @@ pub fn key_line<R: ReadAt>(
     size: u64,
     name: &[u8],
 ) -> Result<Vec<u8>, Stop>
-    ensures line { ForSome (R.known bytes.now) (λ G. length G ≡ size → IfOk result (λ v. key_line_of format name.now G ≡ Ok v.items)) }
-    ensures stopped { ForSome (R.known bytes.now) (λ G. length G ≡ size → (s : Stop) → s ≢ Stop.Memory → s ≢ Stop.Read → IsErrOf result s → key_line_of format name.now G ≡ Err s) }
-    ensures steady { R.is_steady bytes.now ≡ true → ForSome (R.known bytes.now) (λ G. length G ≡ size → IsErrOf result Stop.Read → ⊥) }
+    ensures line { OfKnown (R.known bytes.now) size (λ F. IfOk result (λ v. key_line_of format name.now F ≡ Ok v.items)) }
+    ensures stopped { OfKnown (R.known bytes.now) size (λ F. StopsAs result (key_line_of format name.now F)) }
+    ensures steady { R.is_steady bytes.now ≡ true → OfKnown (R.known bytes.now) size (λ F. IsErrOf result Stop.Read → ⊥) }
     ensures stops { IfErr result (StopsLine ⊤) }
 {
     let arena = Bump::new(alloc);
@@ -216,9 +217,9 @@ pub fn key_line<R: ReadAt>(
 
 /// What an image of this size wants.
 pub fn image_wants<R: ReadAt>(alloc: Global, bytes: &R, size: u64) -> Result<ImageWants, Stop>
-    ensures wants { ForSome (R.known bytes.now) (λ G. length G ≡ size → IfOk result (λ w. wants_there G ≡ Ok (record { key = w.key.items; base = w.base }))) }
-    ensures stopped { ForSome (R.known bytes.now) (λ G. length G ≡ size → (s : Stop) → s ≢ Stop.Memory → s ≢ Stop.Read → IsErrOf result s → wants_there G ≡ Err s) }
-    ensures steady { R.is_steady bytes.now ≡ true → ForSome (R.known bytes.now) (λ G. length G ≡ size → IsErrOf result Stop.Read → ⊥) }
+    ensures wants { OfKnown (R.known bytes.now) size (λ F. IfOk result (λ w. wants_there F ≡ Ok (record { key = w.key.items; base = w.base }))) }
+    ensures stopped { OfKnown (R.known bytes.now) size (λ F. StopsAs result (wants_there F)) }
+    ensures steady { R.is_steady bytes.now ≡ true → OfKnown (R.known bytes.now) size (λ F. IsErrOf result Stop.Read → ⊥) }
     ensures stops { IfErr result (StopsImage ⊤) }
 {
     let arena = Bump::new(alloc);

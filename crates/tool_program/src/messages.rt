@@ -57,6 +57,7 @@ fn put_stop(out: &mut Vec<u8>, stop: Stop, name: &str, kind: Kind) -> Result<(),
     match stop {
         Stop::Unopened(why) => put_about(out, name, reason_of(why).as_bytes()),
         Stop::Read => put_about(out, name, b"cannot read file"),
+        Stop::Input => out.extend_from_slice(b"pdb_tool: cannot read standard input\n"),
         Stop::Open(e) => put_opening(out, name, e, kind),
         Stop::Image(e) => {
             let text = format!(in *out.allocator(); "{e}")?;
@@ -125,9 +126,9 @@ fn put_other_key(out: &mut Vec<u8>, name: &str, key: &[u8], wanted: &[u8]) -> Re
     put_about(out, name, &text)
 }
 
-/// Writes a message that was composed; where there was no memory for it, that. Where standard error fails too, nobody
+/// Writes a message that was composed; if there was no memory for it, that. If standard error fails too, nobody
 /// can be told.
-fn tell<E: Write>(composed: Result<(), AllocError>, text: &[u8], err: &mut E) {
+fn report<E: Write>(composed: Result<(), AllocError>, text: &[u8], err: &mut E) {
     let _ = match composed {
         Ok(()) => write_out(err, text),
         Err(_) => write_out(err, b"pdb_tool: out of memory\n"),
@@ -135,41 +136,47 @@ fn tell<E: Write>(composed: Result<(), AllocError>, text: &[u8], err: &mut E) {
 }
 
 /// Writes what stopped a command over a file.
-pub fn tell_stop<H: Host, E: Write>(host: &H, stop: Stop, name: &str, err: &mut E) {
+pub fn report_stop<H: Host, E: Write>(host: &H, stop: Stop, name: &str, err: &mut E) {
     let mut text = Vec::new(host.alloc());
     let composed = put_stop(&mut text, stop, name, kind_of(host, stop, name));
-    tell(composed, &text, err);
+    report(composed, &text, err);
 }
 
 /// Writes that a file has this key, and another is wanted.
-pub fn tell_other_key<E: Write>(alloc: Global, name: &str, key: &[u8], wanted: &[u8], err: &mut E) {
+pub fn report_other_key<E: Write>(
+    alloc: Global,
+    name: &str,
+    key: &[u8],
+    wanted: &[u8],
+    err: &mut E,
+) {
     let mut text = Vec::new(alloc);
     let composed = put_other_key(&mut text, name, key, wanted);
-    tell(composed, &text, err);
+    report(composed, &text, err);
 }
 
 /// Writes that what was printed of a file has an error, and where to look.
-pub fn tell_damage<E: Write>(alloc: Global, name: &str, err: &mut E) {
+pub fn report_damage<E: Write>(alloc: Global, name: &str, err: &mut E) {
     let mut text = Vec::new(alloc);
     let composed = put_about(
         &mut text,
         name,
         b"a part of the file is damaged: see pdb_tool check",
     );
-    tell(composed, &text, err);
+    report(composed, &text, err);
 }
 
 /// Writes that addresses are read from a terminal.
-pub fn tell_reading<E: Write>(err: &mut E) {
+pub fn report_reading<E: Write>(err: &mut E) {
     let _ = write_out(
         err,
         b"pdb_tool: reading addresses from standard input, one a line\n",
     );
 }
 
-/// Writes a fault. Where standard error fails, nobody can be told.
-pub fn tell_fault<H: Host, E: Write>(host: &H, fault: Fault, words: &[String], err: &mut E) {
+/// Writes a fault. If standard error fails, nobody can be told.
+pub fn report_fault<H: Host, E: Write>(host: &H, fault: Fault, words: &[String], err: &mut E) {
     let mut text = Vec::new(host.alloc());
     let composed = put_fault(host, &mut text, fault, words);
-    tell(composed, &text, err);
+    report(composed, &text, err);
 }

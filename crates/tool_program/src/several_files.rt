@@ -1,17 +1,17 @@
 //! Commands over several files: their keys, and what is wrong with them.
 
-ghost use Rattle.std.specs.Prelude.{◌≡◌, ⊤, Err, IfErr, IfOk, IsErrOf, Ok, length, true};
-ghost use Rattle.std.specs.Option.{ForSome};
+ghost use Rattle.std.specs.Prelude.{◌≡◌, ⊤, Err, IfErr, IfOk, IsErrOf, Ok, true};
 ghost use Rattle.pdb.specs.Container.{opens};
 ghost use Rattle.pdb.specs.Error.{Error};
 ghost use Rattle.tool_output.specs.EachFile.{GivesText, file_text_view};
 ghost use Rattle.tool_output.specs.Stops.{StopsOpening};
 ghost use Rattle.tool_output.specs.declared.stop.Stop.{Stop};
+ghost use Rattle.tool_program.specs.Hosts.{OfKnown};
 ghost use Rattle.tool_program.specs.SeveralFiles.{checked_by};
 
 use crate::host::Host;
 use crate::key_line::key_line;
-use crate::messages::tell_stop;
+use crate::messages::report_stop;
 use bumpalo::Bump;
 use pdb_file::{KnownFile, ReadAt, ReadingSource};
 use std::alloc::Global;
@@ -55,7 +55,7 @@ impl<'h, H: Host> EachFile for Keys<'h, H> {
     }
 
     fn pass_over<E: Write>(&self, stop: Stop, name: Operand<'_>, err: &mut E) {
-        tell_stop(self.host, stop, name.word, err);
+        report_stop(self.host, stop, name.word, err);
     }
 }
 
@@ -67,10 +67,10 @@ fn check_file<R: ReadAt>(
     size: u64,
     name: &[u8],
 ) -> Result<FileText, Stop>
-    ensures gives { R.is_steady bytes.now ≡ true → ForSome (R.known bytes.now) (λ G. length G ≡ size → GivesText result (checked_by format name.now G (opens G))) }
-    ensures refused { ForSome (R.known bytes.now) (λ G. length G ≡ size → (e : Error) → IsErrOf result (Stop.Open e) → opens G ≡ Err e) }
+    ensures gives { R.is_steady bytes.now ≡ true → OfKnown (R.known bytes.now) size (λ F. GivesText result (checked_by format name.now F (opens F))) }
+    ensures refused { OfKnown (R.known bytes.now) size (λ F. (e : Error) → IsErrOf result (Stop.Open e) → opens F ≡ Err e) }
     ensures stops { IfErr result (StopsOpening ⊤) }
-    ensures text { ForSome (R.known bytes.now) (λ G. length G ≡ size → IfOk result (λ p. checked_by format name.now G (opens G) ≡ Ok (file_text_view p))) }
+    ensures text { OfKnown (R.known bytes.now) size (λ F. IfOk result (λ p. checked_by format name.now F (opens F) ≡ Ok (file_text_view p))) }
 {
     let arena = Bump::new(alloc);
     let file = KnownFile::new(bytes);
@@ -107,6 +107,6 @@ impl<'h, H: Host> EachFile for Checks<'h, H> {
     }
 
     fn pass_over<E: Write>(&self, stop: Stop, name: Operand<'_>, err: &mut E) {
-        tell_stop(self.host, stop, name.word, err);
+        report_stop(self.host, stop, name.word, err);
     }
 }

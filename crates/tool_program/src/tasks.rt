@@ -6,7 +6,7 @@ ghost use Rattle.tool_program.specs.Tasks.{exit_status, looks_up};
 use crate::file_printing::{answer_file, print_file};
 use crate::host::Host;
 use crate::key_line::image_wants;
-use crate::messages::{tell_damage, tell_other_key, tell_reading};
+use crate::messages::{report_damage, report_other_key, report_reading};
 use crate::several_files::{Checks, Keys};
 use crate::wanted::wanted_key;
 use pdb_file::FileBytes;
@@ -39,7 +39,7 @@ pub struct StandardStreams<'a, I: BufRead, W: CountedWrite, E: Write> {
     pub err: &'a mut E,
 }
 
-/// The key that is wanted, where one is; and the options, with the load address of an image where no other is given.
+/// The key that is wanted, if one is; and the options, with the load address of an image if no other is given.
 #[derive(Drop)]
 struct Wants {
     key: Option<Vec<u8>>,
@@ -95,26 +95,30 @@ fn wants_of<H: Host>(host: &H, options: Options, words: &[String]) -> Result<Wan
     }
 }
 
-/// Whether a text was printed; that the file isn't the wanted one is told.
+/// Whether a text was printed. That what was read for it has an error is reported, unless it can't be printed; and that the
+/// file isn't the wanted one.
 fn printed_or_other<E: Write>(
     alloc: Global,
     printed: Result<Option<Vec<u8>>, Stop>,
+    is_damaged: bool,
     name: Operand<'_>,
     wanted: Option<&[u8]>,
     err: &mut E,
 ) -> IsWell {
+    if is_damaged && !matches!(printed, Err(Stop::Write)) {
+        report_damage(alloc, name.word, err);
+    }
     match printed {
         Ok(None) => Ok(true),
         Ok(Some(key)) => {
-            tell_other_key(alloc, name.word, &key, wanted.unwrap_or(&[]), err);
+            report_other_key(alloc, name.word, &key, wanted.unwrap_or(&[]), err);
             Err(Fault::OtherKey)
         }
         Err(stop) => Err(Fault::Stopped(stop, name.argument)),
     }
 }
 
-/// Prints what is asked for of the file that an operand names, where it is the wanted one. That what was read for it has
-/// an error is told.
+/// Prints what is asked for of the file that an operand names, if it is the wanted one.
 fn print_of<H: Host, I: BufRead, W: CountedWrite, E: Write>(
     host: &H,
     name: Operand<'_>,
@@ -127,10 +131,8 @@ fn print_of<H: Host, I: BufRead, W: CountedWrite, E: Write>(
     let mut out = Printout::new(streams.out);
     let printed = print_file(alloc, &bytes, bytes.size(), wanted, task, &mut out);
     let is_well = out.has_text() || !looks_up(task);
-    if out.is_damaged() {
-        tell_damage(alloc, name.word, streams.err);
-    }
-    printed_or_other(alloc, printed, name, wanted, streams.err)?;
+    let is_damaged = out.is_damaged();
+    printed_or_other(alloc, printed, is_damaged, name, wanted, streams.err)?;
     Ok(is_well)
 }
 
@@ -164,7 +166,7 @@ fn answer_input<H: Host, I: BufRead, W: CountedWrite, E: Write>(
         return Err(Fault::NoInput);
     }
     if host.is_asked_by_hand() {
-        tell_reading(streams.err);
+        report_reading(streams.err);
     }
     let key = wants.key.as_deref();
     let mut out = Printout::new(streams.out);
@@ -177,10 +179,8 @@ fn answer_input<H: Host, I: BufRead, W: CountedWrite, E: Write>(
         streams.input,
         &mut out,
     );
-    if out.is_damaged() {
-        tell_damage(alloc, name.word, streams.err);
-    }
-    printed_or_other(alloc, printed, name, key, streams.err)
+    let is_damaged = out.is_damaged();
+    printed_or_other(alloc, printed, is_damaged, name, key, streams.err)
 }
 
 /// That what is looked up is UTF-8.

@@ -56,7 +56,7 @@ pub fn wants_in(alloc: Global, bytes: &[u8]) -> Result<ImageWants, Stop>
     })
 }
 
-/// A key, where it isn't the wanted one.
+/// A key, if it isn't the wanted one.
 fn unless_wanted(key: Vec<u8>, wanted: &[u8]) -> Option<Vec<u8>>
     ensures { option_map (λ v. v.items) result ≡ other_than wanted.now key.items }
 {
@@ -67,7 +67,7 @@ fn unless_wanted(key: Vec<u8>, wanted: &[u8]) -> Option<Vec<u8>>
     }
 }
 
-/// The key of an opened file, where another is wanted.
+/// The key of an opened file, if another is wanted.
 pub fn other_key<'s, S: Source<'s>>(
     alloc: Global,
     pdb: &mut PDB<'s, S>,

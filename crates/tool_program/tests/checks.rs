@@ -20,9 +20,10 @@ static GLOBALS: &[u8] = b"\x03\x00\x0e\x11\x01\x09";
 static IDS: &[u8] =
     b"\x00\x00\x00\x00\x38\x00\x00\x00\x00\x10\x00\x00\x01\x10\x00\x00\x04\x00\x00\x00\x00\x00\x00\x00\x00\x00\x00\x00\x00\x00\x00\x00\x00\x00\x00\x00\x00\x00\x00\x00\x00\x00\x00\x00\x00\x00\x00\x00\x00\x00\x00\x00\x00\x00\x00\x00\x0a\x00\x05\x16";
 
-/// A record as in `GLOBALS`, one without a format, a site whose one annotation is 14, and a byte that is no record.
+/// A record as in `GLOBALS`, one of S_FRAMEPROC without its fields, one of a kind that isn't read, a site whose one
+/// annotation is 14, and a byte that is no record.
 static SYMBOLS: &[u8] =
-    b"\x04\x00\x00\x00\x03\x00\x0e\x11\x01\x02\x00\x12\x10\x0f\x00\x4d\x11\x00\x00\x00\x00\x20\x00\x00\x00\x01\x10\x00\x00\x0e\x09";
+    b"\x04\x00\x00\x00\x03\x00\x0e\x11\x01\x02\x00\x12\x10\x02\x00\x99\x99\x0f\x00\x4d\x11\x00\x00\x00\x00\x20\x00\x00\x00\x01\x10\x00\x00\x0e\x09";
 
 /// A file of checksum kind 4, lines whose second block has no room for its two records, an empty part of inlined
 /// functions, imports of four bytes and exports of four.
@@ -43,7 +44,8 @@ static FINDINGS: &[u8] = b"a.pdb: information: the data ends before a record doe
     a.pdb: types: the data ends before a record does\n\
     a.pdb: module 0 symbols: the data ends before a record does\n\
     a.pdb: module 0 symbol 00000004: the data ends before a record does\n\
-    a.pdb: module 0 site 0000000d: binary annotation 14 is unknown\n\
+    a.pdb: module 0 symbol 00000009: the data ends before a record does\n\
+    a.pdb: module 0 site 00000011: binary annotation 14 is unknown\n\
     a.pdb: module 0 lines: invalid length: DebugLinesBlock\n\
     a.pdb: module 0 files: file checksums of kind 4 are not supported\n\
     a.pdb: module 0 inlined functions: the data ends before a record does\n\
@@ -57,7 +59,7 @@ pub fn damaged(alloc: Global) -> Result<Vec<u8>, AllocError> {
     module.extend_from_slice(SYMBOLS)?;
     module.extend_from_slice(LINES)?;
     let mut modules = Vec::new(alloc);
-    modules.extend_from_slice(&module_record(6, 31, 116))?;
+    modules.extend_from_slice(&module_record(6, 35, 116))?;
     modules.extend_from_slice(&module_record(0xffff, 0, 0))?;
     modules.extend_from_slice(&module_record(20, 0, 0))?;
     modules.push(0)?;

@@ -168,11 +168,11 @@ fn flags_of_locals(rt: HostRuntime) -> Result<(), Fail> {
         ),
         (
             b"\x3e\x11\x07\x10\x00\x00\x00",
-            "S_LOCAL error 1 bytes=0710000000",
+            "S_LOCAL\x00 error 1 bytes=0710000000",
         ),
         (
             b"\x3e\x11\x07\x10\x00\x00\x00\x00x",
-            "S_LOCAL error 1 bytes=07100000000078",
+            "S_LOCAL\x00 error 1 bytes=07100000000078",
         ),
     ];
     for (record, wanted) in rows {
@@ -294,7 +294,7 @@ fn code(rt: HostRuntime) -> Result<(), Fail> {
         ),
         (
             b"\x4d\x11\x10\x00\x00\x00\x60\x00\x00\x00\x01\x10\x00",
-            "S_INLINESITE error 1 bytes=1000000060000000011000",
+            "S_INLINESITE\x00 error 1 bytes=1000000060000000011000",
         ),
         (
             b"\x4d\x11\x00\x00\x00\x00\x60\x00\x00\x00\x01\x10\x00\x00",
@@ -425,13 +425,13 @@ fn references(rt: HostRuntime) -> Result<(), Fail> {
 #[test]
 fn refused_records(rt: HostRuntime) -> Result<(), Fail> {
     let rows: [(&[u8], &str); 5] = [
-        (b"\x12\x10\xab\xcd", "S_FRAMEPROC error 1 bytes=abcd"),
+        (b"\x12\x10\xab\xcd", "S_FRAMEPROC\x00 error 1 bytes=abcd"),
         (b"f\x11", "1166 bytes="),
         (b"\xcd\xab\x0f", "abcd bytes=0f"),
-        (b"\x0e\x11\x01", "S_PUB32 error 1 bytes=01"),
+        (b"\x0e\x11\x01", "S_PUB32\x00 error 1 bytes=01"),
         (
             b"\x07\x11\x02\x10\x00\x00\x05\x80",
-            "S_CONSTANT error 20 bytes=021000000580",
+            "S_CONSTANT\x00 error 20 bytes=021000000580",
         ),
     ];
     for (record, wanted) in rows {

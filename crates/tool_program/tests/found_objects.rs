@@ -32,7 +32,6 @@ fn objects_of_source_files(rt: HostRuntime) -> Result<(), Fail> {
     let strings = StringTable::parse(Stream::new(STRINGS).expect(&rt, "a short stream"))?;
     let mut out = Vec::new(rt.alloc());
     put_sources(
-        rt.alloc(),
         &mut out,
         OutputFormat::Json,
         4294967297,
@@ -190,7 +189,7 @@ fn objects_of_errors_of_modules(rt: HostRuntime) -> Result<(), AllocError> {
 fn objects_of_damage(rt: HostRuntime) -> Result<(), Fail> {
     let mut out = Vec::new(rt.alloc());
     let subject = Subject::new(OutputFormat::Json, b"a\"\xff.pdb", b"module 1");
-    subject.put_line(&mut out, b" symbol 0000000a", Error::StreamNotFound(9))?;
+    subject.put_line(&mut out, b" symbol 0000000a", b"there is no stream 9")?;
     put_sound_in(&mut out, OutputFormat::Json, b"b\\\x07.pdb")?;
     put_sound_in(&mut out, OutputFormat::Text, b"c.pdb")?;
     let wanted =
@@ -215,7 +214,7 @@ fn objects_of_damage(rt: HostRuntime) -> Result<(), Fail> {
         &rt,
         "lines",
         &out.iter().filter(|b| **b == b'\n').count(),
-        &20,
+        &21,
     );
     Ok(())
 }

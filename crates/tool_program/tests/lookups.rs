@@ -59,18 +59,11 @@ fn source_files_with_checksums(rt: HostRuntime) -> Result<(), Fail> {
     let info = module_of(&rt, FILES, &sizes)?;
     let strings = StringTable::parse(Stream::new(STRINGS).expect(&rt, "a short stream"))?;
     let mut out = Vec::new(rt.alloc());
-    put_sources(
-        rt.alloc(),
-        &mut out,
-        OutputFormat::Text,
-        0,
-        Some(&strings),
-        &info,
-    )?;
+    put_sources(&mut out, OutputFormat::Text, 0, Some(&strings), &info)?;
     let wanted: &[u8] = b"none - a.c\nmd5 01020304 Src\\bc.h\nsha1 0a0b0c a.c\nsha256 - ??\n";
     is(&rt, "out", &out.as_slice(), &wanted);
     let mut out = Vec::new(rt.alloc());
-    put_sources(rt.alloc(), &mut out, OutputFormat::Text, 0, None, &info)?;
+    put_sources(&mut out, OutputFormat::Text, 0, None, &info)?;
     let wanted: &[u8] = b"none - ??\nmd5 01020304 ??\nsha1 0a0b0c ??\nsha256 - ??\n";
     is(&rt, "without names", &out.as_slice(), &wanted);
     Ok(())

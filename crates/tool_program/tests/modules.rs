@@ -221,7 +221,7 @@ fn symbols_by_their_scopes(rt: HostRuntime) -> Result<(), Fail> {
         \x20 0000002d S_UDT type_index=00001003 u: int (int, const char*)\n\
         00000037 S_END\n\
         0000003b S_END\n\
-        0000003f S_PUB32 error 1 bytes=01\n\
+        0000003f S_PUB32\x00 error 1 bytes=01\n\
         \x00error 1 the data ends before a record does\n";
     is(&rt, "out.as_slice()", &out.as_slice(), &wanted);
     Ok(())

@@ -1,7 +1,7 @@
 //! The program over files in memory.
 
 use crate::host::Host;
-use crate::messages::tell_fault;
+use crate::messages::report_fault;
 use crate::tasks::{StandardStreams, run};
 use crate::tests::fakes::is;
 use pdb_file::{FileBytes, ReadAt};
@@ -36,7 +36,7 @@ impl<'a> ReadAt for Pieces<'a> {
         Ok(count)
     }
 
-    fn lent_at(&self, _at: u64, _size: usize) -> Option<&[u8]> {
+    fn borrow_at(&self, _at: u64, _size: usize) -> Option<&[u8]> {
         None
     }
 
@@ -140,7 +140,7 @@ pub fn said(host: &Fakes<'_>, words: &[&str], mut input: &[u8]) -> Result<Said, 
     };
     let result = run(host, &all, &mut streams);
     if let Err(fault) = result {
-        tell_fault(host, fault, &all, &mut err);
+        report_fault(host, fault, &all, &mut err);
     }
     Ok(Said { result, out, err })
 }

@@ -6,7 +6,7 @@ use std::test::Fail;
 
 #[test]
 fn ranges_of_variables(rt: HostRuntime) -> Result<(), Fail> {
-    let rows: [(Option<Machine>, &[u8], &str); 12] = [
+    let rows: [(Option<Machine>, &[u8], &str); 13] = [
         (
             Some(Machine::X64),
             b"\x3f\x11\x07\x00\x00\x00\x10\x00\x00\x00\x01\x00\x20\x00\x04\x00\x08\x00",
@@ -61,6 +61,11 @@ fn ranges_of_variables(rt: HostRuntime) -> Result<(), Fail> {
             Some(Machine::X64),
             b"\x41\x11\x0f\x27\x00\x00\x10\x01\x00\x00\x01\x00\x17\x00",
             "S_DEFRANGE_REGISTER register=270f maybe=false range=0001:00000110+23 gaps=-",
+        ),
+        (
+            Some(Machine::X86),
+            b"\x41\x11\x30\x75\x00\x00\x10\x01\x00\x00\x01\x00\x17\x00",
+            "S_DEFRANGE_REGISTER register=7530 maybe=false range=0001:00000110+23 gaps=-",
         ),
         (
             Some(Machine::X86),

@@ -241,17 +241,17 @@ fn records_that_are_not_read(rt: HostRuntime) -> Result<(), Fail> {
         (
             Some(Machine::X64),
             b"\x41\x11\x4a\x01",
-            "S_DEFRANGE_REGISTER error 1 bytes=4a01",
+            "S_DEFRANGE_REGISTER\x00 error 1 bytes=4a01",
         ),
         (
             Some(Machine::X64),
             b"\x5a\x11\x02\x00\x00\x00\x07\x11\x00\x00",
-            "S_CALLEES error 1 bytes=0200000007110000",
+            "S_CALLEES\x00 error 1 bytes=0200000007110000",
         ),
         (
             Some(Machine::X64),
             b"\x3d\x11\x00\x63\x77",
-            "S_ENVBLOCK error 1 bytes=006377",
+            "S_ENVBLOCK\x00 error 1 bytes=006377",
         ),
     ];
     for (machine, record, wanted) in rows {

@@ -1,7 +1,7 @@
 //! The text of `types`.
 
 use super::files::file_of;
-use super::program::prints;
+use super::program::{checks, one, prints, said};
 use crate::tests::fakes::is;
 use std::alloc::{AllocError, Global};
 use std::test::Fail;
@@ -196,5 +196,25 @@ fn names_of_kinds_of_types(rt: HostRuntime) -> Result<(), Fail> {
     for (kind, name) in names {
         is(&rt, "a kind", &type_kind_name(kind), &name);
     }
+    Ok(())
+}
+
+#[test]
+fn lists_without_an_end_are_damage(rt: HostRuntime) -> Result<(), Fail> {
+    let bytes = file_with(rt.alloc(), &ENUMERATION)?;
+    let wanted: &[u8] = b"a.pdb: information: there is no stream 1\n\
+        a.pdb: names: there is no stream 1\n\
+        a.pdb: string table: there is no stream 1\n\
+        a.pdb: types: the data ends before a record does\n\
+        a.pdb: type 00001002: not supported: Unsupported symbol data format\n\
+        a.pdb: type 00001005: the list of members continues in itself\n";
+    checks(&rt, &bytes, false, wanted)?;
+    let files = [("a.pdb", bytes.as_slice())];
+    let host = one(rt.alloc(), &files, false);
+    let notice: &[u8] = b"pdb_tool: a.pdb: a part of the file is damaged: see pdb_tool check\n";
+    let given = said(&host, &["types", "a.pdb", "1005"], b"")?;
+    is(&rt, "a list without an end", &given.err.as_slice(), &notice);
+    let given = said(&host, &["types", "a.pdb", "1003"], b"")?;
+    is(&rt, "another type", &given.err.is_empty(), &true);
     Ok(())
 }

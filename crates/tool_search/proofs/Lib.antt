@@ -1,3 +1,4 @@
+pub mod SourcesTold
 pub mod PublicNames
 pub mod PlacedRecords
 pub mod JsonValues

@@ -53,13 +53,13 @@ impl<'a> ModuleText for Sources<'a> {
 
     fn put(
         &self,
-        alloc: Global,
+        _alloc: Global,
         out: &mut Vec<u8>,
         k: u64,
         info: &ModuleInfo<'_>,
         _global: &GlobalIds<'_>,
     ) -> Result<(), AllocError> {
-        put_sources(alloc, out, self.format, k, self.strings, info)
+        put_sources(out, self.format, k, self.strings, info)
     }
 }
 

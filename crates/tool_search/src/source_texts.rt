@@ -15,7 +15,7 @@ use pdb::{
     StringTable,
 };
 use pdb_text::{put_hex_bytes, put_line_end};
-use std::alloc::{AllocError, Global};
+use std::alloc::AllocError;
 use tool_arguments::options::OutputFormat;
 use tool_output::module_errors::{put_error_of, put_refusal_of};
 
@@ -105,9 +105,8 @@ fn put_list(
 }
 
 /// The text of `sources` of module `k`: the files of its lines, or the line of their error.
-#[tactic(auto, unfolding(crate::specs::SourceTexts::sources_text))]
+#[tactic(auto, using(crate::proofs::SourcesTold::sources_told))]
 pub fn put_sources(
-    alloc: Global,
     out: &mut Vec<u8>,
     format: OutputFormat,
     k: u64,
@@ -116,8 +115,8 @@ pub fn put_sources(
 ) -> Result<(), AllocError>
     ensures { OnOk result (out.new.items ≡ out.old.items ++ sources_text format k (option_copied strings.entry) info.now) }
 {
-    match info.line_program(alloc) {
-        Ok(program) => put_list(out, format, k, strings, program.files()),
+    match info.files() {
+        Ok(files) => put_list(out, format, k, strings, files),
         Err(e) => put_refusal_of(out, format, k, e),
     }
 }

@@ -23,6 +23,7 @@ use Rattle.tool_fields.specs.ValueTexts.{kind_text}
 use Rattle.tool_fields.specs.FieldTexts.{fields_text}
 use Rattle.tool_fields.specs.ModuleMachines.{module_machine}
 use Rattle.tool_records.specs.RecordTexts.{says_text}
+use Rattle.tool_printing.specs.Printing.{mark}
 
 -- a name behind a blank, where there is one that isn't empty
 abbrev pub name_text : Option (List ℕ) → List ℕ
@@ -34,9 +35,9 @@ abbrev pub lacks_layout : Error → Bool
 lacks_layout (UnimplementedSymbolKind kind) = true
 lacks_layout e = false
 
--- the number of an error, where it tells of damage
+-- the number of an error behind a mark, where it is damage
 abbrev pub damage_text : Error → List ℕ
-damage_text e = if lacks_layout e then [] else codes " error " ++ decimal (number_of e)
+damage_text e = if lacks_layout e then [] else mark ++ codes " error " ++ decimal (number_of e)
 
 -- an error, and a record's bytes behind the kind
 abbrev pub unread_text : List ℕ → Error → List ℕ

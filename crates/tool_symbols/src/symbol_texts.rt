@@ -51,6 +51,7 @@ use tool_fields::kind_names::kind_name;
 use tool_fields::module_machine::machine_of_module;
 use tool_fields::values::put_behind_blank;
 use tool_output::error_line::{put_error_line, put_refusal_line};
+use tool_printing::put_mark;
 use tool_records::record_texts::put_record_says;
 use tool_types::kept_ends::KeptEnds;
 use tool_types::line_names::LineNames;
@@ -154,13 +155,14 @@ pub fn lacks_layout(e: Error) -> bool
     matches!(e, Error::UnimplementedSymbolKind(_))
 }
 
-/// The number of an error that is damage.
+/// The number of an error that is damage, behind a mark.
 fn put_damage(out: &mut Vec<u8>, e: Error) -> Result<(), AllocError>
     ensures { OnOk result (out.new.items ≡ out.old.items ++ damage_text e) }
 {
     if lacks_layout(e) {
         return Ok(());
     }
+    put_mark(out)?;
     out.extend_from_slice(b" error ")?;
     put_decimal(out, u64::from(e.number()))
 }

@@ -15,6 +15,7 @@ use Rattle.pdb_types.specs.TypeRows.{value_of}
 use Rattle.pdb_types.specs.declared.members.FieldAttributes.{FieldAttributes}
 use Rattle.pdb_types.specs.declared.overloads.MethodListEntry.{MethodListEntry}
 use Rattle.tool_output.specs.ErrorLine.{error_line}
+use Rattle.tool_printing.specs.Printing.{mark}
 use Rattle.tool_fields.specs.FieldTexts.{offset_field}
 use Rattle.tool_types.specs.TypeLines.{Types, type_text}
 use Rattle.tool_fields.specs.ValueTexts.{variant_text}
@@ -128,7 +129,7 @@ member_line t underlying (Enumerate a value name) = enumerator_line t underlying
 member_line t underlying (Member a index offset name) = data_line t a index offset name
 member_line t underlying (StaticMember a index name) = codes "  static" ++ (access_text a ++ named_type t name index)
 member_line t underlying More = codes "  <...>\n"
-member_line t underlying Endless = codes "  error the list of members continues in itself\n"
+member_line t underlying Endless = mark ++ codes "  error the list of members continues in itself\n"
 member_line t underlying m = other_line t m
 
 abbrev pub member_fault : Option Error → List ℕ

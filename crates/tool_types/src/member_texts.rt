@@ -24,6 +24,7 @@ use std::alloc::AllocError;
 use tool_fields::fields::put_offset;
 use tool_fields::values_forms::{put_unsigned, put_variant, put_wide};
 use tool_output::error_line::put_error_line;
+use tool_printing::put_mark;
 
 /// The line of a list of members that continues in itself.
 const ENDLESS: &[u8] = b"  error the list of members continues in itself\n";
@@ -450,7 +451,10 @@ fn put_member(
             name,
         } => put_static(out, types, attributes, field_type, name),
         Member::More => out.extend_from_slice(b"  <...>\n"),
-        Member::Endless => out.extend_from_slice(ENDLESS),
+        Member::Endless => {
+            put_mark(out)?;
+            out.extend_from_slice(ENDLESS)
+        }
         _ => put_other(out, types, member),
     }
 }

@@ -1,4 +1,5 @@
 use Rattle.std.proofs.Common.{◌+◌, ◌*◌, length, map}
+use Rattle.pdb_names.specs.Reads.{Passed}
 use Rattle.pdb_names.specs.Templates.{all_arguments, all_components, is_end, listed, one_argument, one_more, typ}
 use Rattle.pdb_names.specs.Views.{left_of}
 use Rattle.pdb_names.proofs.Runs.{Run}
@@ -47,13 +48,13 @@ abbrev pub decreases-reader::Reader::type_by : goal.decreases-reader::Reader::ty
 decreases-reader::Reader::type_by l = 16 * l.levels + 12
 
 abbrev pub invariant-reader::Reader::all_arguments-loop-alloc : goal.invariant-reader::Reader::all_arguments-loop-alloc
-invariant-reader::Reader::all_arguments-loop-alloc l = Run is_end (one_argument (typ l.levels)) (all_arguments (typ l.levels) (listed (map (λ v. v.items) l.initial.texts.items) (left_of l.initial.self))) (length l.initial.self.rest.now) (length l.self.rest.now) (listed (map (λ v. v.items) l.texts.items) (left_of l.self))
+invariant-reader::Reader::all_arguments-loop-alloc l = Run is_end (one_argument (typ l.levels)) (all_arguments (typ l.levels) (listed (map (λ v. v.items) l.initial.texts.items) (left_of l.initial.self))) (length l.initial.self.rest.now) (length l.self.rest.now) (listed (map (λ v. v.items) l.texts.items) (left_of l.self)) × Passed l.initial.reads.count l.reads.count l.initial.self.rest.now l.self.rest.now
 
 abbrev pub decreases-reader::Reader::all_arguments-loop-alloc : goal.decreases-reader::Reader::all_arguments-loop-alloc
 decreases-reader::Reader::all_arguments-loop-alloc l = length l.self.rest.now
 
 abbrev pub invariant-reader::Reader::all_components-loop-alloc : goal.invariant-reader::Reader::all_components-loop-alloc
-invariant-reader::Reader::all_components-loop-alloc l = Run is_end (one_more (typ l.levels)) (all_components (typ l.levels) (listed (map (λ v. v.items) l.initial.texts.items) (left_of l.initial.self))) (length l.initial.self.rest.now) (length l.self.rest.now) (listed (map (λ v. v.items) l.texts.items) (left_of l.self))
+invariant-reader::Reader::all_components-loop-alloc l = Run is_end (one_more (typ l.levels)) (all_components (typ l.levels) (listed (map (λ v. v.items) l.initial.texts.items) (left_of l.initial.self))) (length l.initial.self.rest.now) (length l.self.rest.now) (listed (map (λ v. v.items) l.texts.items) (left_of l.self)) × Passed l.initial.reads.count l.reads.count l.initial.self.rest.now l.self.rest.now
 
 abbrev pub decreases-reader::Reader::all_components-loop-alloc : goal.decreases-reader::Reader::all_components-loop-alloc
 decreases-reader::Reader::all_components-loop-alloc l = length l.self.rest.now

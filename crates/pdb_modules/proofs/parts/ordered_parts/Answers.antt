@@ -7,7 +7,8 @@ use Rattle.pdb_modules.specs.SubsectionViews.{bytes_of_piece}
 use Rattle.pdb_modules.specs.ProgramParts.{whole_piece_at}
 use Rattle.pdb_modules.proofs.Sorting.{in_order}
 use Rattle.pdb_modules.proofs.Turns.{turn_moves}
-use Rattle.pdb_modules.proofs.ProgramPieces.{whole_within, some_listed, none_collected, passed, replaced, taken, refused_with, collected}
+use Rattle.pdb_modules.proofs.WholePieces.{whole_within}
+use Rattle.pdb_modules.proofs.ProgramPieces.{some_listed, none_collected, passed, replaced, taken, refused_with, collected}
 use Rattle.pdb_modules.proofs.parts.ordered_parts.Goals as goal
 
 pub loop-buffer-preserved-in-Continue-1 : goal.loop-buffer-preserved-in-Continue-1

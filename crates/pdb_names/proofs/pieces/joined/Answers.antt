@@ -1,6 +1,4 @@
-use Rattle.std.proofs.Common.{◌≡◌, ◌==◌, ◌++◌, ◌≤◌, length, map, take, true, false, vec_capacity}
-use Rattle.pdb_names.specs.Pieces.{behind_mark}
-use Rattle.pdb_names.specs.Pieces.{joined as joined_texts}
+use Rattle.std.proofs.Common.{◌≡◌, true, false, vec_capacity}
 use Rattle.pdb_names.proofs.Joining.{nothing_joined}
 use Rattle.pdb_names.proofs.pieces.joined.Goals as goal
 

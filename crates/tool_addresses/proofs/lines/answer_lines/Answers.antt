@@ -46,7 +46,7 @@ loop-preserved g c =
       answered = λ told.
           let printed = rw so_far.continues.file at (c.in_ok-answer_line.ensures.prints told) in
           answered_more (line_shown c.args.resolver.now.file c.args.options) (g.R.Read.remaining c.args.input.now) (g.R.Read.remaining c.loop.input) (g.R.Read.remaining c.answer_line.new.input) (g.P.Printer.state c.args.out.now) (g.P.Printer.state c.loop.out) (g.P.Printer.state c.answer_line.new.out) (so_far.answered (on.told told)) c.in_ok-answer_line.ensures.read printed;
-      failures = c.in_ok-answer_line.ensures.halts.failures ∙ so_far.failures;
+      failures = c.in_ok-answer_line.ensures.failures ∙ so_far.failures;
     }
 
 pub returns-clause-prints : goal.returns-clause-prints

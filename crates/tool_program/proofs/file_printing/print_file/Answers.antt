@@ -1,22 +1,22 @@
 use Rattle.std.proofs.Common.{refl, sym, ◌∙◌, inr, true≢false, ap, Err, inl}
 use Rattle.pdb_file.proofs.Known.{known_at_first, steady_at_first}
-use Rattle.tool_program.proofs.Passed.{on_err, unread_writing, same_stop}
+use Rattle.tool_program.proofs.Passed.{same_stop, unread_writing, wanted_err}
 use Rattle.tool_program.proofs.file_printing.print_file.Goals as goal
 
-pub returns-in-Some-clause-printed : goal.returns-in-Some-clause-printed
-returns-in-Some-clause-printed g c = λ G known size.
+pub returns-in-Some-clause-prints : goal.returns-in-Some-clause-prints
+returns-in-Some-clause-prints g c = λ G known size.
     let here = known_at_first _ _ _ _ _ G c.new-source.ensures c.new-file.ensures known size in
     let told = (c.other_key.ensures.continues.known (c.in_ok-pdb.ensures.continues.known here.0)).1 in
     let other = rw (c.in_ok-pdb.ensures.file, here.1, c.in-Some.is) at (c.in_ok-key.ensures.compares told) in
     (other, refl)
 
-pub returns-in_err-print_task-in-None-clause-halted : goal.returns-in_err-print_task-in-None-clause-halted
-returns-in_err-print_task-in-None-clause-halted g c = λ G known size.
+pub returns-in_err-print_task-in-None-clause-prints : goal.returns-in_err-print_task-in-None-clause-prints
+returns-in_err-print_task-in-None-clause-prints g c = λ G known size.
     let here = known_at_first _ _ _ _ _ G c.new-source.ensures c.new-file.ensures known size in
     let compared = c.other_key.ensures.continues.known (c.in_ok-pdb.ensures.continues.known here.0) in
     let other = rw (c.in_ok-pdb.ensures.file, here.1, c.in-None.is) at (c.in_ok-key.ensures.compares compared.1) in
     let halted = rw (c.other_key.ensures.continues.file, c.in_ok-pdb.ensures.file, here.1) at (c.in_err-print_task-in-None.ensures.prints compared) in
-    on_err c.from_residual-in_err-print_task-in-None.result _ _ c.from_residual-in_err-print_task-in-None.ensures.1 (inr (other, halted))
+    wanted_err _ _ _ _ _ c.from_residual-in_err-print_task-in-None.result _ c.from_residual-in_err-print_task-in-None.ensures.1 (inr (other, halted))
 
 pub returns-in_err-print_task-in-None-clause-steady : goal.returns-in_err-print_task-in-None-clause-steady
 returns-in_err-print_task-in-None-clause-steady g c = λ steady G known size read.
@@ -24,8 +24,8 @@ returns-in_err-print_task-in-None-clause-steady g c = λ steady G known size rea
     let still = (c.other_key.ensures.continues.steady sure).0 in
     absurd (unread_writing _ c.from_residual-in_err-print_task-in-None.result _ c.from_residual-in_err-print_task-in-None.ensures.1 c.in_err-print_task-in-None.ensures.halts.cause (λ unsteady. true≢false (sym still ∙ unsteady)) read)
 
-pub returns-clause-printed : goal.returns-clause-printed
-returns-clause-printed g c = λ G known size.
+pub returns-clause-prints : goal.returns-clause-prints
+returns-clause-prints g c = λ G known size.
     let here = known_at_first _ _ _ _ _ G c.new-source.ensures c.new-file.ensures known size in
     let compared = c.other_key.ensures.continues.known (c.in_ok-pdb.ensures.continues.known here.0) in
     let other = rw (c.in_ok-pdb.ensures.file, here.1, c.in-None.is) at (c.in_ok-key.ensures.compares compared.1) in

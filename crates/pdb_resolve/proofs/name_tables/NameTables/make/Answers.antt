@@ -19,7 +19,6 @@ returns-clause-kept g c =
       made = λ told. (
         c.in_ok-ids.ensures.made ∙ (ap items_where (c.in_ok-ids_asked.ensures.is (second.told told)) ∙ ap (λ file. items_where (if_read (stream_of file 4 None))) same),
         c.in_ok-types.ensures.made ∙ (ap items_where (c.in_ok-types_asked.ensures.is told) ∙ ap (λ file. items_where (if_read (stream_of file 2 None))) (sym second.file)),
-        c.requires.information (first.told (second.told told)) ∙ ap (λ file. if_read (debug_information_in file)) same,
       );
       information = λ told. c.requires.information (first.told (second.told told)) ∙ ap (λ file. if_read (debug_information_in file)) same;
     }

@@ -26,6 +26,7 @@ invariant_of-result-2 g c =
             made = tt;
             information = information;
           };
+          crossings = c.new-2.ensures s;
           globals = record {
             globals = unasked_is _ _ c.unasked-4.result c.unasked-4.ensures.unasked (omega (arith, c.unasked-4.ensures.rooms, c.from_mut-4.ensures.len));
             publics = tt;

@@ -13,7 +13,7 @@ unfolding frames_in names_in
 returns-clause-frames g c = λ told n is.
     let before = c.inlined_frames.ensures.continues.told told in
     let q = c.args.place in
-    let m = c.args.code.now in
+    let m = c.args.code.now.code.now in
     let name = outer_named n q m in
     let read = if_read (string_table_in c.args.pdb.now.file) in
     let after = c.strings_asked.new.pdb.file in
