@@ -180,7 +180,8 @@ impl<'s> Held<'s> {
     }
 
     /// From which offset to which a part of the file is read. Once a quarter of the file is held, no gap of at most
-    /// `near` bytes is left between the part and what is held beside it, or an end of the file.
+    /// `near` bytes is left between the part and what is held beside it, or an end of the file. Before, as many bytes
+    /// more are read in front of the part as are held of it, so that parts in falling order take no read each.
     ///
     /// The contract bounds what is read more; that it is read, tests alone say.
     pub(crate) fn around(&self, from: u64, end: u64, near: u64) -> (u64, u64)
@@ -189,10 +190,14 @@ impl<'s> Held<'s> {
         ensures near { (from ≤ result.0 + near) × (result.1 ≤ end + near) }
         ensures inside { result.1 ≤ max end self.now.size }
     {
-        if self.total < self.size / 4 || from >= end {
+        if from >= end {
             return (from, end);
         }
         let last = self.end_before(from);
+        if self.total < self.size / 4 {
+            let more = end - self.next_place(from, end);
+            return (from - more.min(near).min(from - last), end);
+        }
         let next = self.next_place(end, self.size);
         let is_near = next.saturating_sub(end) <= near && self.from_place(end).is_none();
         (

@@ -1,9 +1,9 @@
 -- Texts that are cut off at a limit.
-use Rattle.std.proofs.Common.{◌≡◌, ℕ, zero, suc, ◌+◌, ◌-◌, ◌≤◌, ◌<◌, List, [], ◌∷◌, ◌++◌, length, get_or, take, refl, sym, ap, ◌∙◌, arith, append_assoc}
-use Rattle.std.specs.Prelude.{codes, min, Result, Ok, Err, OnErr, OnOk}
+use Rattle.std.proofs.Common.{◌≡◌, ℕ, zero, suc, ◌+◌, ◌-◌, ◌≤◌, ◌<◌, cond, List, [], ◌∷◌, ◌++◌, length, get_or, take, refl, sym, ap, ◌∙◌, arith, append_assoc}
+use Rattle.std.specs.Prelude.{codes, min, nat_lt, Bool, true, false, Result, Ok, Err, OnErr, OnOk}
 use Rattle.std.specs.List.{flat_map}
-use Rattle.std.proofs.lemmas.Bool.{le-ltb, lt-ltb}
-use Rattle.std.proofs.lemmas.List.{take_all, take_at, take_more, take-take, flat_map_more, append-nil, get_or_default, length-append, length-take, length-take-le}
+use Rattle.std.proofs.lemmas.Bool.{le-ltb, lt-ltb, ltb-true}
+use Rattle.std.proofs.lemmas.List.{take_all, take_at, take_more, take-append-le, take-take, flat_map_more, append-nil, get_or_default, length-append, length-take, length-take-le}
 use Rattle.pdb_base.specs.declared.index.TypeIndex.{TypeIndex}
 use Rattle.pdb_text.specs.Written.{PutFront}
 use Rattle.pdb_types.specs.Cuts.{IsCut, IsKept}
@@ -162,3 +162,18 @@ cut_long most before text now h long =
     let inner : take most (take (most + 1) text) ≡ take most text = take-take most (most + 1) text (omega arith) in
     let outer : take (length before + most) now ≡ before ++ take most text = ap (take (length before + most)) is ∙ take_beyond before (take (most + 1) text) most (length before + most) refl ∙ ap (λ (l : List ℕ). before ++ l) inner in
     rw (outer, lt-ltb most (length text) many) (append_assoc before (take most text) (codes "<...>"))
+
+-- the mark stands behind as many bytes as are asked for
+take_marked : (n most : ℕ) (text mark : List ℕ) → n ≤ most → most < length text → take n (take most text ++ mark) ≡ take n text
+take_marked n most text mark few many =
+    let here : length (take most text) ≡ most = length-take-le most text (omega (arith, many)) in
+    take-append-le n (take most text) mark (omega (arith, here, few)) ∙ take-take n most text few
+
+take_shown : (n most : ℕ) (text : List ℕ) (b : Bool) → b ≡ nat_lt most (length text) → n ≤ most → take n (cond b (take most text ++ codes "<...>") text) ≡ take n text
+take_shown n most text true e few = take_marked n most text (codes "<...>") few (ltb-true most (length text) (sym e))
+take_shown n most text false e few = refl
+
+-- of a whole name no more is asked for than has to stand before its mark
+pub cut_start : (n : ℕ) (before text now : List ℕ) → n ≤ 65536 → IsCut (length before + n) before text now → now ≡ before ++ take n (cut_off 65536 text)
+cut_start n before text now few h =
+    h.is ∙ take_beyond before text n (length before + n) refl ∙ ap (λ (l : List ℕ). before ++ l) (sym (take_shown n 65536 text (nat_lt 65536 (length text)) refl few))

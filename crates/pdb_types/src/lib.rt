@@ -45,4 +45,4 @@ pub use records::{
 };
 pub use tags::{Class, Enumeration, Tag, Union};
 pub use type_data::TypeData;
-pub use whole_name::{put_name, put_name_counted};
+pub use whole_name::{put_name, put_name_counted, put_name_start};

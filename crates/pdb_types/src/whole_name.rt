@@ -1,6 +1,6 @@
 //! The name of a type, as far as it goes.
 
-ghost use Rattle.std.specs.Prelude.{◌≡◌, ◌++◌, ◌≤◌, ◌<◌, ◌+◌, ◌*◌, length, OnErr, OnOk};
+ghost use Rattle.std.specs.Prelude.{◌≡◌, ◌++◌, ◌≤◌, ◌<◌, ◌+◌, ◌*◌, length, take, OnErr, OnOk};
 ghost use Rattle.pdb_types.specs.Cuts.{IsKept};
 ghost use Rattle.pdb_types.specs.FullTypes.{first_definition};
 ghost use Rattle.pdb_types.specs.TypeTexts.{shown_name};
@@ -56,4 +56,24 @@ pub fn put_name_counted(
         out.extend_from_slice(b"<...>")?;
     }
     Ok(())
+}
+
+/// The first `most` bytes of a name, as `put_name` writes it, with a step for each record that is read to follow types:
+/// at most 128 for each byte that is asked for, and 16,384 more.
+#[tactic(auto, unfolding(crate::specs::TypeTexts::shown_name), using(crate::proofs::CutLemmas::cut_start))]
+pub fn put_name_start(
+    types: &ItemFinder<'_>,
+    definitions: &TypeDefinitions<'_>,
+    out: &mut Vec<u8>,
+    index: TypeIndex,
+    most: usize,
+    steps: &mut Steps,
+) -> Result<(), AllocError>
+    requires { most ≤ 65536 }
+    ensures ok { OnOk result (out.new.items ≡ out.old.items ++ take most (shown_name types.now (first_definition definitions.now) index.0)) }
+    ensures err { OnErr result (IsKept out.old.items out.new.items) }
+    ensures visits { steps.new.count ≤ steps.old.count + 128 * most + 16384 }
+{
+    let limit = out.len() + most;
+    put_name_at(types, definitions, out, limit, index.0, DEPTH, steps)
 }
