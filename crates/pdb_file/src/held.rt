@@ -179,9 +179,9 @@ impl<'s> Held<'s> {
         Reach { least, near }
     }
 
-    /// From which offset to which a part of the file is read. Once a quarter of the file is held, no gap of at most
-    /// `near` bytes is left between the part and what is held beside it, or an end of the file. Before, as many bytes
-    /// more are read in front of the part as are held of it, so that parts in falling order take no read each.
+    /// From which offset to which a part of the file is read. As many bytes more are read in front of the part as are held
+    /// of it, up to `near`, so that parts in falling order don't take a read each. Once a quarter of the file is held, no
+    /// gap of at most `near` bytes is left between the part and what is held beside it, or an end of the file.
     ///
     /// The contract bounds what is read more; that it is read, tests alone say.
     pub(crate) fn around(&self, from: u64, end: u64, near: u64) -> (u64, u64)
@@ -194,14 +194,15 @@ impl<'s> Held<'s> {
             return (from, end);
         }
         let last = self.end_before(from);
+        let more = end - self.next_place(from, end);
+        let begins = from - more.min(near).min(from - last);
         if self.total < self.size / 4 {
-            let more = end - self.next_place(from, end);
-            return (from - more.min(near).min(from - last), end);
+            return (begins, end);
         }
         let next = self.next_place(end, self.size);
         let is_near = next.saturating_sub(end) <= near && self.from_place(end).is_none();
         (
-            if from - last <= near { last } else { from },
+            if from - last <= near { last } else { begins },
             if is_near { next.max(end) } else { end },
         )
     }

@@ -135,6 +135,23 @@ fn short_gaps_are_read_once_a_quarter_is_held(rt: HostRuntime) -> Result<(), Fai
 }
 
 #[test]
+fn parts_in_falling_order_are_read_together(rt: HostRuntime) -> Result<(), Fail> {
+    let alloc = rt.alloc();
+    let views = [
+        (500_000, 3, 65_536),
+        // From 446,848 to 500,000.
+        (496_000, 3, 118_688),
+        // 50,000 bytes each: 848 in front of what is held, and 49,152 more.
+        (446_000, 3, 168_688),
+        (396_000, 3, 218_688),
+        (346_000, 3, 268_688),
+        // The same once a quarter is held.
+        (296_000, 3, 318_688),
+    ];
+    read_in_all(&rt, alloc, 1_000_000, &views)
+}
+
+#[test]
 fn long_gaps_are_read_once_five_eighths_are_held(rt: HostRuntime) -> Result<(), Fail> {
     let alloc = rt.alloc();
     let views = [

@@ -177,3 +177,7 @@ take_shown n most text false e few = refl
 pub cut_start : (n : ℕ) (before text now : List ℕ) → n ≤ 65536 → IsCut (length before + n) before text now → now ≡ before ++ take n (cut_off 65536 text)
 cut_start n before text now few h =
     h.is ∙ take_beyond before text n (length before + n) refl ∙ ap (λ (l : List ℕ). before ++ l) (sym (take_shown n 65536 text (nat_lt 65536 (length text)) refl few))
+
+pub on_start : {E : Type 0} (r : Result (Unit {0}) E) (n : ℕ) (before text now : List ℕ) → n ≤ 65536 → OnOk r (IsCut (length before + n) before text now) → OnOk r (now ≡ before ++ take n (cut_off 65536 text))
+on_start (Ok x) n before text now few h = cut_start n before text now few h
+on_start (Err e) n before text now few h = h

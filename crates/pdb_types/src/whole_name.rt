@@ -60,7 +60,6 @@ pub fn put_name_counted(
 
 /// The first `most` bytes of a name, as `put_name` writes it, with a step for each record that is read to follow types:
 /// at most 128 for each byte that is asked for, and 16,384 more.
-#[tactic(auto, unfolding(crate::specs::TypeTexts::shown_name), using(crate::proofs::CutLemmas::cut_start))]
 pub fn put_name_start(
     types: &ItemFinder<'_>,
     definitions: &TypeDefinitions<'_>,
