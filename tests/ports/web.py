@@ -16,7 +16,7 @@ MODULES = 3
 LIMITS = 60
 TYPES = 300
 OF_TYPES = {"pdb_type_name", "pdb_type_size", "pdb_members", "pdb_variables", "pdb_register_name", "pdb_frame_register", "pdb_record", "pdb_gaps"}
-MOST_BYTES = {"index.html": 600_000, "pdb.wasm": 105_000}
+MOST_BYTES = {"index.html": 670_000, "pdb.wasm": 120_000}
 
 
 def asked():

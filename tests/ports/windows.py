@@ -18,7 +18,7 @@ ADDRESSES = [*(f"0x{it:x}" for it in range(0xFF0, 0x3000, 0x55)), "0", "0xffffff
 IMPORTS = {"pdb.dll": {"msvcrt.dll"}, "pdb_tool.exe": {"KERNEL32.dll", "msvcrt.dll"}, "pdb_list.exe": {"KERNEL32.dll", "msvcrt.dll"}}
 # How many times memory is refused in the DLL at least.
 REFUSED = 25
-MOST_BYTES = 400_000
+MOST_BYTES = 450_000
 # What pdb_tool.exe prints behind its version.
 OWN = r"LLVM module of the proved crate pdb_tool, sha256 [0-9a-f]{64}, retargeted to x86_64-w64-windows-gnu\n"
 OF_C = {"malloc", "realloc", "free", "memcpy", "memmove", "memset", "memcmp", "strlen"}

@@ -1,6 +1,6 @@
 -- What is kept of the lists by which an id leads to another module, when one more is read, and what it says.
 use Rattle.std.proofs.Common.{◌≡◌, ℕ, ◌+◌, ◌/◌, ◌%◌, ◌^◌, Bool, true, false, cond, List, [], Option, Some, None, Result, Ok, Err, inl, inr, sym, ap, subst, ◌∙◌, refl, arith}
-use Rattle.std.specs.Prelude.{◌==◌, slice_get, nat_lt, OnOk, OnErr}
+use Rattle.std.specs.Prelude.{◌==◌, slice_get, nat_lt, IsSome, OnOk, OnErr}
 use Rattle.std.proofs.lemmas.Bool.{cases_eq, eq-eqb, le-ltb, ne_eqb}
 use Rattle.pdb.specs.Error.{Error}
 use Rattle.pdb.specs.Error.TheVariants.{NotACrossModuleRef, CrossModuleRefNotFound}
@@ -74,3 +74,13 @@ reference_by m n l is = ap (λ (l : List ImportedModule). if_read (reference_of 
 pub not_named : (file : List ℕ) (strings : Option (List ℕ)) (ms : List ModuleEntry) (r : Option Reference) (x : Reference) → r ≡ Some x → string_in strings x.name ≡ None → exported_id file strings ms r ≡ None
 unfolding exports_named
 not_named file strings ms r x is none = ap (exported_id file strings ms) is ∙ ap (λ (o : Option (List ℕ)). global_of x.local (exports_named file ms o)) none
+
+pub some_or : {X : Type 0} (b : Bool) (v : X) (o : Option X) → IsSome o → IsSome (cond b (Some v) o)
+some_or true v o h = refl
+some_or false v o h = h
+
+-- what was kept still is
+pub still_kept : {X U : Type 0} (old new : ℕ → Option X) (k : ℕ) (v : X) (r : Result U Error) → OnOk r ((j : ℕ) → new j ≡ cond (k == j) (Some v) (old j))
+    → OnErr r ((j : ℕ) → new j ≡ old j) → (j : ℕ) → IsSome (old j) → IsSome (new j)
+still_kept old new k v (Ok u) kept same j h = subst IsSome (sym (kept j)) (some_or (k == j) v (old j) h)
+still_kept old new k v (Err e) kept same j h = subst IsSome (sym (same j)) h

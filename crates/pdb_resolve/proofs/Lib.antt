@@ -5,6 +5,7 @@ pub mod ImportLaws
 pub mod VariablesFound
 pub mod NumberLaws
 pub mod CrossingLaws
+pub mod ExporterLaws
 mod CrossingsGoOn
 mod Continuing
 mod WholeModules

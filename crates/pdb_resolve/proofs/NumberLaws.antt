@@ -1,6 +1,9 @@
 -- The number of the first module of a name leads to that module.
-use Rattle.std.proofs.Common.{◌≡◌, ℕ, zero, suc, ◌+◌, Bool, true, false, cond, List, [], ◌∷◌, Option, Some, None, sym, ◌∙◌, refl, arith}
-use Rattle.std.specs.Prelude.{slice_get}
+use Rattle.std.proofs.Common.{◌≡◌, ℕ, zero, suc, ◌+◌, ◌<◌, Bool, true, false, true≢false, cond, List, [], ◌∷◌, length, drop, get_or, Option, Some, None, sym, ap, ◌∙◌, refl, arith}
+use Rattle.std.specs.Prelude.{slice_get, is_some, IsSome}
+use Rattle.std.specs.Bool.{Decides}
+use Rattle.std.proofs.lemmas.List.{drop_more}
+use Rattle.std.proofs.lemmas.Slice.Eq.{bytes_eq-Decides}
 use Rattle.std.specs.Str.{bytes_eq}
 use Rattle.pdb.specs.Modules.{ModuleEntry}
 use Rattle.pdb_resolve.specs.AcrossModules.{module_named}
@@ -26,3 +29,18 @@ nowhere_on m k rest later false more h = more h
 pub leads_nowhere : (ms : List ModuleEntry) (name : List ℕ) (k : ℕ) → number_from k ms name ≡ None → module_named ms name ≡ None
 leads_nowhere [] name k h = refl
 leads_nowhere (m ∷ ms) name k h = nowhere_on m k (module_named ms name) (number_from (k + 1) ms name) (bytes_eq m.module_name name) (leads_nowhere ms name (k + 1)) h
+
+-- ---- modules of some names alone
+
+-- a module of another name is passed by
+pub passed_by : (ms : List ModuleEntry) (i : ℕ) (d : ModuleEntry) (q : List ℕ) → i < length ms → bytes_eq (get_or ms i d).module_name q ≡ false → number_from i (drop i ms) q ≡ number_from (i + 1) (drop (i + 1) ms) q
+passed_by ms i d q lt other =
+    ap (λ (l : List ModuleEntry). number_from i l q) (drop_more ms i d lt) ∙ ap (λ (b : Bool). cond b (Some i) (number_from (i + 1) (drop (i + 1) ms) q)) other
+
+other_by : (names : List ℕ → Option ℕ) (name q : List ℕ) → is_some (names name) ≡ false → IsSome (names q) → (b : Bool) → Decides b (name ≡ q) → b ≡ false
+other_by names name q none some true d = absurd (true≢false (sym some ∙ (ap (λ (n : List ℕ). is_some (names n)) (sym (d.0 refl)) ∙ none)))
+other_by names name q none some false d = refl
+
+-- and a name that is none of those is another one
+pub another_name : (names : List ℕ → Option ℕ) (name q : List ℕ) → is_some (names name) ≡ false → IsSome (names q) → bytes_eq name q ≡ false
+another_name names name q none some = other_by names name q none some (bytes_eq name q) (bytes_eq-Decides name q)

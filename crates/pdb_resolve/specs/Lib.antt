@@ -5,6 +5,8 @@ pub mod ImportTables
 pub mod ModuleNumbers
 pub mod NumberViews
 pub mod Exported
+pub mod Exporters
+pub mod ExporterViews
 pub mod KeptCrossings
 pub mod KeptFrames
 pub mod CallViews

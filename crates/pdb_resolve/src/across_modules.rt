@@ -13,10 +13,7 @@ ghost use Rattle.pdb_resolve.specs.FileParts.{module_read, modules_where};
 ghost use Rattle.pdb_resolve.specs.AcrossModules.{exports_named, exports_where, module_named, pairs_or_none};
 
 use crate::modules::module_info;
-use pdb::{
-    CrossModuleExports, DebugInformation, FallibleIterator, Module, ModuleIter, ModuleRef, PDB,
-    RawString, Result, Source, StringTable,
-};
+use pdb::{CrossModuleExports, Module, ModuleRef, PDB, RawString, Result, Source, StringTable};
 use pdb_places::as_if_empty::read_or;
 use std::alloc::Global;
 
@@ -28,36 +25,6 @@ pub(crate) fn name_of<'a>(
     ensures { option_map name_bytes result ≡ string_in (option_copied strings.entry) reference.0.0 }
 {
     strings?.get(reference.0).ok()
-}
-
-/// The first module of a name, of those that an iterator has left up to its error.
-fn first_named<'a>(mut modules: ModuleIter<'a>, name: RawString<'_>) -> Option<Module<'a>>
-    ensures { result ≡ module_named (modules_left modules.entry).items (name_bytes name.entry) }
-{
-    loop {
-        match modules.next() {
-            Ok(Some(module)) => {
-                if module.raw_module_name().as_bytes() == name.as_bytes() {
-                    return Some(module);
-                }
-            }
-            Ok(None) => return None,
-            Err(_) => return None,
-        }
-    }
-}
-
-/// The first listed module of a name.
-fn module_named<'a>(
-    information: Option<&'a DebugInformation<'a>>,
-    name: RawString<'_>,
-) -> Option<Module<'a>>
-    ensures { result ≡ module_named (modules_where (option_copied information.entry)) (name_bytes name.entry) }
-{
-    match information?.modules() {
-        Ok(modules) => first_named(modules, name),
-        Err(_) => None,
-    }
 }
 
 /// The exports of a listed module; none where its stream isn't there.
@@ -76,24 +43,6 @@ pub(crate) fn exports_of<'s, S: Source<'s>>(
     };
     match module_info(pdb, module)? {
         Some(info) => read_or(info.exports(alloc), CrossModuleExports::empty(alloc)),
-        None => Ok(CrossModuleExports::empty(alloc)),
-    }
-}
-
-/// The exports of the first listed module of a name; none where the name isn't there.
-#[tactic(auto, unfolding(crate::specs::AcrossModules::exports_named))]
-pub(crate) fn exports_named<'s, S: Source<'s>>(
-    alloc: Global,
-    pdb: &mut PDB<'s, S>,
-    information: Option<&DebugInformation<'_>>,
-    name: Option<RawString<'_>>,
-) -> Result<CrossModuleExports>
-    ensures continues { Continues pdb.old pdb.new }
-    ensures exports { pdb.new.told ≡ true → IfOk result (λ x. x ≡ exports_named pdb.old.file (modules_where (option_copied information.entry)) (option_map name_bytes name.entry)) }
-    ensures refused { IfErr result (λ e. OnlyFails (MayFail pdb.old pdb.new) e) }
-{
-    match name {
-        Some(name) => exports_of(alloc, pdb, module_named(information, name).as_ref()),
         None => Ok(CrossModuleExports::empty(alloc)),
     }
 }

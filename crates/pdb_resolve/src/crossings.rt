@@ -1,6 +1,6 @@
 //! What leads from an id of a module to the one that the whole file knows.
 
-ghost use Rattle.std.specs.Prelude.{◌≡◌, ◌==◌, ℕ, List, Some, IsSome, if◌then◌else◌, option_copied, slice_get, IfOk, IfErr, OnOk, OnErr, true};
+ghost use Rattle.std.specs.Prelude.{◌≡◌, ◌==◌, ℕ, List, Some, IsSome, if◌then◌else◌, option_copied, IfOk, IfErr, OnOk, OnErr, true};
 ghost use Rattle.std.specs.BTreeMap.{get};
 ghost use Rattle.std.specs.Ordering.{nat_cmp};
 ghost use Rattle.std.specs.Option.{option_map};
@@ -15,8 +15,9 @@ ghost use Rattle.pdb_resolve.specs.FileParts.{module_numbered, modules_listed};
 ghost use Rattle.pdb_resolve.specs.KeptCrossings.{AreCrossingsOf, IsListedCode, IsListOf, exports_kept, imports_kept};
 ghost use Rattle.pdb_resolve.specs.ModuleNumbers.{number_named};
 
-use crate::across_modules::{exports_of, name_of};
+use crate::across_modules::name_of;
 use crate::exported_ids::ExportedIds;
+use crate::exporters::read_exports;
 use crate::module_code::ModuleCode;
 use crate::module_numbers::ModuleNumbers;
 use pdb::{
@@ -45,13 +46,6 @@ pub(crate) struct Crossings<'a> {
     pub(crate) numbers: Option<ModuleNumbers<'a>>,
 }
 
-/// The module of a number in a list.
-fn module_at<'x, 'a>(listed: &'x [Module<'a>], number: usize) -> Option<&'x Module<'a>>
-    ensures { option_copied result ≡ slice_get listed.entry.now number }
-{
-    listed.get(number)
-}
-
 /// What imports say of an id; none where they don't have it.
 fn reference_to(imports: &CrossModuleImports<'_>, id: IdIndex) -> Option<CrossModuleRef<IdIndex>>
     ensures { option_map (λ x. record { name = x.0.0.0; local = x.1.0.0 }) result ≡ if_read (reference_of id.0 imports.now) }
@@ -60,7 +54,7 @@ fn reference_to(imports: &CrossModuleImports<'_>, id: IdIndex) -> Option<CrossMo
 }
 
 /// What was read of the module of a number is kept.
-fn keep<T: Drop>(lists: &mut BTreeMap<usize, T>, number: usize, list: T) -> Result<()>
+pub(crate) fn keep<T: Drop>(lists: &mut BTreeMap<usize, T>, number: usize, list: T) -> Result<()>
     ensures kept { OnOk result ((k : ℕ) → get nat_cmp lists.new k ≡ (if number == k then Some list else get nat_cmp lists.old k)) }
     ensures unchanged { OnErr result ((k : ℕ) → get nat_cmp lists.new k ≡ get nat_cmp lists.old k) }
     ensures refused { IfErr result (λ e. e ≡ Error.OutOfMemory) }
@@ -141,12 +135,7 @@ impl<'a> Crossings<'a> {
         ensures read { IfOk result (λ _. IsSome (exports_kept self.new number)) }
         ensures refused { IfErr result (λ e. OnlyFails (MayFail pdb.old pdb.new) e) }
     {
-        if self.exports.contains_key(&number) {
-            return Ok(());
-        }
-        let exports = exports_of(alloc, pdb, module_at(listed, number))?;
-        let exports = ExportedIds::new(alloc, exports)?;
-        keep(&mut self.exports, number, exports)
+        read_exports(alloc, pdb, &mut self.exports, listed, number)
     }
 
     /// The id that the module of a number, whose exports were read, exports by a local one.

@@ -13,35 +13,48 @@ ghost use Rattle.pdb_places.specs.AsIfEmpty.{if_read, OnlyFails};
 ghost use Rattle.pdb_resolve.specs.FileParts.{modules_where};
 ghost use Rattle.pdb_resolve.specs.AcrossModules.{global_id_in, is_imported, names_by};
 ghost use Rattle.pdb_resolve.specs.ImportTables.{exports_for, ids_by, imports_or_none};
+ghost use Rattle.pdb_resolve.specs.ExporterViews.{exports_by};
+ghost use Rattle.pdb_resolve.specs.KeptCrossings.{IsListOf};
 
-use crate::across_modules::{exports_named, name_of};
+use crate::exported_ids::ExportedIds;
+use crate::exporters::{exporters_of, read_all_exports};
+use crate::modules::modules_of;
 use pdb::{
-    CrossModuleExports, CrossModuleImports, DebugInformation, Error, IdIndex, ItemFinder,
-    ModuleInfo, PDB, QualifiedName, Result, Source, StringTable, qualified_name,
+    CrossModuleImports, DebugInformation, Error, IdIndex, ItemFinder, Module, ModuleInfo, PDB,
+    QualifiedName, Result, Source, StringTable, qualified_name,
 };
 use pdb_modules::Imported;
 use pdb_places::as_if_empty::{if_read, read_or};
 use std::alloc::Global;
+use std::collections::BTreeMap;
 use std::marker::Model;
 
 /// How many modules an id can name.
 const MOST_MODULES: usize = 2048;
+
+/// The modules from which a module imports, in the order of its imports, by their numbers in the list of modules; and
+/// what each of them exports.
+#[derive(Drop)]
+pub(crate) struct Exporters {
+    pub(crate) numbers: Vec<Option<usize>>,
+    pub(crate) exports: BTreeMap<usize, ExportedIds>,
+}
 
 /// The ids that the whole file knows, by those of one module. A contract sees the
 /// imports of the module, and what each of the modules exports from which they are.
 #[derive(Drop)]
 pub struct GlobalIds<'a> {
     imports: CrossModuleImports<'a>,
-    // What each of the modules exports from which is imported.
-    exports: Vec<CrossModuleExports>,
+    exporters: Exporters,
 }
 
 impl<'a> Model for GlobalIds<'a> {
     ghost use Rattle.pdb_resolve.specs.ImportTables.{ImportTable};
+    ghost use Rattle.pdb_resolve.specs.ExporterViews.{exports_by};
 
     ghost Value = { ImportTable };
 
-    ghost view = { λ g. record { imports = g.imports; exports = g.exports.items } };
+    ghost view = { λ g. record { imports = g.imports; exports = exports_by g.exporters } };
 }
 
 /// The string table; none where it has an error.
@@ -64,26 +77,6 @@ fn information_of<'s, S: Source<'s>>(pdb: &mut PDB<'s, S>) -> Result<Option<Debu
     if_read(pdb.debug_information())
 }
 
-/// What these modules export, from which is imported.
-fn exports_of<'s, S: Source<'s>>(
-    alloc: Global,
-    pdb: &mut PDB<'s, S>,
-    strings: Option<&StringTable<'_>>,
-    information: Option<&DebugInformation<'_>>,
-    modules: &[Imported<'_>],
-) -> Result<Vec<CrossModuleExports>>
-    ensures continues { Continues pdb.old pdb.new }
-    ensures exports { pdb.new.told ≡ true → IfOk result (λ x. x.items ≡ map (exports_for pdb.old.file (option_copied strings.entry) (modules_where (option_copied information.entry))) (map module_of modules.now)) }
-    ensures refused { IfErr result (λ e. OnlyFails (MayFail pdb.old pdb.new) e) }
-{
-    let mut exports = Vec::new(alloc);
-    for imported in modules {
-        let name = name_of(strings, imported.name());
-        exports.push(exports_named(alloc, pdb, information, name)?)?;
-    }
-    Ok(exports)
-}
-
 /// The first modules from which is imported, as many as an id can name.
 fn named_modules<'x, 'a>(imports: &'x CrossModuleImports<'a>) -> &'x [Imported<'a>]
     ensures { map module_of result.now ≡ take 2048 imports.entry.now }
@@ -96,23 +89,54 @@ fn named_modules<'x, 'a>(imports: &'x CrossModuleImports<'a>) -> &'x [Imported<'
     first
 }
 
-/// What the modules export from which these imports are; where nothing is imported, no stream is read.
-fn exports_for<'s, S: Source<'s>>(
+/// No modules. It takes no memory.
+fn no_exporters(alloc: Global) -> Exporters
+    ensures { exports_by result ≡ [] }
+{
+    Exporters {
+        numbers: Vec::new(alloc),
+        exports: BTreeMap::new(alloc),
+    }
+}
+
+/// The numbers of the modules from which is imported, in a list of modules, and what they export.
+fn read_exporters<'s, S: Source<'s>>(
+    alloc: Global,
+    pdb: &mut PDB<'s, S>,
+    strings: Option<&StringTable<'_>>,
+    listed: &[Module<'_>],
+    modules: &[Imported<'_>],
+) -> Result<Exporters>
+    requires { IsListOf pdb.old listed.now }
+    ensures continues { Continues pdb.old pdb.new }
+    ensures exports { pdb.new.told ≡ true → IfOk result (λ x. exports_by x ≡ map (exports_for pdb.old.file (option_copied strings.entry) listed.now) (map module_of modules.now)) }
+    ensures refused { IfErr result (λ e. OnlyFails (MayFail pdb.old pdb.new) e) }
+{
+    let numbers = exporters_of(alloc, strings, listed, modules)?;
+    let exports = read_all_exports(alloc, pdb, listed, &numbers)?;
+    Ok(Exporters { numbers, exports })
+}
+
+/// What leads to the modules from which these imports are: their numbers, and what they export. Where nothing is imported,
+/// no stream is read.
+#[tactic(auto, unfolding(crate::specs::FileParts::modules_listed))]
+fn exporters_for<'s, S: Source<'s>>(
     alloc: Global,
     pdb: &mut PDB<'s, S>,
     imports: &CrossModuleImports<'_>,
-) -> Result<Vec<CrossModuleExports>>
+) -> Result<Exporters>
     ensures continues { Continues pdb.old pdb.new }
-    ensures exports { pdb.new.told ≡ true → IfOk result (λ x. x.items ≡ map (exports_for pdb.old.file (if_read (string_table_in pdb.old.file)) (modules_where (if_read (debug_information_in pdb.old.file)))) (take 2048 imports.now)) }
+    ensures exports { pdb.new.told ≡ true → IfOk result (λ x. exports_by x ≡ map (exports_for pdb.old.file (if_read (string_table_in pdb.old.file)) (modules_where (if_read (debug_information_in pdb.old.file)))) (take 2048 imports.now)) }
     ensures refused { IfErr result (λ e. OnlyFails (MayFail pdb.old pdb.new) e) }
 {
     let modules = named_modules(imports);
     if modules.is_empty() {
-        return Ok(Vec::new(alloc));
+        return Ok(no_exporters(alloc));
     }
     let strings = strings_of(pdb)?;
     let information = information_of(pdb)?;
-    exports_of(alloc, pdb, strings.as_ref(), information.as_ref(), modules)
+    let listed = modules_of(alloc, information.as_ref())?;
+    read_exporters(alloc, pdb, strings.as_ref(), &listed, modules)
 }
 
 impl<'a> GlobalIds<'a> {
@@ -129,8 +153,8 @@ impl<'a> GlobalIds<'a> {
         ensures refused { IfErr result (λ e. OnlyFails (MayFail pdb.old pdb.new) e) }
     {
         let imports = read_or(info.imports(alloc), CrossModuleImports::empty(alloc))?;
-        let exports = exports_for(alloc, pdb, &imports)?;
-        Ok(GlobalIds { imports, exports })
+        let exporters = exporters_for(alloc, pdb, &imports)?;
+        Ok(GlobalIds { imports, exporters })
     }
 
     /// No ids of other modules. It takes no memory.
@@ -139,7 +163,7 @@ impl<'a> GlobalIds<'a> {
     {
         GlobalIds {
             imports: CrossModuleImports::empty(alloc),
-            exports: Vec::new(alloc),
+            exporters: no_exporters(alloc),
         }
     }
 
@@ -152,8 +176,8 @@ impl<'a> GlobalIds<'a> {
             return None;
         };
         let place = (id.0 / 0x10_0000 % 0x800) as usize;
-        let exports = self.exports.get(place)?;
-        exports.resolve_import(reference.1).unwrap_or(None)
+        let number = (*self.exporters.numbers.get(place)?)?;
+        self.exporters.exports.get(&number)?.find(reference.1)
     }
 
     /// The id that the whole file knows by an id of the module; none where that is an id of another module, and isn't

@@ -4,6 +4,7 @@
 mod across_modules;
 mod crossings;
 mod exported_ids;
+mod exporters;
 mod frames;
 mod global_ids;
 mod global_names;

@@ -61,7 +61,7 @@ fn listed<'a>(alloc: Global, mut modules: ModuleIter<'a>) -> Result<Vec<Module<'
 }
 
 /// The list of modules; none where it isn't there.
-fn modules_of<'a>(
+pub(crate) fn modules_of<'a>(
     alloc: Global,
     information: Option<&'a DebugInformation<'a>>,
 ) -> Result<Vec<Module<'a>>>

@@ -1,10 +1,11 @@
 //! Names of inlined calls whose ids are those of another module.
 
 use crate::exported_ids::ExportedIds;
+use crate::global_ids::GlobalIds;
 use crate::tests::files::{file_of_streams, is, numbers, put, put_numbers};
 use crate::tests::modules::{SAMPLE, info_of};
 use crate::tests::resolver::{DBI, INFORMATION, texts_are};
-use pdb::{IdIndex, Local, Result};
+use pdb::{Error, FallibleIterator, IdIndex, Local, MemorySource, PDB, Result};
 use std::alloc::Global;
 use std::process::Abort;
 
@@ -79,25 +80,25 @@ fn put_module(
     Ok(())
 }
 
-/// The DBI stream: `a.obj`, and twice `b.obj`.
-fn debug_stream(alloc: Global) -> Result<Vec<u8>> {
+/// The DBI stream: `a.obj` with so many bytes of subsections, and twice `b.obj`.
+fn debug_stream(alloc: Global, subsections: u32) -> Result<Vec<u8>> {
     let mut bytes = Vec::new(alloc);
     bytes.extend_from_slice(DBI.split_at(64).0)?;
     // No global symbols, and three records of modules.
     put(&mut bytes, 20, &[0xff, 0xff]);
     put_numbers(&mut bytes, 24, &[3 * 76]);
-    put_module(alloc, &mut bytes, 6, (84, 180), b"a.obj")?;
+    put_module(alloc, &mut bytes, 6, (84, subsections), b"a.obj")?;
     put_module(alloc, &mut bytes, 8, (0, 16), b"b.obj")?;
     put_module(alloc, &mut bytes, 5, (0, 16), b"b.obj")?;
     bytes.extend_from_slice(DBI.split_at(140).1)?;
     Ok(bytes)
 }
 
-fn file_made(alloc: Global, made: Made) -> Result<Vec<u8>> {
-    let debug = debug_stream(alloc)?;
+/// A file whose module `a.obj` has this stream.
+fn file_with(alloc: Global, made: Made, caller: &[u8]) -> Result<Vec<u8>> {
+    let debug = debug_stream(alloc, caller.len() as u32 - 84)?;
     let first = exporter(alloc, made.first)?;
     let second = exporter(alloc, made.second)?;
-    let caller = caller(alloc, made)?;
     let streams: [&[u8]; 9] = [
         b"",
         &INFORMATION,
@@ -105,11 +106,16 @@ fn file_made(alloc: Global, made: Made) -> Result<Vec<u8>> {
         debug.as_slice(),
         &IDS,
         second.as_slice(),
-        caller.as_slice(),
+        caller,
         STRINGS,
         first.as_slice(),
     ];
     file_of_streams(alloc, streams)
+}
+
+fn file_made(alloc: Global, made: Made) -> Result<Vec<u8>> {
+    let caller = caller(alloc, made)?;
+    file_with(alloc, made, &caller)
 }
 
 /// At 1:108 stands this text.
@@ -230,4 +236,77 @@ fn the_first_export_of_a_number_is_found_in_any_order(rt: HostRuntime) -> Result
         is(&rt, "export", &found.map(|id| id.0), &global);
     }
     Ok(())
+}
+
+/// By the ids of `a.obj` the whole file knows these.
+fn ids_are(
+    rt: &impl Abort,
+    alloc: Global,
+    file: &[u8],
+    wanted: &[(u32, Option<u32>)],
+) -> Result<()> {
+    let mut pdb = PDB::open(alloc, MemorySource::new(file))?;
+    let information = pdb.debug_information()?;
+    let Some(module) = information.modules()?.next()? else {
+        return Err(Error::UnexpectedEof);
+    };
+    let Some(info) = pdb.module_info(&module)? else {
+        return Err(Error::UnexpectedEof);
+    };
+    let global = GlobalIds::read(alloc, &mut pdb, &info)?;
+    for (id, known) in wanted {
+        is(rt, "id", &global.find(IdIndex(*id)).map(|id| id.0), known);
+    }
+    Ok(())
+}
+
+#[test]
+fn ids_are_those_that_other_modules_export(rt: HostRuntime) -> Result<()> {
+    let alloc = rt.alloc();
+    // The second number of the first module; a number that it doesn't export, and one that isn't imported.
+    let wanted = [
+        (0x8000_0001, Some(0x1001)),
+        (0x8000_0000, None),
+        (0x8000_0002, None),
+        (0x8010_0000, None),
+        (0x1002, Some(0x1002)),
+    ];
+    ids_are(&rt, alloc, &file_made(alloc, FOUND)?, &wanted)?;
+    // Of a module that isn't listed nothing is known.
+    let unlisted = Made { name: 11, ..FOUND };
+    ids_are(
+        &rt,
+        alloc,
+        &file_made(alloc, unlisted)?,
+        &[(0x8000_0001, None)],
+    )
+}
+
+#[test]
+fn modules_are_imported_from_again_and_again(rt: HostRuntime) -> Result<()> {
+    let alloc = rt.alloc();
+    let mut caller = Vec::new(alloc);
+    caller.extend_from_slice(SAMPLE.split_at(216).0)?;
+    // From `c.obj`, which isn't listed; and twice from `b.obj`.
+    let imports = [
+        0xf7,
+        36,
+        11,
+        1,
+        0x8000_0022,
+        5,
+        1,
+        0x8000_0011,
+        5,
+        1,
+        0x8000_0022,
+    ];
+    caller.extend_from_slice(numbers(alloc, &imports)?.as_slice())?;
+    let wanted = [
+        (0x8000_0000, None),
+        (0x8010_0000, None),
+        (0x8020_0000, Some(0x1001)),
+        (0x8030_0000, None),
+    ];
+    ids_are(&rt, alloc, &file_with(alloc, FOUND, &caller)?, &wanted)
 }

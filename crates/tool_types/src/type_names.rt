@@ -1,16 +1,21 @@
 //! The names of types on lines.
 
-ghost use Rattle.std.specs.Prelude.{◌≡◌, ◌++◌, OnOk};
+ghost use Rattle.std.specs.Prelude.{◌≡◌, ◌++◌, take, OnOk};
 ghost use Rattle.pdb_text.specs.OneLine.{one_line};
 ghost use Rattle.pdb_types.specs.FullTypes.{first_definition};
 ghost use Rattle.pdb_types.specs.TypeTexts.{shown_name};
 
 use pdb::{ItemFinder, TypeIndex};
+use pdb_base::Steps;
 use pdb_text::to_one_line;
-use pdb_types::{TypeDefinitions, put_name};
+use pdb_types::{TypeDefinitions, put_name_start};
 use std::alloc::AllocError;
 
+/// How many bytes of a name decide what a line shows of it: one more than it shows.
+const MOST_READ: usize = 4097;
+
 /// Appends the name of a type, on one line: a file may have any bytes in its names.
+#[tactic(auto, using(crate::proofs::NameStarts::shown_start))]
 pub fn put_type_name(
     types: &ItemFinder<'_>,
     definitions: &TypeDefinitions<'_>,
@@ -20,6 +25,6 @@ pub fn put_type_name(
     ensures { OnOk result (out.new.items ≡ out.old.items ++ one_line (shown_name types.now (first_definition definitions.now) index.0)) }
 {
     let start = out.len();
-    put_name(types, definitions, out, index)?;
+    put_name_start(types, definitions, out, index, MOST_READ, &mut Steps::new())?;
     to_one_line(out, start)
 }

@@ -1,21 +1,7 @@
-use Rattle.std.proofs.Common.{ap, sym, ◌∙◌, nat_cmp}
-use Rattle.std.specs.BTreeMap.{get}
-use Rattle.pdb_resolve.specs.AcrossModules.{exports_where}
-use Rattle.pdb_resolve.specs.FileParts.{module_numbered}
-use Rattle.pdb_resolve.proofs.CrossingLaws.{exports_listed, kept_or_same}
 use Rattle.pdb_resolve.proofs.CrossingsGoOn.{crossings_on}
 use Rattle.pdb_resolve.proofs.crossings.Crossings.read_exports.Goals as goal
 
 pub returns-clause-kept : goal.returns-clause-kept
 returns-clause-kept g c =
-    let file = c.args.pdb.now.file in
-    let later = c.exports_of.new.pdb.file in
-    let on = crossings_on c.args.pdb.now c.exports_of.new.pdb c.args.self.now c.exports_of.ensures.continues c.requires.kept in
-    record {
-      numbers = on.numbers;
-      imports = on.imports;
-      exports = λ told.
-          kept_or_same (λ j. exports_where (module_numbered later j)) (get nat_cmp c.args.self.now.exports) (get nat_cmp c.keep.new.lists) c.args.number c.in_ok-exports-2.exports c.keep.result c.keep.ensures.kept c.keep.ensures.unchanged
-          (c.in_ok-exports-2.ensures.same ∙ (c.in_ok-exports.ensures.exports told ∙ exports_listed file later c.args.listed.now c.args.number _ c.exports_of.ensures.continues.file (c.requires.listed (c.exports_of.ensures.continues.told told)) c.module_at.ensures))
-          (on.exports told);
-    }
+    let on = crossings_on c.args.pdb.now c.read_exports.new.pdb c.args.self.now c.read_exports.ensures.continues c.requires.kept in
+    record { numbers = on.numbers; imports = on.imports; exports = c.read_exports.ensures.kept }
