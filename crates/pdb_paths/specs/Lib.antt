@@ -1,2 +1,4 @@
 pub mod FileNames
+pub mod Folders
+pub mod ImagePaths
 pub mod SymbolPaths

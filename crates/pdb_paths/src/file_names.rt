@@ -56,7 +56,7 @@ fn is_folder_word(name: &[u8]) -> bool
 }
 
 /// Whether bytes are UTF-8.
-fn is_text(bytes: &[u8]) -> bool
+pub(crate) fn is_text(bytes: &[u8]) -> bool
     ensures { result ≡ is_utf8 bytes.now }
 {
     match str::from_utf8(bytes) {

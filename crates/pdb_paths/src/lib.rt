@@ -2,7 +2,11 @@
 #![tactic(auto)]
 
 mod file_names;
+mod folders;
+mod image_paths;
 mod symbol_paths;
 
 pub use file_names::{file_name, is_sound, put_within};
+pub use folders::symbol_folders;
+pub use image_paths::{SymbolFolder, pdb_paths, put_compressed};
 pub use symbol_paths::{candidates, put_filed};

@@ -100,12 +100,35 @@ fn push_files(paths: &mut Vec<Vec<u8>>, folder: &[u8], names: &[Vec<u8>]) -> Res
     Ok(())
 }
 
+/// Appends the paths of `candidates`.
+#[tactic(auto, unfolding(crate::specs::SymbolPaths::candidates))]
+pub(crate) fn push_candidates(
+    paths: &mut Vec<Vec<u8>>,
+    has_fronts: bool,
+    folder: &[u8],
+    name: &[u8],
+    key: &[u8],
+) -> Result<(), AllocError>
+    ensures { OnOk result (texts paths.new.items ≡ texts paths.old.items ++ candidates has_fronts folder.now name.now key.now) }
+{
+    if !is_sound(name) {
+        return Ok(());
+    }
+    let alloc = *paths.allocator();
+    let names = spellings(alloc, name)?;
+    let keys = spellings(alloc, key)?;
+    push_filed(paths, folder, &names, &keys)?;
+    if has_fronts {
+        push_fronts(paths, folder, &names, &keys)?;
+    }
+    push_files(paths, folder, &names)
+}
+
 /// The paths at which a folder of symbols may have the file of a name and a key, in the order in which they are tried: as
 /// a store has it, then, if the store has folders by the first two bytes of names (it has a file `index2.txt`), behind such
 /// a folder, and then in the folder itself; each also in lower letters, which stores on other systems than Windows want.
 /// None of a name that names no file (`is_sound`). A key is hex digits; other bytes of it stand in the paths as they
 /// are.
-#[tactic(auto, unfolding(crate::specs::SymbolPaths::candidates))]
 pub fn candidates(
     alloc: Global,
     has_fronts: bool,
@@ -116,15 +139,6 @@ pub fn candidates(
     ensures { IfOk result (λ paths. texts paths.items ≡ candidates has_fronts folder.now name.now key.now) }
 {
     let mut paths = Vec::new(alloc);
-    if !is_sound(name) {
-        return Ok(paths);
-    }
-    let names = spellings(alloc, name)?;
-    let keys = spellings(alloc, key)?;
-    push_filed(&mut paths, folder, &names, &keys)?;
-    if has_fronts {
-        push_fronts(&mut paths, folder, &names, &keys)?;
-    }
-    push_files(&mut paths, folder, &names)?;
+    push_candidates(&mut paths, has_fronts, folder, name, key)?;
     Ok(paths)
 }

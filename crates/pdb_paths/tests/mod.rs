@@ -2,4 +2,6 @@
 
 mod fakes;
 mod file_names;
+mod folders;
+mod image_paths;
 mod symbol_paths;
