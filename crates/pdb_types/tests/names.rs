@@ -2,7 +2,7 @@
 
 use super::support::{named, stream, types_of};
 use crate::*;
-use pdb_base::{Result, TypeIndex};
+use pdb_base::{Result, Steps, TypeIndex};
 use std::alloc::Global;
 
 /// Records of types, the first of which has the index 0x1000, and their names as a C++ programmer writes them.
@@ -267,6 +267,46 @@ fn a_name_of_more_than_65536_bytes_is_cut_off(rt: HostRuntime) -> Result<()> {
     let mut out = Vec::new(alloc);
     put_name(&types.0, &types.1, &mut out, TypeIndex(0x1002))?;
     assert!(rt; out.len() == 65_541 && out.ends_with(b"x)<...>"));
+    Ok(())
+}
+
+#[test]
+fn the_beginning_of_a_name_is_what_is_asked_for(rt: HostRuntime) -> Result<()> {
+    let alloc = rt.alloc();
+    let bytes = nested_lists(alloc, 20)?;
+    let types = types_of(&rt, alloc, &bytes)?;
+    let wanted: [(usize, &[u8]); 4] = [
+        (0, b"name: "),
+        (13, b"name: ((int, int), "),
+        (24, b"name: ((int, int), (int, int))"),
+        (30, b"name: ((int, int), (int, int))"),
+    ];
+    for (most, text) in wanted {
+        let mut out = Vec::new(alloc);
+        out.extend_from_slice(b"name: ")?;
+        let mut steps = Steps::new();
+        put_name_start(
+            &types.0,
+            &types.1,
+            &mut out,
+            TypeIndex(0x1001),
+            most,
+            &mut steps,
+        )?;
+        assert!(rt; out.as_slice() == text, "{most}: {:?}", out.as_slice());
+    }
+    // The name of the last one would have 2^20 types. For its beginning few records are read.
+    let mut out = Vec::new(alloc);
+    let mut steps = Steps::new();
+    put_name_start(
+        &types.0,
+        &types.1,
+        &mut out,
+        TypeIndex(0x1013),
+        24,
+        &mut steps,
+    )?;
+    assert!(rt; out.len() == 24 && out.ends_with(b"((((int,"));
     Ok(())
 }
 
