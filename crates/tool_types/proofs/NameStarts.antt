@@ -1,7 +1,9 @@
 -- What a line shows of a long name is decided by its beginning.
-use Rattle.std.proofs.Common.{◌≡◌, ℕ, ◌≤◌, ◌<◌, ◌++◌, Bool, true, false, cond, List, length, take, map, get_or, ap, sym, ◌∙◌, refl, arith, leb-true, leb-false, lt-leb}
-use Rattle.std.specs.Prelude.{codes, nat_le}
-use Rattle.std.proofs.lemmas.List.{get_or-take, length-take, length-take-le, take-take, take_all}
+use Rattle.std.proofs.Common.{◌≡◌, ℕ, ◌≤◌, ◌<◌, ◌++◌, Bool, true, false, cond, List, length, take, drop, map, get_or, ap, ◌∙◌, refl, arith, leb-true, leb-false}
+use Rattle.std.proofs.lemmas.Bool.{lt-leb}
+use Rattle.std.specs.Prelude.{codes, nat_le, Result, Ok, Err, OnOk}
+use Rattle.std.proofs.Math.Seq.{drop-append_seam, take-append_seam}
+use Rattle.std.proofs.lemmas.List.{get_or-take, length-take-le, take-take, take_all}
 use Rattle.pdb_text.specs.OneLine.{cut, goes_on, in_line, one_line}
 
 cut_start : (bytes : List ℕ) → cut (take 4097 bytes) ≡ cut bytes
@@ -36,6 +38,17 @@ start_by bytes false e =
     let front : take (cut (take 4097 bytes)) (take 4097 bytes) ≡ take (cut bytes) bytes = ap (λ (n : ℕ). take n (take 4097 bytes)) (cut_start bytes) ∙ take-take (cut bytes) 4097 bytes (let few = cut_most bytes in omega (arith, few)) in
     rw (long_start bytes more) (ap (λ (l : List ℕ). map in_line l ++ codes "...") front)
 
-pub shown_start : (bytes : List ℕ) → one_line (take 4097 bytes) ≡ one_line bytes
+shown_start : (bytes : List ℕ) → one_line (take 4097 bytes) ≡ one_line bytes
 unfolding one_line
 shown_start bytes = start_by bytes (nat_le (length bytes) 4096) refl
+
+behind : (old name mid now : List ℕ) (start : ℕ) → start ≡ length old → mid ≡ old ++ take 4097 name → now ≡ take start mid ++ one_line (drop start mid) → now ≡ old ++ one_line name
+behind old name mid now start at is line =
+    let front : take start mid ≡ old = ap (λ (n : ℕ). take n mid) at ∙ (ap (take (length old)) is ∙ take-append_seam old (take 4097 name)) in
+    let back : drop start mid ≡ take 4097 name = ap (λ (n : ℕ). drop n mid) at ∙ (ap (drop (length old)) is ∙ drop-append_seam old (take 4097 name)) in
+    line ∙ (ap (λ (l : List ℕ). l ++ one_line (drop start mid)) front ∙ ap (λ (l : List ℕ). old ++ l) (ap one_line back ∙ shown_start name))
+
+-- behind what was there stands what a line shows of the whole name
+pub shown_behind : {E : Type 0} (r : Result (Unit {0}) E) (old name mid now : List ℕ) (start : ℕ) → start ≡ length old → mid ≡ old ++ take 4097 name → OnOk r (now ≡ take start mid ++ one_line (drop start mid)) → OnOk r (now ≡ old ++ one_line name)
+shown_behind (Ok x) old name mid now start at is line = behind old name mid now start at is line
+shown_behind (Err e) old name mid now start at is line = line

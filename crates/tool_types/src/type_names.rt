@@ -15,7 +15,6 @@ use std::alloc::AllocError;
 const MOST_READ: usize = 4097;
 
 /// Appends the name of a type, on one line: a file may have any bytes in its names.
-#[tactic(auto, using(crate::proofs::NameStarts::shown_start))]
 pub fn put_type_name(
     types: &ItemFinder<'_>,
     definitions: &TypeDefinitions<'_>,
