@@ -1,0 +1,2 @@
+mod Halving
+pub mod Numbers64
