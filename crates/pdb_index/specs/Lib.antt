@@ -6,3 +6,4 @@ pub mod NodeViews
 pub mod Searches
 pub mod SectionRuns
 pub mod Segments
+pub mod WellMade

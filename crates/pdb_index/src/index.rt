@@ -1,15 +1,21 @@
 //! An opened index, and look-ups in it.
 
-ghost use Rattle.std.specs.Prelude.{◌≡◌, ◌+◌, ◌*◌, ◌^◌, ◌<◌, ◌≤◌, length};
+ghost use Rattle.std.specs.Prelude.{◌≡◌, ◌+◌, ◌*◌, ◌^◌, ◌<◌, ◌≤◌, length, true};
+ghost use Rattle.std.specs.Option.{is_none};
+ghost use Rattle.pdb_index.specs.IndexHeader.{error_of};
 ghost use Rattle.pdb_index.specs.IndexLayout.{end_of, has_narrow_fields, HasNarrowFields, HasOtherTables, HasRows, HasWordTables, IsInside, layout_of};
 
+use crate::depths::are_shallow;
 use crate::error::{Damaged, OpenError};
 use crate::frames::Frames;
 use crate::header::{Header, read_header};
 use crate::layout::{Layout, read_layout};
+use crate::named::names_what_is_there;
+use crate::rising::is_rising;
 use crate::runs::{Run, run_at};
 use crate::segments::{Place, find_place};
 use pdb_base::little_endian::u32_at;
+use std::alloc::{AllocError, Global};
 
 /// An index of a PDB file. It borrows the index's bytes, and is cheap to copy. All look-ups are methods of it:
 ///
@@ -31,6 +37,7 @@ pub struct Index<'a> {
     ghost narrow: { HasNarrowFields layout },
     ghost inside: { IsInside layout (length bytes.now) },
     ghost header: { 96 ≤ length bytes.now },
+    ghost opens: { is_none (error_of bytes.now) ≡ true },
 }
 
 /// Whether each field has at most four bytes, and steps are shifted by less than 32 bits.
@@ -48,7 +55,9 @@ fn has_narrow(layout: Layout) -> bool
 }
 
 impl<'a> Index<'a> {
+    ghost use Rattle.std.specs.Prelude.{◌↔◌, IfOk, IsTrue};
     ghost use Rattle.pdb_index.specs.IndexHeader.{header_of};
+    ghost use Rattle.pdb_index.specs.WellMade.{IsWellMade};
     ghost use Rattle.pdb_index.specs.IndexViews.{damage_of, frames_damage, frames_left, frames_of, GivesFrames, GivesPlace, GivesRun, GivesRunAt, index_bytes, Opens};
 
     /// Opens the bytes of an index, in a constant number of steps: only the header is read. Its errors, in this order:
@@ -76,6 +85,18 @@ impl<'a> Index<'a> {
         ensures { result ≡ header_of (index_bytes self.now) }
     {
         read_header(self.bytes)
+    }
+
+    /// Whether the tables agree with each other, as the writer makes them: segments, sections and runs rise, all that is named
+    /// is there, and no stack has more frames than the header says. Then no look-up fails. It reads each row once, and takes
+    /// memory once, four bytes a node.
+    pub fn is_well_made(&self, alloc: Global) -> Result<bool, AllocError>
+        ensures { IfOk result (λ r. IsTrue r ↔ IsWellMade (index_bytes self.now)) }
+    {
+        if !names_what_is_there(self) || !is_rising(self) {
+            return Ok(false);
+        }
+        are_shallow(alloc, self)
     }
 
     /// The section and offset of an address relative to the image's base, or `None` if no code stands there. If the segments

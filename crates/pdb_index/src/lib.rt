@@ -5,12 +5,15 @@
 #![tactic(auto)]
 
 mod cells;
+mod depths;
 mod error;
 mod frames;
 mod header;
 mod index;
 mod layout;
+mod named;
 mod nodes;
+mod rising;
 mod runs;
 mod search;
 mod segments;

@@ -4,6 +4,7 @@ mod damaged;
 mod look_ups;
 mod sample;
 mod steps;
+mod well_made;
 
 use std::fmt::Debug;
 use std::process::Abort;
