@@ -1,0 +1,4 @@
+pub mod DepthSteps
+mod Halving
+pub mod Numbers64
+pub mod RisingNumbers
