@@ -1,4 +1,8 @@
 pub mod DepthSteps
+mod FewFrames
 mod Halving
+mod LastRows
 pub mod Numbers64
 pub mod RisingNumbers
+mod WholeReads
+mod WholeStacks

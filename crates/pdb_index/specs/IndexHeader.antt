@@ -1,5 +1,5 @@
 -- The header of an index, and which bytes open as one.
-use Rattle.std.specs.Prelude.{◌≡◌, ℕ, ◌/◌, ◌%◌, List, length, take, drop, not, ◌||◌, ◌&&◌, Option, Some, None, nat_eq, nat_lt, ◌==◌, if◌then◌else◌, codes}
+use Rattle.std.specs.Prelude.{ℕ, ◌/◌, ◌%◌, List, length, take, drop, not, ◌||◌, Option, Some, None, nat_eq, nat_lt, ◌==◌, if◌then◌else◌, codes}
 use Rattle.std.specs.List.{starts_with}
 use Rattle.pdb_base.specs.Fields.{number}
 use Rattle.pdb_index.specs.declared.error.OpenError.{OpenError}

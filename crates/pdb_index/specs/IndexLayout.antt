@@ -1,5 +1,5 @@
 -- Where the tables of an index stand, by the counts and the widths of its header.
-use Rattle.std.specs.Prelude.{◌≡◌, ℕ, ◌+◌, ◌*◌, ◌^◌, ◌<◌, ◌≤◌, List, length, Bool, ◌&&◌, nat_le, ◌==◌, if◌then◌else◌}
+use Rattle.std.specs.Prelude.{◌≡◌, ℕ, ◌+◌, ◌*◌, ◌^◌, ◌<◌, ◌≤◌, List, Bool, ◌&&◌, nat_le, ◌==◌, if◌then◌else◌}
 use Rattle.pdb_base.specs.Fields.{number}
 use Rattle.pdb_index.specs.declared.layout.Table.{Table}
 use Rattle.pdb_index.specs.declared.layout.NodeFields.{NodeFields}

@@ -15,6 +15,10 @@ pub record HasRuns (b : List ℕ) (t : Layout) (first behind : ℕ) : Type 0 whe
   pub from : start_of b t.starts first ≡ 0
   pub rise : Rises (start_of b t.starts) first behind
 
+-- the runs of the section of row k do
+abbrev pub HasRunsOfRow : List ℕ → Layout → ℕ → Type 0
+HasRunsOfRow b t k = HasRuns b t (first_run b t k) (first_run b t (k + 1))
+
 -- segments rise, from address 0 on
 pub record HasRisingSegments (b : List ℕ) (t : Layout) : Type 0 where
   pub from : start_of b t.segments 0 ≡ 0
@@ -29,7 +33,7 @@ pub record HasRisingSections (b : List ℕ) (t : Layout) : Type 0 where
 
 -- the runs of each section begin at 0 and rise
 pub record HasRisingStarts (b : List ℕ) (t : Layout) : Type 0 where
-  pub each : (k : ℕ) → k + 1 < t.sections.rows → HasRuns b t (first_run b t k) (first_run b t (k + 1))
+  pub each : (k : ℕ) → k + 1 < t.sections.rows → HasRunsOfRow b t k
 
 -- all that rises
 pub record IsRising (b : List ℕ) (t : Layout) : Type 0 where
@@ -51,11 +55,23 @@ pub record IsNode (b : List ℕ) (t : Layout) (k : ℕ) : Type 0 where
 pub record HasNodes (b : List ℕ) (t : Layout) : Type 0 where
   pub each : (k : ℕ) → k < t.nodes.rows → IsNode b t k
 
+-- there are a segment, a node, a function and a file
+abbrev pub HasSome : Layout → Type 0
+HasSome t = (1 ≤ t.segments.rows) × (1 ≤ t.nodes.rows) × (1 ≤ t.functions.rows) × (1 ≤ t.files.rows)
+
+-- the section of each segment is one of an image, or none
+abbrev pub HasSections : List ℕ → Layout → Type 0
+HasSections b t = (k : ℕ) → k < t.segments.rows → word_at b t.segments k 4 < 65536
+
+-- the node of each run is there
+abbrev pub HasRunNodes : List ℕ → Layout → Type 0
+HasRunNodes b t = (k : ℕ) → k < t.starts.rows → field_at b t.values k 0 t.values.width / 2 < t.nodes.rows
+
 -- what is named is there
 pub record NamesWhatIsThere (b : List ℕ) (t : Layout) : Type 0 where
-  pub some : (1 ≤ t.segments.rows) × (1 ≤ t.nodes.rows) × (1 ≤ t.functions.rows) × (1 ≤ t.files.rows)
-  pub sections : (k : ℕ) → k < t.segments.rows → word_at b t.segments k 4 < 65536
-  pub runs : (k : ℕ) → k < t.starts.rows → field_at b t.values k 0 t.values.width / 2 < t.nodes.rows
+  pub some : HasSome t
+  pub sections : HasSections b t
+  pub runs : HasRunNodes b t
   pub nodes : HasNodes b t
   pub functions : HasNames b t (word_at b t.functions) t.functions.rows
   pub files : HasNames b t (word_at b t.files) t.files.rows

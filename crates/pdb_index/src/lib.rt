@@ -10,6 +10,7 @@ mod error;
 mod frames;
 mod header;
 mod index;
+pub mod laws;
 mod layout;
 mod named;
 mod nodes;

@@ -1,8 +1,8 @@
 //! What an index that is well made names: each thing is there.
 
-ghost use Rattle.std.specs.Prelude.{◌≡◌, ◌+◌, ◌*◌, ◌/◌, ◌-◌, ◌^◌, ◌<◌, ◌≤◌, ◌↔◌, ℕ, length, IsTrue};
-ghost use Rattle.pdb_index.specs.IndexLayout.{end_of, field_at, word_at};
-ghost use Rattle.pdb_index.specs.WellMade.{HasNames, HasNodes, IsNode, NamesWhatIsThere};
+ghost use Rattle.std.specs.Prelude.{◌≡◌, ◌+◌, ◌*◌, ◌/◌, ◌-◌, ◌^◌, ◌<◌, ◌≤◌, ◌↔◌, length, IsTrue};
+ghost use Rattle.pdb_index.specs.IndexLayout.{end_of, word_at};
+ghost use Rattle.pdb_index.specs.WellMade.{HasNames, HasNodes, HasRunNodes, HasSections, HasSome, IsNode, NamesWhatIsThere};
 
 use crate::cells::{field, word};
 use crate::index::Index;
@@ -11,7 +11,7 @@ use crate::nodes::node_at;
 
 /// Whether each segment's section is one of an image, or none.
 fn has_sections(index: &Index<'_>) -> bool
-    ensures { IsTrue result ↔ ((k : ℕ) → k < index.now.layout.segments.rows → word_at index.now.bytes.now index.now.layout.segments k 4 < 65536) }
+    ensures { IsTrue result ↔ HasSections index.now.bytes.now index.now.layout }
 {
     for segment in 0..index.layout.segments.rows as u32 {
         if word(index.bytes, index.layout.segments, segment, 4) > 65535 {
@@ -23,7 +23,7 @@ fn has_sections(index: &Index<'_>) -> bool
 
 /// Whether the node of each run is there.
 fn has_run_nodes(index: &Index<'_>) -> bool
-    ensures { IsTrue result ↔ ((k : ℕ) → k < index.now.layout.starts.rows → field_at index.now.bytes.now index.now.layout.values k 0 index.now.layout.values.width / 2 < index.now.layout.nodes.rows) }
+    ensures { IsTrue result ↔ HasRunNodes index.now.bytes.now index.now.layout }
 {
     let values = index.layout.values;
     for run in 0..values.rows as u32 {
@@ -77,7 +77,7 @@ fn has_names(index: &Index<'_>, table: Table) -> bool
 
 /// Whether there is a segment, a node, a function and a file.
 fn has_some(index: &Index<'_>) -> bool
-    ensures { IsTrue result ↔ ((1 ≤ index.now.layout.segments.rows) × (1 ≤ index.now.layout.nodes.rows) × (1 ≤ index.now.layout.functions.rows) × (1 ≤ index.now.layout.files.rows)) }
+    ensures { IsTrue result ↔ HasSome index.now.layout }
 {
     index.layout.segments.rows > 0
         && index.layout.nodes.rows > 0

@@ -3,7 +3,7 @@
 ghost use Rattle.std.specs.Prelude.{◌≡◌, ◌+◌, ◌*◌, ◌-◌, ◌^◌, ◌<◌, ◌≤◌, ◌↔◌, length, IsTrue};
 ghost use Rattle.pdb_index.specs.IndexLayout.{end_of, start_of, word_at};
 ghost use Rattle.pdb_index.specs.Searches.{Rises};
-ghost use Rattle.pdb_index.specs.WellMade.{first_run, HasRisingSections, HasRisingSegments, HasRisingStarts, HasRuns, IsRising};
+ghost use Rattle.pdb_index.specs.WellMade.{first_run, HasRisingSections, HasRisingSegments, HasRisingStarts, HasRuns, HasRunsOfRow, IsRising};
 
 use crate::cells::word;
 use crate::index::Index;
@@ -40,7 +40,7 @@ fn section_has_runs(index: &Index<'_>, section: u32) -> bool
     requires there { section + 1 < index.now.layout.sections.rows }
     requires rises { first_run index.now.bytes.now index.now.layout section < first_run index.now.bytes.now index.now.layout (section + 1) }
     requires runs { first_run index.now.bytes.now index.now.layout (section + 1) ≤ index.now.layout.starts.rows }
-    ensures { IsTrue result ↔ HasRuns index.now.bytes.now index.now.layout (first_run index.now.bytes.now index.now.layout section) (first_run index.now.bytes.now index.now.layout (section + 1)) }
+    ensures { IsTrue result ↔ HasRunsOfRow index.now.bytes.now index.now.layout section }
 {
     let first = word(index.bytes, index.layout.sections, section, 4);
     let behind = word(index.bytes, index.layout.sections, section + 1, 4);

@@ -1,10 +1,9 @@
 //! Runs: ranges of offsets in a section whose code has the same frames.
 
-ghost use Rattle.std.specs.Prelude.{◌≡◌, ◌+◌, ◌*◌, ◌-◌, ◌<◌, ◌≤◌, IfSome, Option, ℕ};
-ghost use Rattle.std.specs.Option.{option_map};
-ghost use Rattle.pdb_index.specs.IndexLayout.{start_of, word_at};
+ghost use Rattle.std.specs.Prelude.{◌≡◌, ◌+◌, ◌*◌, ◌-◌, ◌<◌, ◌≤◌, IfSome};
+ghost use Rattle.pdb_index.specs.IndexLayout.{start_of};
 ghost use Rattle.pdb_index.specs.Searches.{Finds};
-ghost use Rattle.pdb_index.specs.SectionRuns.{IsRunAmong, IsRunAt, run_of as run_there, section_row};
+ghost use Rattle.pdb_index.specs.SectionRuns.{IsRowOf, IsRunAt, IsRunOfRow, run_of as run_there};
 
 use crate::cells::{field, word};
 use crate::index::Index;
@@ -25,7 +24,7 @@ pub struct Run {
 
 /// The row of a section that has runs.
 fn find_section(index: &Index<'_>, section: u16) -> Option<u32>
-    ensures row { (k : Option ℕ) × Finds (start_of index.now.bytes.now index.now.layout.sections) 0 (index.now.layout.sections.rows - 1) section k × (result ≡ section_row index.now.bytes.now index.now.layout section k) }
+    ensures row { IsRowOf index.now.bytes.now index.now.layout section result }
     ensures there { IfSome result (λ k. k + 1 < index.now.layout.sections.rows) }
 {
     let sections = index.layout.sections;
@@ -63,7 +62,7 @@ fn run_of(index: &Index<'_>, number: u32) -> Run
 /// The run that has an offset, in the section of this row; `None` where the index is damaged.
 fn run_in(index: &Index<'_>, section: u32, offset: u32) -> Option<Run>
     requires { section + 1 < index.now.layout.sections.rows }
-    ensures { (n : Option ℕ) × IsRunAmong index.now.bytes.now index.now.layout (word_at index.now.bytes.now index.now.layout.sections section 4) (word_at index.now.bytes.now index.now.layout.sections (section + 1) 4) offset n × (result ≡ option_map (run_there index.now.bytes.now index.now.layout) n) }
+    ensures { IsRunOfRow index.now.bytes.now index.now.layout section offset result }
 {
     let layout = index.layout;
     let first = word(index.bytes, layout.sections, section, 4);

@@ -41,7 +41,7 @@ fn one_rule_broken(rt: HostRuntime) -> Result<(), Fail> {
         ("name to the end", 0xec, 7, true),
         ("file's name past the end", 0x104, 4, false),
         ("stacks of 2", 0x44, 1, false),
-        ("stacks of 3", 0xd6, 1, false),
+        ("stacks of 3", 0xd0, 1, false),
         ("stacks of at most 3", 0x44, 3, true),
     ] {
         let bytes = changed(rt.alloc(), at, &[byte])?;
