@@ -54,10 +54,13 @@ pub fn put_optional(out: &mut Vec<u8>, number: Option<u32>) -> Result<(), AllocE
 }
 
 /// A space and a number, or `-` where there is none.
+#[tactic(auto, using(crate::proofs::Numbers::zero_digit))]
 pub fn put_optional_field(out: &mut Vec<u8>, number: Option<u32>) -> Result<(), AllocError>
     ensures { OnOk result (out.new.items ≡ out.old.items ++ optional_field_text number) }
 {
     match number {
+        // Most columns are 0.
+        Some(0) => out.extend_from_slice(b" 0"),
         Some(number) => put_field(out, u64::from(number)),
         None => out.extend_from_slice(b" -"),
     }
