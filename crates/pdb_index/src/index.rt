@@ -149,10 +149,10 @@ impl<'a> Index<'a> {
         }
     }
 
-    /// The frames of an address relative to the image's base, the innermost first. There is always one at least: of code of
-    /// which nothing is known it has neither name nor file. The call fails with `Damaged` where `run` does. An item fails
-    /// with `Damaged`, and is the last one, if its node, function, file or name is not in the index, or if there are more
-    /// frames than the header says: at most `header().deepest` frames come.
+    /// The frames of an address relative to the image's base, the innermost first. There is one item at least: of code of
+    /// which nothing is known it is a frame with neither name nor file. The call fails with `Damaged` where `run` does. An
+    /// item is `Damaged`, and is the last one, if its node, function, file or name is not in the index, or if there are more
+    /// frames than the header says: at most `header().deepest` frames of a run come.
     pub fn frames(&self, address: u32) -> Result<Frames<'a>, Damaged>
         ensures { GivesFrames (index_bytes self.now) address result }
     {
