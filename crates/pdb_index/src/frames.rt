@@ -24,7 +24,7 @@ pub enum Next {
 }
 
 /// The frames at a place, from the innermost outwards: an iterator. If the index is damaged, the last item is an error.
-#[derive(Clone, Copy, Debug)]
+#[derive(Clone, Debug, Drop)]
 pub struct Frames<'a> {
     index: Index<'a>,
     next: Next,

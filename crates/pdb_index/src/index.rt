@@ -14,6 +14,7 @@ use crate::named::names_what_is_there;
 use crate::rising::is_rising;
 use crate::runs::{Run, run_at};
 use crate::segments::{Place, find_place};
+use pdb_base::Steps;
 use pdb_base::little_endian::u32_at;
 use std::alloc::{AllocError, Global};
 
@@ -105,7 +106,7 @@ impl<'a> Index<'a> {
     pub fn place(&self, address: u32) -> Result<Option<Place>, Damaged>
         ensures { GivesPlace (index_bytes self.now) address result }
     {
-        find_place(self, address).ok_or(Damaged)
+        find_place(self, address, &mut Steps::new()).ok_or(Damaged)
     }
 
     /// The run at a place, or `None` if nothing is known of the section's code. If sections and starts rise, it is the last
@@ -114,7 +115,7 @@ impl<'a> Index<'a> {
     pub fn run_at(&self, place: Place) -> Result<Option<Run>, Damaged>
         ensures { GivesRunAt (index_bytes self.now) place result }
     {
-        run_at(self, place).ok_or(Damaged)
+        run_at(self, place, &mut Steps::new()).ok_or(Damaged)
     }
 
     /// The run of an address: the run at its place, or `None` if it has no place or nothing is known of its code. Two
@@ -122,8 +123,17 @@ impl<'a> Index<'a> {
     pub fn run(&self, address: u32) -> Result<Option<Run>, Damaged>
         ensures { GivesRun (index_bytes self.now) address result }
     {
-        match self.place(address)? {
-            Some(place) => self.run_at(place),
+        self.run_counted(address, &mut Steps::new())
+    }
+
+    /// The run of an address, as `run` gives it. It counts each row of segments, sections and runs that it looks at: 129 at
+    /// most, whatever the bytes are.
+    pub fn run_counted(&self, address: u32, looks: &mut Steps) -> Result<Option<Run>, Damaged>
+        ensures run { GivesRun (index_bytes self.now) address result }
+        ensures few { looks.new.count ≤ looks.old.count + 129 }
+    {
+        match find_place(self, address, looks).ok_or(Damaged)? {
+            Some(place) => run_at(self, place, looks).ok_or(Damaged),
             None => Ok(None),
         }
     }
@@ -139,10 +149,10 @@ impl<'a> Index<'a> {
         }
     }
 
-    /// The frames of an address relative to the image's base, the innermost first. There is always one at least: of code of
-    /// which nothing is known it has neither name nor file. The call fails with `Damaged` where `run` does. An item fails
-    /// with `Damaged`, and is the last one, if its node, function, file or name is not in the index, or if there are more
-    /// frames than the header says: at most `header().deepest` frames come.
+    /// The frames of an address relative to the image's base, the innermost first. There is one item at least: of code of
+    /// which nothing is known it is a frame with neither name nor file. The call fails with `Damaged` where `run` does. An
+    /// item is `Damaged`, and is the last one, if its node, function, file or name is not in the index, or if there are more
+    /// frames than the header says: at most `header().deepest` frames of a run come.
     pub fn frames(&self, address: u32) -> Result<Frames<'a>, Damaged>
         ensures { GivesFrames (index_bytes self.now) address result }
     {

@@ -25,5 +25,6 @@ pub use frames::Frames;
 pub use header::{Header, Key};
 pub use index::Index;
 pub use nodes::Frame;
+pub use pdb_base::Steps;
 pub use runs::Run;
 pub use segments::Place;

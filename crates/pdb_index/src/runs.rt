@@ -10,6 +10,7 @@ use crate::index::Index;
 use crate::search::last_upto;
 use crate::segments::Place;
 use crate::steps::hinted;
+use pdb_base::Steps;
 
 /// A run: a range of code at each address of which the frames are the same.
 #[derive(Clone, Copy, Debug, PartialEq, Eq)]
@@ -23,26 +24,42 @@ pub struct Run {
 }
 
 /// The row of a section that has runs.
-fn find_section(index: &Index<'_>, section: u16) -> Option<u32>
+fn find_section(index: &Index<'_>, section: u16, looks: &mut Steps) -> Option<u32>
     ensures row { IsRowOf index.now.bytes.now index.now.layout section result }
     ensures there { IfSome result (λ k. k + 1 < index.now.layout.sections.rows) }
+    ensures few { looks.new.count ≤ looks.old.count + 32 }
 {
     let sections = index.layout.sections;
     let count = (sections.rows - 1) as u32;
-    let row = last_upto(index.bytes, sections, 0, count, u32::from(section))?;
+    let row = last_upto(index.bytes, sections, 0, count, u32::from(section), looks)?;
     (word(index.bytes, sections, row, 0) == u32::from(section)).then_some(row)
 }
 
 /// The run that has an offset, among those of a section from `first` on and before `behind`.
-fn find_run(index: &Index<'_>, section: u32, first: u32, behind: u32, offset: u32) -> Option<u32>
+fn find_run(
+    index: &Index<'_>,
+    section: u32,
+    first: u32,
+    behind: u32,
+    offset: u32,
+    looks: &mut Steps,
+) -> Option<u32>
     requires section { section + 1 < index.now.layout.sections.rows }
     requires runs { (first < behind) × (behind ≤ index.now.layout.starts.rows) }
-    ensures { Finds (start_of index.now.bytes.now index.now.layout.starts) first behind offset result }
+    ensures found { Finds (start_of index.now.bytes.now index.now.layout.starts) first behind offset result }
+    ensures few { looks.new.count ≤ looks.old.count + 65 }
 {
-    if let Some(run) = hinted(index, section, first, behind, offset) {
+    if let Some(run) = hinted(index, section, first, behind, offset, looks) {
         return Some(run);
     }
-    last_upto(index.bytes, index.layout.starts, first, behind, offset)
+    last_upto(
+        index.bytes,
+        index.layout.starts,
+        first,
+        behind,
+        offset,
+        looks,
+    )
 }
 
 /// What a run's value says.
@@ -60,9 +77,10 @@ fn run_of(index: &Index<'_>, number: u32) -> Run
 }
 
 /// The run that has an offset, in the section of this row; `None` where the index is damaged.
-fn run_in(index: &Index<'_>, section: u32, offset: u32) -> Option<Run>
+fn run_in(index: &Index<'_>, section: u32, offset: u32, looks: &mut Steps) -> Option<Run>
     requires { section + 1 < index.now.layout.sections.rows }
-    ensures { IsRunOfRow index.now.bytes.now index.now.layout section offset result }
+    ensures run { IsRunOfRow index.now.bytes.now index.now.layout section offset result }
+    ensures few { looks.new.count ≤ looks.old.count + 65 }
 {
     let layout = index.layout;
     let first = word(index.bytes, layout.sections, section, 4);
@@ -70,17 +88,18 @@ fn run_in(index: &Index<'_>, section: u32, offset: u32) -> Option<Run>
     if first >= behind || layout.starts.rows < behind as usize {
         return None;
     }
-    let number = find_run(index, section, first, behind, offset)?;
+    let number = find_run(index, section, first, behind, offset, looks)?;
     Some(run_of(index, number))
 }
 
 /// The run at a place, if its section has runs; `None` where the index is damaged.
-pub(crate) fn run_at(index: &Index<'_>, place: Place) -> Option<Option<Run>>
-    ensures { IsRunAt index.now.bytes.now index.now.layout place.section place.offset result }
+pub(crate) fn run_at(index: &Index<'_>, place: Place, looks: &mut Steps) -> Option<Option<Run>>
+    ensures run { IsRunAt index.now.bytes.now index.now.layout place.section place.offset result }
+    ensures few { looks.new.count ≤ looks.old.count + 97 }
 {
-    let Some(section) = find_section(index, place.section) else {
+    let Some(section) = find_section(index, place.section, looks) else {
         return Some(None);
     };
-    let run = run_in(index, section, place.offset)?;
+    let run = run_in(index, section, place.offset, looks)?;
     Some(Some(run))
 }

@@ -7,6 +7,7 @@ ghost use Rattle.pdb_index.specs.Segments.{IsPlaceOf, place_in as place_there};
 use crate::cells::word;
 use crate::index::Index;
 use crate::search::last_upto;
+use pdb_base::Steps;
 
 /// A place in the image.
 #[derive(Clone, Copy, Debug, PartialEq, Eq)]
@@ -36,10 +37,22 @@ fn place_in(index: &Index<'_>, segment: u32, address: u32) -> Option<Option<Plac
 }
 
 /// The place of an address; `None` where the index is damaged.
-pub(crate) fn find_place(index: &Index<'_>, address: u32) -> Option<Option<Place>>
-    ensures { IsPlaceOf index.now.bytes.now index.now.layout address result }
+pub(crate) fn find_place(
+    index: &Index<'_>,
+    address: u32,
+    looks: &mut Steps,
+) -> Option<Option<Place>>
+    ensures place { IsPlaceOf index.now.bytes.now index.now.layout address result }
+    ensures few { looks.new.count ≤ looks.old.count + 32 }
 {
     let segments = index.layout.segments;
-    let segment = last_upto(index.bytes, segments, 0, segments.rows as u32, address)?;
+    let segment = last_upto(
+        index.bytes,
+        segments,
+        0,
+        segments.rows as u32,
+        address,
+        looks,
+    )?;
     place_in(index, segment, address)
 }

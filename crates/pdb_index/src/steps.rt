@@ -7,6 +7,7 @@ ghost use Rattle.pdb_index.specs.Searches.{Has};
 use crate::cells::word;
 use crate::index::Index;
 use crate::search::last_upto;
+use pdb_base::Steps;
 
 /// The runs among which the steps have an offset, counted from the section's first; `None` where there are no steps, or the
 /// section has none for the offset.
@@ -39,17 +40,27 @@ pub(crate) fn hinted(
     first: u32,
     behind: u32,
     offset: u32,
+    looks: &mut Steps,
 ) -> Option<u32>
     requires section { section + 1 < index.now.layout.sections.rows }
     requires runs { (first < behind) × (behind ≤ index.now.layout.starts.rows) }
-    ensures { IfSome result (Has (start_of index.now.bytes.now index.now.layout.starts) first behind offset) }
+    ensures has { IfSome result (Has (start_of index.now.bytes.now index.now.layout.starts) first behind offset) }
+    ensures few { looks.new.count ≤ looks.old.count + 33 }
 {
     let (low, high) = stepped(index, section, offset)?;
     if low > high || high > behind - first {
         return None;
     }
     let starts = index.layout.starts;
-    let run = last_upto(index.bytes, starts, first + low, first + high, offset)?;
+    let run = last_upto(
+        index.bytes,
+        starts,
+        first + low,
+        first + high,
+        offset,
+        looks,
+    )?;
+    looks.tick();
     let is_last = run + 1 == behind || offset < word(index.bytes, starts, run + 1, 0);
     is_last.then_some(run)
 }

@@ -135,6 +135,24 @@ fn runs_of_places(rt: HostRuntime) -> Result<(), Fail> {
 }
 
 #[test]
+fn runs_of_addresses(rt: HostRuntime) -> Result<(), Fail> {
+    let bytes = sample(rt.alloc())?;
+    let index = Index::open(&bytes)?;
+    for (address, number) in [
+        (0xff0, None),
+        (0x110e, Some(4)),
+        (0x1110, Some(5)),
+        (0x1fff, Some(7)),
+    ] {
+        let run = index.run(address)?;
+        is(&rt, "number", &run.map(|run| run.number), &number);
+        let counted = index.run_counted(address, &mut Steps::new())?;
+        is(&rt, "counted", &counted, &run);
+    }
+    Ok(())
+}
+
+#[test]
 fn frames_of_addresses(rt: HostRuntime) -> Result<(), Fail> {
     let bytes = sample(rt.alloc())?;
     for (address, inner, outer) in [
