@@ -66,41 +66,41 @@ fn fpo_type(bits: u16) -> FrameType
 
 /// What the 32 bytes of a record of `FRAMEDATA` say.
 #[tactic(auto, unfolding(crate::specs::Frames::frame_data_of))]
-pub(crate) fn frame_data(record: &[u8]) -> FrameData
-    requires { 32 ≤ length record.now }
-    ensures { result ≡ frame_data_of record.now }
+pub(crate) fn frame_data(fields: &[u8]) -> FrameData
+    requires { 32 ≤ length fields.now }
+    ensures { result ≡ frame_data_of fields.now }
 {
-    let flags = u32_at(record, 28);
+    let flags = u32_at(fields, 28);
     FrameData {
         frame_type: FrameType::FrameData,
-        code_start: u32_at(record, 0),
-        code_size: u32_at(record, 4),
-        locals_size: u64::from(u32_at(record, 8)),
-        params_size: u32_at(record, 12),
-        max_stack_size: u32_at(record, 16),
-        prolog_size: u16_at(record, 24),
-        saved_regs_size: u16_at(record, 26),
+        code_start: u32_at(fields, 0),
+        code_size: u32_at(fields, 4),
+        locals_size: u64::from(u32_at(fields, 8)),
+        params_size: u32_at(fields, 12),
+        max_stack_size: u32_at(fields, 16),
+        prolog_size: u16_at(fields, 24),
+        saved_regs_size: u16_at(fields, 26),
         has_structured_eh: flags & 1 != 0,
         has_cpp_eh: flags & 2 != 0,
         is_function_start: flags & 4 != 0,
         uses_base_pointer: false,
-        program: Some(StringRef(u32_at(record, 20))),
+        program: Some(StringRef(u32_at(fields, 20))),
     }
 }
 
 /// What the 16 bytes of a record of `FPO_DATA` say. It counts locals, parameters and registers in words of four bytes.
 #[tactic(auto, unfolding(crate::specs::Frames::fpo_of))]
-pub(crate) fn fpo_data(record: &[u8]) -> FrameData
-    requires { 16 ≤ length record.now }
-    ensures { result ≡ fpo_of record.now }
+pub(crate) fn fpo_data(fields: &[u8]) -> FrameData
+    requires { 16 ≤ length fields.now }
+    ensures { result ≡ fpo_of fields.now }
 {
-    let bits = u16_at(record, 14);
+    let bits = u16_at(fields, 14);
     FrameData {
         frame_type: fpo_type(bits),
-        code_start: u32_at(record, 0),
-        code_size: u32_at(record, 4),
-        locals_size: 4 * u64::from(u32_at(record, 8)),
-        params_size: 4 * u32::from(u16_at(record, 12)),
+        code_start: u32_at(fields, 0),
+        code_size: u32_at(fields, 4),
+        locals_size: 4 * u64::from(u32_at(fields, 8)),
+        params_size: 4 * u32::from(u16_at(fields, 12)),
         max_stack_size: 0,
         prolog_size: bits % 256,
         saved_regs_size: 4 * (bits / 256 % 8),
