@@ -21,7 +21,7 @@ pub enum FrameType {
     FrameData,
 }
 
-/// How a piece of code has laid out its stack: `cvinfo.h`'s `FRAMEDATA` or `FPO_DATA`. Sizes are in bytes.
+/// How a piece of code has laid out its stack: `FRAMEDATA` of `cvinfo.h`, or `FPO_DATA` of `winnt.h`. Sizes are in bytes.
 #[derive(Clone, Copy, Debug, Eq, PartialEq)]
 pub struct FrameData {
     /// The kind of the frame.

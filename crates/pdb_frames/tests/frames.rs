@@ -4,7 +4,7 @@ use crate::{FpoRecords, FrameData, FrameDataRecords, FrameType};
 use pdb_base::StringRef;
 use std::process::Abort;
 
-/// The first two records of a DLL that LLVM's linker made, the last record of another file, and 31 bytes.
+/// The first two records of a DLL that LLVM's linker made, one in which each field has a value of its own, and 31 bytes.
 const RECORDS: [u8; 127] = [
     0x00, 0x10, 0, 0, 0x4c, 0, 0, 0, 0, 0, 0, 0, 0x04, 0, 0, 0, 0, 0, 0, 0, 0x02, 0, 0, 0, 0x02, 0,
     0, 0, 0x04, 0, 0, 0, //
@@ -93,7 +93,7 @@ fn no_records(rt: HostRuntime) {
     assert!(rt; records.is_empty() && records.len() == 0 && records.get(0).is_none());
 }
 
-/// The one record of a file that Microsoft's assembler and linker made, and four with a kind each.
+/// The one record of a file of LLVM's tests, one in which each field has a value of its own, and one of each further kind.
 const FPO_RECORDS: [u8; 80] = [
     0x4e, 0, 0, 0, 0x13, 0, 0, 0, 0, 0, 0, 0, 0, 0, 0x00, 0x08, //
     0x00, 0x20, 0, 0, 0x30, 0x01, 0, 0, 0x05, 0, 0, 0xc0, 0x02, 0xc0, 0x21, 0x13, //

@@ -1,3 +1,3 @@
-//! Tests of records of frame data: those of real files, as Microsoft's and LLVM's linkers wrote them.
+//! Tests of records of frame data: those of real files, and made ones.
 
 mod frames;
