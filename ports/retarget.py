@@ -27,9 +27,9 @@ SYSTEM = {
     "statx": "i32 (i32, ptr, i32, i32, ptr)",
     "isatty": "i32 (i32)",
     "rattle_arg": "i64 (i64, ptr, i64)",
-    # No program needs these, which start threads or read the environment: what clang makes of a module doesn't call them. If
-    # it did, they would be missing at the end.
     "rattle_env": "i64 (ptr, ptr, i64)",
+    # No program needs these, which start threads or list the environment: what clang makes of a module doesn't call them. If
+    # it did, they would be missing at the end.
     "rattle_env_at": "i64 (i64, ptr, i64)",
     "malloc": "ptr (i64)",
     "free": "void (ptr)",

@@ -119,6 +119,23 @@ int64_t linux_arg(uint64_t number, uint8_t *bytes, uint64_t capacity) {
     return size > capacity ? -2 : (int64_t)size;
 }
 
+/* Writes what fits of a variable of the environment. Returns its size, -1 where there is no such variable, or -2 where it
+ * doesn't fit. */
+int64_t linux_env(const char *name, uint8_t *bytes, uint64_t capacity) {
+    enum { LONGEST_NAME = 256 };
+    wchar_t wide[LONGEST_NAME];
+    if (!MultiByteToWideChar(CP_UTF8, MB_ERR_INVALID_CHARS, name, -1, wide, LONGEST_NAME)) return -1;
+    DWORD most = GetEnvironmentVariableW(wide, NULL, 0);
+    wchar_t *value = most ? calloc(most, sizeof *value) : NULL;
+    char *text = value && GetEnvironmentVariableW(wide, value, most) < most ? in_utf8(value) : NULL;
+    free(value);
+    if (!text) return -1;
+    size_t size = strlen(text);
+    memcpy(bytes, text, size < capacity ? size : capacity);
+    free(text);
+    return size > capacity ? -2 : (int64_t)size;
+}
+
 /* ---- Files. */
 
 /* The name of a file for Windows; null after an error. A long one is made whole, with the prefix that long names need. */
@@ -247,14 +264,10 @@ struct statx_record {
 _Static_assert(sizeof(struct statx_record) == 256, "the size of struct statx");
 _Static_assert(offsetof(struct statx_record, mode) == 28 && offsetof(struct statx_record, size) == 40, "the fields of struct statx");
 
-/* The kind and the size of an open file; no file is looked up by its name. */
-int32_t linux_statx(int32_t number, const char *name, int32_t flags, uint32_t mask, struct statx_record *record) {
+/* The kind and the size of a file. */
+static int32_t describe(struct file *file, struct statx_record *record) {
     enum { DIRECTORY = 0040555, REGULAR = 0100444, PIPE = 0010644, DEVICE = 0020644, BASIC = 0x7ff };
-    struct file *file = file_of(number);
     LARGE_INTEGER size = {0};
-    (void)mask;
-    if (*name || !(flags & EMPTY_PATH)) return (int32_t)fails(NOT_IMPLEMENTED);
-    if (!file) return (int32_t)fails(BAD_FILE);
     if (file->is_disk && !file->is_directory && !GetFileSizeEx(file->handle, &size)) return (int32_t)fails_as_windows();
     *record = (struct statx_record){.mask = BASIC, .block_size = 4096, .links = 1, .size = (uint64_t)size.QuadPart};
     record->blocks = (record->size + 511) / 512;
@@ -262,6 +275,33 @@ int32_t linux_statx(int32_t number, const char *name, int32_t flags, uint32_t ma
     else if (file->is_disk) record->mode = REGULAR;
     else record->mode = GetFileType(file->handle) == FILE_TYPE_PIPE ? PIPE : DEVICE;
     return 0;
+}
+
+/* The same of a file that isn't open, by its name. */
+static int32_t describe_named(const char *name, struct statx_record *record) {
+    struct file file = {0};
+    wchar_t *wide = wide_name(name);
+    if (!wide) return -1;
+    HANDLE handle = CreateFileW(wide, FILE_READ_ATTRIBUTES, FILE_SHARE_READ | FILE_SHARE_WRITE | FILE_SHARE_DELETE, NULL,
+                                OPEN_EXISTING, FILE_FLAG_BACKUP_SEMANTICS, NULL);
+    DWORD why = GetLastError();
+    free(wide);
+    SetLastError(why);
+    if (handle == INVALID_HANDLE_VALUE) return (int32_t)fails_as_windows();
+    keep(&file, handle);
+    int32_t done = describe(&file, record);
+    CloseHandle(handle);
+    return done;
+}
+
+/* The kind and the size of an open file, or of the file of a name. */
+int32_t linux_statx(int32_t number, const char *name, int32_t flags, uint32_t mask, struct statx_record *record) {
+    enum { CURRENT_DIRECTORY = -100 };
+    struct file *file = file_of(number);
+    (void)mask;
+    if (number == CURRENT_DIRECTORY && *name && flags == 0) return describe_named(name, record);
+    if (*name || !(flags & EMPTY_PATH)) return (int32_t)fails(NOT_IMPLEMENTED);
+    return file ? describe(file, record) : (int32_t)fails(BAD_FILE);
 }
 
 /* ---- The processor. */

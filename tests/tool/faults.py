@@ -2,8 +2,10 @@
 import os
 import re
 import resource
+import shutil
 import subprocess
 
+from folders import image_of
 from program import TOOL, TOP, compare, ran, tell
 
 
@@ -13,7 +15,13 @@ def refused_memory(sample, room):
     refuse = f"{room}/refuse.so"
     build = [f"{clang}/toolchain/bin/clang", "-O1", "-shared", "-fPIC", "-nostdlib", "-fuse-ld=lld"]
     subprocess.run([*build, "-o", refuse, f"{TOP}/tests/memory/refuse.c"], check=True)
+    folder = f"{room}/memory"
+    os.mkdir(folder)
+    shutil.copyfile(sample, f"{folder}/a.pdb")
+    with open(f"{room}/memory.exe", "wb") as it:
+        it.write(image_of(b"a.pdb"))
     for words, given in ((["resolve", sample, "1:108", "1:100", "2:0", "1100"], b""), (["resolve", sample], b"1:108\n1100\nno\n1:100\n"),
+                         (["resolve", f"--symbols={folder}", f"{room}/memory.exe", "1:108"], b""), (["key", "--path", f"{room}/memory.exe"], b""),
                          (["resolve", "--addresses", sample, "1:108", "--base", "0", "1100"], b""),
                          (["variables", sample, "1:108", "1100"], b""), (["variables", sample], b"1:108\nno\n"),
                          (["key", sample, sample], b""), (["lines", sample, "0", "1", "0"], b""), (["scopes", sample], b""),

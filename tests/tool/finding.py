@@ -29,12 +29,12 @@ public 0002:000000f0 0x20f0 - tour::square::`vftable' (??_7square@tour@@6Bshape@
 procedure 0001:000005c0 0x15c0 36 operator new
 """
 USAGES = {
-    "find": b"usage: pdb_tool find [--json] FILE NAME..\n",
-    "where": b"usage: pdb_tool where [--json] FILE SOURCE[:LINE[-LINE]]..\n",
-    "sources": b"usage: pdb_tool sources [--json] FILE [K..]\n",
-    "modules": b"usage: pdb_tool modules [--json] FILE\n",
-    "sections": b"usage: pdb_tool sections [--json] FILE\n",
-    "streams": b"usage: pdb_tool streams [--json] FILE\n",
+    "find": b"usage: pdb_tool find [--symbols=DIR].. [--json] FILE NAME..\n",
+    "where": b"usage: pdb_tool where [--symbols=DIR].. [--json] FILE SOURCE[:LINE[-LINE]]..\n",
+    "sources": b"usage: pdb_tool sources [--symbols=DIR].. [--json] FILE [K..]\n",
+    "modules": b"usage: pdb_tool modules [--symbols=DIR].. [--json] FILE\n",
+    "sections": b"usage: pdb_tool sections [--symbols=DIR].. [--json] FILE\n",
+    "streams": b"usage: pdb_tool streams [--symbols=DIR].. [--json] FILE\n",
 }
 EVERYTHING = {"find": ["*"], "where": ["a.c", "tour.c", "tour.h"], "sources": [], "modules": [], "sections": [], "streams": []}
 DAMAGED = 2000
@@ -93,7 +93,7 @@ def arguments(sample):
             tell(said[0] == 0 and not said[2] and usage[7:].strip() in said[1], f"{words}", said)
         compare(f"{topic} without a file", wrong(b"FILE is missing", usage), topic)
         compare(f"{topic} of no file", (3, b"", b"pdb_tool: /nowhere: cannot read file: no such file\n"), topic, "/nowhere", *EVERYTHING[topic])
-        compare(f"an option of {topic}", wrong(b"unknown option --all: " + topic.encode() + b" has --json", usage), topic, "--all", sample, *EVERYTHING[topic])
+        compare(f"an option of {topic}", wrong(b"unknown option --all: " + topic.encode() + b" has --symbols --json", usage), topic, "--all", sample, *EVERYTHING[topic])
     why = {"find": b"NAME is empty", "where": NO_SOURCE, "sources": NO_MODULE}
     for topic, bad in [("find", ""), ("where", ""), ("where", ":1"), ("where", ":1-2"), ("sources", "x"), ("sources", "4294967296"), ("modules", "0"), ("sections", "1")]:
         words = [sample, *EVERYTHING[topic], bad]

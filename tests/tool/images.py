@@ -63,8 +63,10 @@ def images(sample, room):
     named = put("named.exe", named)
     for words in ["140001100"], ["--base=1000", "2100"], ["1:100"], ["--base", "0", "1100"]:
         compare(f"the sample by its image at {words}", (0, text, b""), "resolve", f"--image={named}", sample, *words)
-    is_refused = (4, b"", f"pdb_tool: {file}: this is no PDB file of the format MSF 7.00: it is an image (EXE or DLL), which key and resolve --image=IMAGE read\n".encode())
-    compare("a wanted key of no PDB", is_refused, "resolve", b"--key=" + key, file, "1:100")
+    is_refused = (1, b"", f"pdb_tool: {file}: this is no PDB file of the format MSF 7.00: it is an image (EXE or DLL)\n".encode())
+    compare("damage of no PDB", is_refused, "check", file)
+    not_found = (3, b"", f"pdb_tool: {file}: its PDB a.pdb 030201000504070608090A0B0C0D0E0F1 is not found\n".encode())
+    compare("a wanted key of an image without its PDB", not_found, "resolve", b"--key=" + key, file, "1:100")
 
 
 class Refused(Exception):

@@ -28,13 +28,13 @@ LINES = b"""{"kind":"line","at":"0001:00000100","rva":"0x1100","length":8,"file"
 {"kind":"inlined","at":"0001:0000010e","rva":"0x110e","length":5,"file":"a.c","line":12,"column":0,"name":null}
 """
 USAGES = {
-    "resolve": b"usage: pdb_tool resolve [--base=HEX] [--key=KEY | --image=IMAGE] [--addresses] [--offsets] [--json] FILE [ADDRESS..]\n",
-    "key": b"usage: pdb_tool key [--json] FILE..\n",
-    "find": b"usage: pdb_tool find [--json] FILE NAME..\n",
+    "resolve": b"usage: pdb_tool resolve [--base=HEX] [--key=KEY | --image=IMAGE] [--symbols=DIR].. [--addresses] [--offsets] [--json] FILE [ADDRESS..]\n",
+    "key": b"usage: pdb_tool key [--path] [--json] FILE..\n",
+    "find": b"usage: pdb_tool find [--symbols=DIR].. [--json] FILE NAME..\n",
     "check": b"usage: pdb_tool check [--json] FILE..\n",
-    "modules": b"usage: pdb_tool modules [--json] FILE\n",
-    "lines": b"usage: pdb_tool lines FILE [K..]\n",
-    "symbols": b"usage: pdb_tool symbols [--all] FILE [K..]\n",
+    "modules": b"usage: pdb_tool modules [--symbols=DIR].. [--json] FILE\n",
+    "lines": b"usage: pdb_tool lines [--symbols=DIR].. FILE [K..]\n",
+    "symbols": b"usage: pdb_tool symbols [--symbols=DIR].. [--all] FILE [K..]\n",
 }
 DAMAGED = 600
 
@@ -186,7 +186,7 @@ def options(sample):
     compare("a value of --json", wrong(b"--json takes no value", USAGES["modules"]), "modules", "--json=1", sample)
     compare("--json of find twice", wrong(once, USAGES["find"]), "find", "--json", sample, "--json", "g")
     compare("--json of check twice", wrong(once, USAGES["check"]), "check", "--json", "--json", sample)
-    for command, has in ("lines", b"no options"), ("symbols", b"--all"):
+    for command, has in ("lines", b"--symbols"), ("symbols", b"--symbols --all"):
         why = b"unknown option --json: " + command.encode() + b" has " + has
         compare(f"--json of {command}", wrong(why, USAGES[command]), command, "--json", sample)
     compare("--json without a file", wrong(b"FILE is missing", USAGES["modules"]), "modules", "--json")

@@ -11,25 +11,25 @@ KEY = "00112233445566778899AABBCCDDEEFF2"
 MAIN = b"main\na.c:1:0\n\n"
 NO_PDB = b"this is no PDB file of the format MSF 7.00"
 SECONDS = 20
-CODE = ["--base", "--key", "--image", "--addresses"]
+CODE = ["--base", "--key", "--image", "--symbols", "--addresses"]
 # The options of each command, in the order of its usage, and its operands behind FILE.
 COMMANDS = {
     "resolve": ([*CODE, "--offsets", "--json"], ["1:100"]),
     "variables": (CODE, ["1:100"]),
-    "find": (["--json"], ["main"]),
-    "where": (["--json"], ["a.c"]),
-    "lines": ([], ["0"]),
-    "scopes": ([], ["0"]),
-    "symbols": (["--all"], []),
-    "types": ([], ["74"]),
-    "sources": (["--json"], ["0"]),
-    "modules": (["--json"], []),
-    "sections": (["--json"], []),
-    "streams": (["--json"], []),
-    "key": (["--json"], []),
+    "find": (["--symbols", "--json"], ["main"]),
+    "where": (["--symbols", "--json"], ["a.c"]),
+    "lines": (["--symbols"], ["0"]),
+    "scopes": (["--symbols"], ["0"]),
+    "symbols": (["--symbols", "--all"], []),
+    "types": (["--symbols"], ["74"]),
+    "sources": (["--symbols", "--json"], ["0"]),
+    "modules": (["--symbols", "--json"], []),
+    "sections": (["--symbols", "--json"], []),
+    "streams": (["--symbols", "--json"], []),
+    "key": (["--path", "--json"], []),
     "check": (["--json"], []),
 }
-VALUES = {"--base": "0", "--key": KEY, "--image": "/nowhere"}
+VALUES = {"--base": "0", "--key": KEY, "--image": "/nowhere", "--symbols": "/nowhere"}
 LACKS = {"find": b"NAME is missing", "where": b"SOURCE is missing"}
 
 
@@ -54,11 +54,11 @@ def options_of_a_command(sample, command):
             texts += [ran(command, *given[:at], *way, *given[at:]) for at in range(len(given) + 1)]
             texts.append(ran(command, *way, "--", *given))
         tell(all(it == texts[0] for it in texts) and (texts[0][0] == int(command == "check") or option == "--image"), f"{option} of {command} stands anywhere", texts)
-        twice = wrong(option.encode() + b" is given twice", usage)
+        twice = texts[0] if option == "--symbols" else wrong(option.encode() + b" is given twice", usage)
         for way in ways:
             compare(f"{way} of {command} twice", twice, command, *ways[0], sample, *operands, *way)
         if option in VALUES:
-            name = {"--base": b"HEX", "--key": b"KEY", "--image": b"IMAGE"}[option]
+            name = {"--base": b"HEX", "--key": b"KEY", "--image": b"IMAGE", "--symbols": b"DIR"}[option]
             compare(f"{option} of {command} without a value", wrong(option.encode() + b" needs a value: " + option.encode() + b"=" + name, usage), command, sample, *operands, option)
         else:
             compare(f"{option} of {command} with a value", wrong(option.encode() + b" takes no value", usage), command, sample, *operands, f"{option}=")
@@ -83,7 +83,7 @@ def options_anywhere(sample, room):
         compare(f"the key {key}", (0, MAIN, b""), "resolve", "--key", key, sample, "1:100")
     for word, shown in ("x\ny", b"x y"), ("\x7f", b" "), (5000 * "x", 4096 * b"x" + b"..."):
         compare(f"the address {word[:4]!r} on one line", wrong(NO_ADDRESS % shown, usage), "resolve", sample, word)
-    no_option = wrong(b"unknown option -a b: modules has --json", usage_of("modules"))
+    no_option = wrong(b"unknown option -a b: modules has --symbols --json", usage_of("modules"))
     compare("an option on one line", no_option, "modules", sample, "-a\nb")
     files_like_options(sample, room)
 
@@ -107,7 +107,7 @@ def files_like_options(sample, room):
     said = within("key", "-", "--", "-x", "--")
     tell(said == (0, keys, b""), "keys of files like options", said)
     said = within("modules", "-x")
-    tell(said == wrong(b"unknown option -x: modules has --json", usage_of("modules")), "a file like an option", said)
+    tell(said == wrong(b"unknown option -x: modules has --symbols --json", usage_of("modules")), "a file like an option", said)
     said = within("resolve", "--", "-x", "1:100")
     tell(said == (0, MAIN, b""), "an address behind a file like an option", said)
     compare("no file of the name -", (3, b"", b"pdb_tool: -: cannot read file: no such file\n"), "modules", "-")

@@ -14,7 +14,7 @@ SAMPLE = b"""0 0 old directory
 7 17 name /names
 8 40 section headers
 """
-USAGE = b"usage: pdb_tool streams [--json] FILE\n"
+USAGE = b"usage: pdb_tool streams [--symbols=DIR].. [--json] FILE\n"
 ABSENT = 0xFFFFFFFF
 HEADER = ((12, "index of global symbols"), (16, "index of publics"), (20, "global symbols"))
 EXTRA = "fpo,exception,fixup,omap to src,omap from src,section headers,token rid map,xdata,pdata,framedata,original section headers".split(",")

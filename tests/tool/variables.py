@@ -8,7 +8,7 @@ from scopes import named
 from streams import File
 from variables_read import module_list, module_of, pieces_of_code
 
-USAGE = b"usage: pdb_tool variables [--base=HEX] [--key=KEY | --image=IMAGE] [--addresses] FILE [ADDRESS..]\n"
+USAGE = b"usage: pdb_tool variables [--base=HEX] [--key=KEY | --image=IMAGE] [--symbols=DIR].. [--addresses] FILE [ADDRESS..]\n"
 # What is expected of `many`, which has a variable in parts: at 0x15 `m` is in two registers, at 5 nowhere.
 PARAMETERS = b"".join(b"  param " + it + b"\n" for it in (b"ecx a", b"edx b", b"r8d c", b"r9d d", b"[rsp+40] e", b"[rsp+48] f", b"[rsp+56] g", b"[rsp+64] h"))
 MANY = {
@@ -83,5 +83,5 @@ def variables(sample):
     compare("a base that is none", wrong(NO_BASE % b"x", USAGE), "variables", "--base", "x", sample)
     compare("no address", wrong(NO_ADDRESS % b"x", USAGE), "variables", sample, "x")
     for option in b"--json", b"--offsets", b"--all":
-        compare(f"variables with {option}", wrong(b"unknown option " + option + b": variables has --base --key --image --addresses", USAGE), "variables", sample, option)
+        compare(f"variables with {option}", wrong(b"unknown option " + option + b": variables has --base --key --image --symbols --addresses", USAGE), "variables", sample, option)
     tell(stored("help-variables.stdout").startswith(USAGE[7:]), "the usage of variables is its help's")

@@ -1,11 +1,12 @@
 //! The files of the machine that the program runs on, and its standard input.
 
 use pdb_file::{FileBytes, ReadAt, bytes_of, size_of};
-use std::alloc::Global;
+use std::alloc::{AllocError, Global};
 use std::fs::{self, File};
 use std::io::{self, ErrorKind};
 use std::os::fd::AsRawFd;
-use std::rt::Files;
+use std::rt::{Env, Files};
+use tool_arguments::arguments::variable_of;
 use tool_arguments::operands::Operand;
 use tool_output::stop::{Stop, Unopened};
 use tool_program::file_kind::FRONT_SIZE;
@@ -29,6 +30,15 @@ fn unopened_by(e: &io::Error) -> Unopened {
     }
 }
 
+/// Why there is no file at a path that was made: no folder is in a file, and no file has a name that is too long.
+fn untried_by(e: &io::Error) -> Unopened {
+    match e.kind() {
+        ErrorKind::NotADirectory | ErrorKind::InvalidFilename => Unopened::Missing,
+        ErrorKind::InvalidInput => Unopened::Missing,
+        _ => unopened_by(e),
+    }
+}
+
 /// Whether a file is a directory.
 fn is_directory(file: &File) -> bool {
     match file.metadata() {
@@ -46,7 +56,7 @@ fn open_named(rt: &impl Files<File = File>, name: &str) -> Result<File, Stop> {
     }
 }
 
-impl<'a, R: Files<File = File> + AllocGlobal> Machine<'a, R> {
+impl<'a, R: Files<File = File> + Env + AllocGlobal> Machine<'a, R> {
     /// The machine, where the arguments of these indices aren't UTF-8; and whether standard input is a terminal.
     pub fn new(rt: &'a R, not_text: &'a [usize], is_asked_by_hand: bool) -> Self {
         Machine {
@@ -57,7 +67,7 @@ impl<'a, R: Files<File = File> + AllocGlobal> Machine<'a, R> {
     }
 }
 
-impl<'a, R: Files<File = File> + AllocGlobal> Host for Machine<'a, R> {
+impl<'a, R: Files<File = File> + Env + AllocGlobal> Host for Machine<'a, R> {
     ghost use Rattle.std.specs.Prelude.{false, Err};
     ghost use Rattle.tool_output.specs.declared.stop.Stop.TheVariants.{Read};
 
@@ -77,6 +87,27 @@ impl<'a, R: Files<File = File> + AllocGlobal> Host for Machine<'a, R> {
         }
         let file = open_named(self.rt, name.word)?;
         Ok(bytes_of(self.rt.alloc(), file)?)
+    }
+
+    fn open_path(&self, path: &str) -> Result<FileBytes<File>, Stop> {
+        match fs::metadata(self.rt, path) {
+            Ok(metadata) if metadata.is_file() => {}
+            Ok(_) => return Err(Stop::Unopened(Unopened::Missing)),
+            Err(e) => return Err(Stop::Unopened(untried_by(&e))),
+        }
+        let file = open_named(self.rt, path)?;
+        Ok(bytes_of(self.rt.alloc(), file)?)
+    }
+
+    fn is_file(&self, path: &str) -> bool {
+        match fs::metadata(self.rt, path) {
+            Ok(metadata) => metadata.is_file(),
+            Err(_) => false,
+        }
+    }
+
+    fn symbol_path(&self) -> Result<Option<Vec<u8>>, AllocError> {
+        variable_of(self.rt, "_NT_SYMBOL_PATH")
     }
 
     fn front(&self, name: &str) -> Option<(Vec<u8>, u64)> {

@@ -3,5 +3,7 @@ pub mod AllWords
 pub mod OptionWords
 pub mod OperandWords
 pub mod Patterns
+pub mod Pieces
 pub mod SomeWord
+pub mod SymbolWords
 pub mod Colons

@@ -67,21 +67,21 @@ spelled_in word = spelled_by word (position is_colon word)
 
 -- ---- relative to the load address of the image
 
--- below the base, or 2^32 or more above it, an address is nowhere; without a base it is below 2^32
-abbrev pub relative : Option ℕ → ℕ → Option CodeAddress
-relative None n = if nat_lt n 4294967296 then Some (Rva n) else None
-relative (Some base) n =
-    if nat_lt n base then Some Nowhere
+-- below the base an address is relative where it is below the size of the image, which is 0 where the base isn't its own
+abbrev pub below_base : ℕ → ℕ → CodeAddress
+below_base size n = if nat_lt n size then Rva n else Nowhere
+
+-- 2^32 or more above the base an address is nowhere; without a base it is below 2^32
+abbrev pub relative : Option ℕ → ℕ → ℕ → Option CodeAddress
+relative None size n = if nat_lt n 4294967296 then Some (Rva n) else None
+relative (Some base) size n =
+    if nat_lt n base then Some (below_base size n)
     else if nat_lt (n - base) 4294967296 then Some (Rva (n - base))
     else Some Nowhere
 
-abbrev pub code_address : Option ℕ → SpelledAddress → Option CodeAddress
-code_address base (Number n) = relative base n
-code_address base (spelled_place p) = Some (Place p)
-
--- the address that a word is, by the load address; none where it is none, or needs one
-abbrev pub code_address_in : Option ℕ → List ℕ → Option CodeAddress
-code_address_in base word = option_and_then (code_address base) (spelled_in word)
+abbrev pub code_address : Option ℕ → ℕ → SpelledAddress → Option CodeAddress
+code_address base size (Number n) = relative base size n
+code_address base size (spelled_place p) = Some (Place p)
 
 -- ---- lines
 

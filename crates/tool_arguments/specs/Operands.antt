@@ -2,20 +2,16 @@
 use Rattle.std.specs.Prelude.{ℕ, ◌+◌, List, [], ◌∷◌, Bool, true, false, not, Option, Some, None, Result, Ok, Err, if◌then◌else◌, nat_lt}
 use Rattle.std.specs.Str.{bytes_eq}
 use Rattle.pdb_text.specs.Numbers.{number_in}
-use Rattle.tool_arguments.specs.CodeAddresses.{address_number, code_address, spelled_in}
+use Rattle.tool_arguments.specs.CodeAddresses.{address_number, spelled_in}
 use Rattle.tool_arguments.specs.Options.{behind_word, is_option_word}
 use Rattle.tool_arguments.specs.Requests.{AddressOf}
 use Rattle.tool_arguments.specs.SourcesAsked.{SourceOf, source_of}
-use Rattle.tool_arguments.specs.declared.code_address.CodeAddress.{CodeAddress}
 use Rattle.tool_arguments.specs.declared.code_address.SpelledAddress.{SpelledAddress}
 use Rattle.tool_arguments.specs.declared.mistakes.Mistake.{Mistake}
 use Rattle.tool_arguments.specs.declared.mistakes.Wrong.{Wrong}
-use Rattle.tool_arguments.specs.declared.mistakes.Wrong.TheVariants.{BadAddress, BadModule, BadSource, BadType, NeedsBase}
+use Rattle.tool_arguments.specs.declared.mistakes.Wrong.TheVariants.{BadAddress, BadModule, BadSource, BadType}
 use Rattle.tool_arguments.specs.declared.options.Next.{Next}
 use Rattle.tool_arguments.specs.declared.options.Next.TheVariants.{Word, Value, Operand}
-use Rattle.tool_arguments.specs.declared.options.Options.{Options}
-use Rattle.tool_arguments.specs.declared.options.Wanted.{Wanted}
-use Rattle.tool_arguments.specs.declared.options.Wanted.TheVariants.{Image}
 use Rattle.tool_arguments.specs.declared.operands.Operand.{Operand as Named}
 
 -- an argument, and its index among all
@@ -50,9 +46,9 @@ with_first (Err wrong) rest p = Err (record { argument = p; wrong = wrong })
 with_first (Ok x) (Ok xs) p = Ok (x ∷ xs)
 with_first (Ok x) (Err mistake) p = Err mistake
 
-abbrev pub all_in : {A : Type 0} → (List ℕ → Result A Wrong) → List WordAt → Result (List A) Mistake
+abbrev pub all_in : {A : Type 0} → (WordAt → Result A Wrong) → List WordAt → Result (List A) Mistake
 all_in of [] = Ok []
-all_in of (w ∷ ws) = with_first (of w.word) (all_in of ws) w.argument
+all_in of (w ∷ ws) = with_first (of w) (all_in of ws) w.argument
 
 -- the index of the first operand that is empty
 abbrev pub first_empty : List WordAt → Option ℕ
@@ -61,24 +57,12 @@ first_empty (w ∷ ws) = if bytes_eq w.word [] then Some w.argument else first_e
 
 -- ---- addresses
 
--- the load address by which addresses are judged: an image that is still to be read has one
-abbrev pub base_beside : Option Wanted → Option ℕ → Option ℕ
-base_beside (Some (Image at)) None = Some 0
-base_beside wanted base = base
+abbrev pub address_by : WordAt → Option SpelledAddress → Result AddressOf Wrong
+address_by w None = Err BadAddress
+address_by w (Some spelled) = Ok (record { argument = w.argument; word = w.word; address = spelled })
 
-abbrev pub judging_base : Options → Option ℕ
-judging_base o = base_beside o.wanted o.base
-
-abbrev pub address_judged : List ℕ → SpelledAddress → Option CodeAddress → Result AddressOf Wrong
-address_judged word spelled None = Err NeedsBase
-address_judged word spelled (Some at) = Ok (record { word = word; address = spelled })
-
-abbrev pub address_by : Options → List ℕ → Option SpelledAddress → Result AddressOf Wrong
-address_by o word None = Err BadAddress
-address_by o word (Some spelled) = address_judged word spelled (code_address (judging_base o) spelled)
-
-abbrev pub address_in : Options → List ℕ → Result AddressOf Wrong
-address_in o word = address_by o word (spelled_in word)
+abbrev pub address_in : WordAt → Result AddressOf Wrong
+address_in w = address_by w (spelled_in w.word)
 
 -- ---- modules, types and sources
 
@@ -86,16 +70,16 @@ abbrev pub or_wrong : {A : Type 0} → Option A → Wrong → Result A Wrong
 or_wrong None wrong = Err wrong
 or_wrong (Some x) wrong = Ok x
 
-abbrev pub module_in : List ℕ → Result ℕ Wrong
-module_in word = or_wrong (number_in word) BadModule
+abbrev pub module_in : WordAt → Result ℕ Wrong
+module_in w = or_wrong (number_in w.word) BadModule
 
 -- the index of a type: a number below 2^32, spelled as an address is
 abbrev pub small_index : Option ℕ → Result ℕ Wrong
 small_index None = Err BadType
 small_index (Some n) = if nat_lt n 4294967296 then Ok n else Err BadType
 
-abbrev pub type_in : List ℕ → Result ℕ Wrong
-type_in word = small_index (address_number word)
+abbrev pub type_in : WordAt → Result ℕ Wrong
+type_in w = small_index (address_number w.word)
 
-abbrev pub source_in : List ℕ → Result SourceOf Wrong
-source_in word = or_wrong (source_of word) BadSource
+abbrev pub source_in : WordAt → Result SourceOf Wrong
+source_in w = or_wrong (source_of w.word) BadSource

@@ -2,21 +2,23 @@
 use Rattle.std.specs.Prelude.{ℕ, ◌+◌, List, [], ◌∷◌, codes, drop, position, take, Bool, true, false, ◌==◌, Option, Some, None, option_map, if◌then◌else◌}
 use Rattle.std.specs.Str.{bytes_eq}
 use Rattle.tool_arguments.specs.declared.commands.Command.{Command}
-use Rattle.tool_arguments.specs.declared.commands.Command.TheVariants.{Resolve, Variables, Find, Where, Symbols, Sources, Modules, Sections, Streams, Key as KeyOf, Check}
+use Rattle.tool_arguments.specs.declared.commands.Command.TheVariants.{Resolve, Variables, Find, Where, Symbols, Sources, Modules, Sections, Streams, Key as KeyOf, Check, Help, Version}
 use Rattle.tool_arguments.specs.declared.option_names.OptionName.{OptionName}
-use Rattle.tool_arguments.specs.declared.option_names.OptionName.TheVariants.{Base, Key, Image, Addresses, Offsets, All, Json}
+use Rattle.tool_arguments.specs.declared.option_names.OptionName.TheVariants.{Base, Key, Image, Symbols as Folders, Addresses, Offsets, All, Path, Json}
 
 -- all options, in the order of usage
 abbrev pub options : List OptionName
-options = Base ∷ Key ∷ Image ∷ Addresses ∷ Offsets ∷ All ∷ Json ∷ []
+options = Base ∷ Key ∷ Image ∷ Folders ∷ Addresses ∷ Offsets ∷ All ∷ Path ∷ Json ∷ []
 
 abbrev pub spelled_option : OptionName → List ℕ
 spelled_option Base = codes "--base"
 spelled_option Key = codes "--key"
 spelled_option Image = codes "--image"
+spelled_option Folders = codes "--symbols"
 spelled_option Addresses = codes "--addresses"
 spelled_option Offsets = codes "--offsets"
 spelled_option All = codes "--all"
+spelled_option Path = codes "--path"
 spelled_option Json = codes "--json"
 
 -- what stands for its value in usage; nothing where it takes none
@@ -24,12 +26,14 @@ abbrev pub placeholder_of : OptionName → List ℕ
 placeholder_of Base = codes "HEX"
 placeholder_of Key = codes "KEY"
 placeholder_of Image = codes "IMAGE"
+placeholder_of Folders = codes "DIR"
 placeholder_of option = codes ""
 
 abbrev pub takes_value : OptionName → Bool
 takes_value Base = true
 takes_value Key = true
 takes_value Image = true
+takes_value Folders = true
 takes_value option = false
 
 -- the option of a name
@@ -38,9 +42,11 @@ option_in name =
     if bytes_eq name (codes "--base") then Some Base
     else if bytes_eq name (codes "--key") then Some Key
     else if bytes_eq name (codes "--image") then Some Image
+    else if bytes_eq name (codes "--symbols") then Some Folders
     else if bytes_eq name (codes "--addresses") then Some Addresses
     else if bytes_eq name (codes "--offsets") then Some Offsets
     else if bytes_eq name (codes "--all") then Some All
+    else if bytes_eq name (codes "--path") then Some Path
     else if bytes_eq name (codes "--json") then Some Json
     else None
 
@@ -70,13 +76,27 @@ abbrev pub takes_all : Command → Bool
 takes_all Symbols = true
 takes_all command = false
 
+abbrev pub takes_path : Command → Bool
+takes_path KeyOf = true
+takes_path command = false
+
+-- a command that reads one PDB, which it may find in folders of symbols
+abbrev pub reads_one_file : Command → Bool
+reads_one_file KeyOf = false
+reads_one_file Check = false
+reads_one_file Help = false
+reads_one_file Version = false
+reads_one_file command = true
+
 abbrev pub has_option : Command → OptionName → Bool
 has_option command Base = takes_addresses command
 has_option command Key = takes_addresses command
 has_option command Image = takes_addresses command
+has_option command Folders = reads_one_file command
 has_option command Addresses = takes_addresses command
 has_option command Offsets = takes_offsets command
 has_option command All = takes_all command
+has_option command Path = takes_path command
 has_option command Json = takes_json command
 
 -- ---- arguments like `--name=value`

@@ -2,7 +2,7 @@
 use Rattle.std.specs.Prelude.{ℕ, ◌+◌, List, [], ◌∷◌, length, codes, count_by, get_or, nat_lt, nat_le, Bool, true, false, ◌&&◌, ◌||◌, ◌==◌, Option, Some, None, Result, Ok, Err, if◌then◌else◌}
 use Rattle.std.specs.Char.{is_ascii_hexdigit}
 use Rattle.std.specs.List.{list_all}
-use Rattle.std.specs.Option.{is_some, unwrap_or}
+use Rattle.std.specs.Option.{is_some}
 use Rattle.std.specs.Str.{bytes_eq}
 use Rattle.tool_arguments.specs.CodeAddresses.{address_number}
 use Rattle.tool_arguments.specs.OptionNames.{has_option, name_part, option_in, takes_value, value_part}
@@ -17,6 +17,8 @@ use Rattle.tool_arguments.specs.declared.options.Detail.{Detail}
 use Rattle.tool_arguments.specs.declared.options.Detail.TheVariants as detail
 use Rattle.tool_arguments.specs.declared.options.OutputFormat.{OutputFormat}
 use Rattle.tool_arguments.specs.declared.options.OutputFormat.TheVariants.{Text, Json}
+use Rattle.tool_arguments.specs.declared.options.KeyFormat.{KeyFormat}
+use Rattle.tool_arguments.specs.declared.options.KeyFormat.TheVariants.{Names, Paths, Json as Objects}
 use Rattle.tool_arguments.specs.declared.options.Given.{Given}
 use Rattle.tool_arguments.specs.declared.options.Next.{Next}
 use Rattle.tool_arguments.specs.declared.options.Next.TheVariants.{Word, Value, Operand}
@@ -63,11 +65,12 @@ wanted_behind o name new (Some old) = Err KeyAndImage
 abbrev pub with_wanted : Options → OptionName → Wanted → Result Options Wrong
 with_wanted o name new = wanted_behind o name new o.wanted
 
--- with an option that has this value
+-- with an option that has this value; folders of symbols are kept apart, since there may be many
 abbrev pub with_value : Options → OptionName → ValueAt → List ℕ → Result Options Wrong
 with_value o option.Base at value = with_base o (address_number value)
 with_value o option.Key at value = if is_key value then with_wanted o option.Key (Key at) else Err BadKey
 with_value o option.Image at value = with_wanted o option.Image (Image at)
+with_value o option.Symbols at value = Ok o
 with_value o name at value = Err (TakesNoValue name)
 
 -- ---- options without a value, each given once
@@ -84,6 +87,7 @@ abbrev pub with_flag : Options → OptionName → Result Options Wrong
 with_flag o option.Addresses = if o.addresses then Err (GivenTwice option.Addresses) else Ok (record o { addresses = true })
 with_flag o option.Offsets = with_offsets o o.detail
 with_flag o option.All = if o.all then Err (GivenTwice option.All) else Ok (record o { all = true })
+with_flag o option.Path = if o.path then Err (GivenTwice option.Path) else Ok (record o { path = true })
 with_flag o option.Json = with_json o o.format
 with_flag o name = Err (GivenTwice name)
 
@@ -128,7 +132,7 @@ after_word command g p word = after_next command g p word g.next
 -- ---- all arguments
 
 abbrev pub no_options : Options
-no_options = record { base = None; wanted = None; addresses = false; detail = detail.Plain; all = false; format = Text }
+no_options = record { base = None; own_size = 0; wanted = None; addresses = false; detail = detail.Plain; all = false; path = false; format = Text }
 
 -- what is said before the first argument
 abbrev pub nothing_given : Given
@@ -154,9 +158,21 @@ options_by command g (word ∷ words) p = or_wrong (after_word command g p word)
 abbrev pub options_of : Command → List (List ℕ) → ℕ → Result Options Mistake
 options_of command words p = options_by command nothing_given words p
 
--- with the load address of an image as the base, where no other is given
-abbrev pub with_base_of : Options → ℕ → Options
-with_base_of o own = record o { base = Some (unwrap_or o.base own) }
+-- with the load address of an image of this size as the base, where no other is given
+abbrev pub based_on : Options → ℕ → ℕ → Option ℕ → Options
+based_on o own size None = record o { base = Some own; own_size = size }
+based_on o own size (Some base) = o
+
+abbrev pub with_base_of : Options → ℕ → ℕ → Options
+with_base_of o own size = based_on o own size o.base
+
+-- how the keys of files are written
+abbrev pub key_format_by : OutputFormat → Bool → KeyFormat
+key_format_by Json path = Objects
+key_format_by Text path = if path then Paths else Names
+
+abbrev pub key_format : Options → KeyFormat
+key_format o = key_format_by o.format o.path
 
 -- ---- what is expected behind an argument
 

@@ -3,7 +3,7 @@ use Rattle.std.specs.Prelude.{ℕ, ◌+◌, List, [], ◌∷◌, codes, length, 
 use Rattle.std.specs.Str.{bytes_eq}
 use Rattle.tool_arguments.specs.Commands.{command_in, named_in}
 use Rattle.tool_arguments.specs.Operands.{WordAt, address_in, all_in, first_empty, module_in, operand_view, operands_of, source_in, type_in}
-use Rattle.tool_arguments.specs.Options.{behind_word, options_of}
+use Rattle.tool_arguments.specs.Options.{behind_word, key_format, options_of}
 use Rattle.tool_arguments.specs.Requests.{AddressOf, address_view}
 use Rattle.tool_arguments.specs.SourcesAsked.{SourceOf}
 use Rattle.tool_arguments.specs.SourceViews.{source_view}
@@ -15,6 +15,7 @@ use Rattle.tool_arguments.specs.declared.mistakes.Wrong.TheVariants as wrong
 use Rattle.tool_arguments.specs.declared.options.Next.{Next}
 use Rattle.tool_arguments.specs.declared.options.Next.TheVariants.{Word}
 use Rattle.tool_arguments.specs.declared.options.Detail.TheVariants.{Variables}
+use Rattle.tool_arguments.specs.declared.options.KeyFormat.{KeyFormat}
 use Rattle.tool_arguments.specs.declared.options.Options.{Options}
 use Rattle.tool_arguments.specs.declared.options.OutputFormat.{OutputFormat}
 use Rattle.tool_arguments.specs.declared.tasks.FileTask.{FileTask}
@@ -56,7 +57,7 @@ pub data TaskOf : Type 0 where
   help : Option Command → TaskOf
   list_help : TaskOf
   version : TaskOf
-  keys : OutputFormat → List WordAt → TaskOf
+  keys : KeyFormat → List WordAt → TaskOf
   checks : OutputFormat → List WordAt → TaskOf
   resolve : Options → WordAt → List AddressOf → TaskOf
   resolve_lines : Options → WordAt → TaskOf
@@ -88,7 +89,7 @@ ending t (o ∷ os) w = missing o.argument w
 -- addresses; without one they are the lines of standard input
 abbrev pub addresses_task : Options → WordAt → List WordAt → Result TaskOf Mistake
 addresses_task o f [] = Ok (resolve_lines o f)
-addresses_task o f (w ∷ ws) = given (resolve o f) (all_in (address_in o) (w ∷ ws))
+addresses_task o f (w ∷ ws) = given (resolve o f) (all_in address_in (w ∷ ws))
 
 -- names, of which none may be empty; n is where one is missing
 abbrev pub unless_empty : TaskOf → Option ℕ → Result TaskOf Mistake
@@ -143,7 +144,7 @@ help_task [] = Ok (help None)
 help_task (w ∷ rest) = if bytes_eq w.word (codes "list") then ending list_help rest wrong.FurtherOperand else help_of (command_in w.word) w rest
 
 -- of files, of which there is one; n is the number of arguments
-abbrev pub keys_task : OutputFormat → List WordAt → ℕ → Result TaskOf Mistake
+abbrev pub keys_task : KeyFormat → List WordAt → ℕ → Result TaskOf Mistake
 keys_task format [] n = missing n wrong.MissingFile
 keys_task format (w ∷ ws) n = Ok (keys format (w ∷ ws))
 
@@ -158,7 +159,7 @@ over_split c o (Some x) n = over_file c o x.0 x.1 n
 abbrev pub over_operands : Command → Options → List WordAt → ℕ → Result TaskOf Mistake
 over_operands command.Help o operands n = help_task operands
 over_operands command.Version o operands n = ending version operands wrong.FurtherOperand
-over_operands command.Key o operands n = keys_task o.format operands n
+over_operands command.Key o operands n = keys_task (key_format o) operands n
 over_operands command.Check o operands n = checks_task o.format operands n
 over_operands c o operands n = over_split c o (split_first operands) n
 

@@ -4,19 +4,21 @@ use Rattle.tool_arguments.specs.Commands.{name_of, operands_of}
 use Rattle.tool_arguments.specs.OptionNames.{has_option, options, spelled_option}
 use Rattle.tool_arguments.specs.declared.commands.Command.{Command}
 use Rattle.tool_arguments.specs.declared.option_names.OptionName.{OptionName}
-use Rattle.tool_arguments.specs.declared.option_names.OptionName.TheVariants.{Base, Key, Image, Addresses, Offsets, All, Json}
+use Rattle.tool_arguments.specs.declared.option_names.OptionName.TheVariants.{Base, Key, Image, Symbols, Addresses, Offsets, All, Path, Json}
 
 -- how an option stands in usage: `--image` beside `--key`, which it excludes
 abbrev pub usage_of : OptionName → List ℕ
 usage_of Base = codes " [--base=HEX]"
 usage_of Key = codes " [--key=KEY | --image=IMAGE]"
 usage_of Image = codes ""
+usage_of Symbols = codes " [--symbols=DIR].."
 usage_of Addresses = codes " [--addresses]"
 usage_of Offsets = codes " [--offsets]"
 usage_of All = codes " [--all]"
+usage_of Path = codes " [--path]"
 usage_of Json = codes " [--json]"
 
-abbrev pub usage_part : Command → OptionName → List ℕ
+unfoldable pub usage_part : Command → OptionName → List ℕ
 usage_part command option = if has_option command option then usage_of option else []
 
 abbrev pub behind_blank : List ℕ → List ℕ

@@ -16,15 +16,35 @@ pub struct Arguments {
 /// The buffer's size at first, in bytes.
 const FIRST_SIZE: usize = 4096;
 
-/// How often the buffer is doubled at most: the system's longest argument has 128 KB.
+/// How often the buffer is doubled at most: the system's longest argument or variable has 128 KB.
 const MOST_TRIES: usize = 32;
 
-/// The bytes of an argument, `index` counted with the program's name; none behind the last one.
-fn bytes_of(rt: &(impl Env + AllocGlobal), index: usize) -> Result<Option<Vec<u8>>, AllocError> {
+/// What the system is asked for.
+#[derive(Clone, Copy)]
+enum Asked<'n> {
+    /// An argument, counted with the program's name.
+    Argument(usize),
+    /// A variable of the environment.
+    Variable(&'n str),
+}
+
+/// Fills a buffer with what is asked for.
+fn fill(rt: &impl Env, asked: Asked<'_>, buffer: &mut [u8]) -> Result<usize, FillError> {
+    match asked {
+        Asked::Argument(index) => rt.arg(index, buffer),
+        Asked::Variable(name) => rt.var(name, buffer),
+    }
+}
+
+/// The bytes of what is asked for; none where there is no such thing.
+fn bytes_of(
+    rt: &(impl Env + AllocGlobal),
+    asked: Asked<'_>,
+) -> Result<Option<Vec<u8>>, AllocError> {
     let mut buffer: Vec<u8> = Vec::new(rt.alloc());
     buffer.resize(FIRST_SIZE, 0)?;
     for _ in 0..MOST_TRIES {
-        match rt.arg(index, &mut buffer) {
+        match fill(rt, asked, &mut buffer) {
             Ok(count) => {
                 buffer.truncate(count);
                 return Ok(Some(buffer));
@@ -44,7 +64,7 @@ pub fn arguments_of(rt: &(impl Env + AllocGlobal)) -> Result<Arguments, AllocErr
     let mut words = Vec::new(rt.alloc());
     let mut not_text = Vec::new(rt.alloc());
     for index in 0..usize::MAX {
-        let Some(bytes) = bytes_of(rt, index.saturating_add(1))? else {
+        let Some(bytes) = bytes_of(rt, Asked::Argument(index.saturating_add(1)))? else {
             break;
         };
         if std::str::from_utf8(&bytes).is_err() {
@@ -53,4 +73,12 @@ pub fn arguments_of(rt: &(impl Env + AllocGlobal)) -> Result<Arguments, AllocErr
         words.push(String::from_utf8_lossy(rt.alloc(), &bytes)?)?;
     }
     Ok(Arguments { words, not_text })
+}
+
+/// The bytes of the environment's variable of a name; none where there is none.
+pub fn variable_of(
+    rt: &(impl Env + AllocGlobal),
+    name: &str,
+) -> Result<Option<Vec<u8>>, AllocError> {
+    bytes_of(rt, Asked::Variable(name))
 }

@@ -3,7 +3,7 @@
 ghost use Rattle.std.specs.Prelude.{◌≡◌, length};
 ghost use Rattle.std.specs.Char.{is_ascii_hexdigit};
 ghost use Rattle.std.specs.List.{list_all, position};
-ghost use Rattle.tool_arguments.specs.CodeAddresses.{address_number, code_address, code_address_in, has_backtick, has_prefix, has_suffix, hex_in, is_colon, is_hex, joined, place_in, place_of, relative, spelled_in};
+ghost use Rattle.tool_arguments.specs.CodeAddresses.{address_number, below_base, code_address, has_backtick, has_prefix, has_suffix, hex_in, is_colon, is_hex, joined, place_in, place_of, relative, spelled_in};
 
 use pdb_base::PdbInternalSectionOffset;
 
@@ -105,9 +105,19 @@ pub fn address_number(word: &[u8]) -> Option<u64>
     hex_in(word)
 }
 
+/// An address below the base: relative where it is in an image of this size, since no code is below its load address.
+fn below_base(size: u32, address: u64) -> CodeAddress
+    ensures { result ≡ below_base size address }
+{
+    match u32::try_from(address) {
+        Ok(relative) if relative < size => CodeAddress::Rva(relative),
+        _ => CodeAddress::Nowhere,
+    }
+}
+
 /// An address, relative to its base; none where it needs one.
-fn relative(base: Option<u64>, address: u64) -> Option<CodeAddress>
-    ensures { result ≡ relative base address }
+fn relative(base: Option<u64>, size: u32, address: u64) -> Option<CodeAddress>
+    ensures { result ≡ relative base size address }
 {
     match base {
         Some(base) => match address.checked_sub(base) {
@@ -115,7 +125,7 @@ fn relative(base: Option<u64>, address: u64) -> Option<CodeAddress>
                 Ok(relative) => Some(CodeAddress::Rva(relative)),
                 Err(_) => Some(CodeAddress::Nowhere),
             },
-            None => Some(CodeAddress::Nowhere),
+            None => Some(below_base(size, address)),
         },
         None => Some(CodeAddress::Rva(u32::try_from(address).ok()?)),
     }
@@ -158,12 +168,13 @@ pub fn spelled_in(word: &[u8]) -> Option<SpelledAddress>
     }
 }
 
-/// The address of code, by the load address of its image; none where it needs one.
-pub fn code_address(base: Option<u64>, spelled: SpelledAddress) -> Option<CodeAddress>
-    ensures { result ≡ code_address base spelled }
+/// The address of code, by the load address of its image; none where it needs one. `size` is the size of the image where
+/// the load address is its own, and else 0: an address below both is relative.
+pub fn code_address(base: Option<u64>, size: u32, spelled: SpelledAddress) -> Option<CodeAddress>
+    ensures { result ≡ code_address base size spelled }
 {
     match spelled {
-        SpelledAddress::Number(address) => relative(base, address),
+        SpelledAddress::Number(address) => relative(base, size, address),
         SpelledAddress::Place(place) => Some(CodeAddress::Place(place)),
     }
 }

@@ -1,6 +1,7 @@
 //! What the program says of itself.
 
 use crate::commands::Command;
+use crate::option_names::{OptionName, has_option};
 use crate::usage::put_usage;
 use std::alloc::{AllocError, Global};
 
@@ -32,14 +33,17 @@ pdb_tool prints what Microsoft symbol files (PDB) say about a program.
 
 K is the index of a module, counted from 0: modules lists them.
 
+FILE is a PDB or, in each command but key and check, an image (EXE or DLL), whose PDB is read.
+
 With --json each command but variables, lines, scopes, symbols and types prints a JSON object on
 each line.
 
 -- ends the options: what stands behind it is an operand, whatever it begins with.
 
 Exit status: 0, success; 1, a file of several could not be read, a file is damaged, or nothing
-was found; 2, a wrong argument; 3, a file can't be read; 4, it is no symbol file; 5, out of memory;
-6, standard output failed; 7, the file has another key than the wanted one.
+was found; 2, a wrong argument; 3, a file can't be read, or the PDB of an image isn't found; 4, it
+is no symbol file; 5, out of memory; 6, standard output failed; 7, the file has another key than the
+wanted one.
 ";
 
 const RESOLVE: &str = "\
@@ -66,9 +70,14 @@ linker made for incremental linking is ILT+N(NAME): it leads to NAME.
   --json      prints each ADDRESS and its frames as a JSON object on one line. An unknown name or
               file is null. A line of standard input that is no address has null for its frames
 
-Options stand before FILE or behind it, each at most once, and not both --key and --image. The value
-of an option may stand behind it: --base HEX is --base=HEX. Braces and dashes in KEY don't count. If
-FILE has another key than the wanted one, nothing is printed, and the status is 7.
+If FILE is an image, its load address is the base where neither --base nor --image is given. An
+ADDRESS below the load address of an image is relative where it is below the image's size, unless
+--base is given.
+
+Options stand before FILE or behind it, each but --symbols at most once, and not both --key and
+--image. The value of an option may stand behind it: --base HEX is --base=HEX. Braces and dashes in
+KEY don't count. If FILE has another key than the wanted one, nothing is printed, and the status
+is 7.
 
 Without an ADDRESS each line of standard input is one. Its text is written before the next line is
 read. A line that is no address is printed as it is.
@@ -79,6 +88,8 @@ read. A line that is no address is printed as it is.
   main
   a.c:2:0
 
+  $ pdb_tool resolve app.exe 0x140001108
+  $ pdb_tool resolve --symbols=/symbols app.exe 0x140001108
   $ pdb_tool resolve --image=app.exe app.pdb 0x140001108
   $ pdb_tool resolve --key=00112233445566778899AABBCCDDEEFF2 app.pdb 1108
   $ pdb_tool resolve --json app.pdb 1:10c
@@ -263,12 +274,15 @@ Prints the key under which a symbol server stores each FILE: of a PDB its GUID i
 its age in hex digits, a blank, and FILE. An image (EXE or DLL) has another key: its time stamp in
 eight hex digits and its size in hex digits. Behind FILE follow the key and the path of the PDB that
 it names, or - - if it names none. An error of a FILE is printed on standard error, and the status
-is then 1. With --json each line is a JSON object, of an image with the members pdb_key and pdb too,
-which are null if it names no PDB.
+is then 1. With --path each name is the path below a store of a symbol server, NAME/KEY/NAME; - is
+that of a name that no file can have. With --json each line is a JSON object, of an image with the
+members pdb_key and pdb too, which are null if it names no PDB; --path changes no JSON.
 
   $ pdb_tool key app.pdb app.exe
   00112233445566778899AABBCCDDEEFF2 app.pdb
   112233443000 app.exe 00112233445566778899AABBCCDDEEFF2 C:\\app\\app.pdb
+  $ pdb_tool key --path app.pdb
+  00112233445566778899AABBCCDDEEFF2 app.pdb/00112233445566778899AABBCCDDEEFF2/app.pdb
   $ pdb_tool key --json app.pdb
   {\"key\":\"00112233445566778899AABBCCDDEEFF2\",\"file\":\"app.pdb\"}
 ";
@@ -305,6 +319,15 @@ Prints the version of the program.
   pdb_tool 0.1.0
 ";
 
+/// Which PDB is read where FILE is an image.
+const IMAGE: &str = "\n\
+If FILE is an image (EXE or DLL), its PDB is read: the first with its key beside the image, in each
+DIR of --symbols=DIR, which may stand several times, or at the path that the image has. A DIR is a
+folder of PDBs, or a store of a symbol server. Without --symbols the folders are those of the
+variable _NT_SYMBOL_PATH. No server is asked. The status is 7 if only PDBs with other keys are
+there, and 3 if there is none.
+";
+
 /// What a command does, its arguments, its output and an example.
 fn body_of(command: Command) -> &'static str {
     match command {
@@ -333,6 +356,9 @@ fn command_help(alloc: Global, command: Command) -> Result<Vec<u8>, AllocError> 
     put_usage(&mut text, command)?;
     text.extend_from_slice(b"\n\n")?;
     text.extend_from_slice(body_of(command).as_bytes())?;
+    if has_option(command, OptionName::Symbols) {
+        text.extend_from_slice(IMAGE.as_bytes())?;
+    }
     Ok(text)
 }
 

@@ -3,14 +3,14 @@
 ghost use Rattle.std.specs.Prelude.{◌≡◌, ◌+◌, ◌<◌, ◌^◌, map, string_bytes, length, IfOk};
 ghost use Rattle.std.specs.Result.{result_map_both};
 ghost use Rattle.tool_arguments.specs.Mistakes.{Judges};
-ghost use Rattle.tool_arguments.specs.Operands.{address_in, all_in, first_empty, is_operand, judging_base, module_in, operand_view, operands_of, source_in, type_in};
+ghost use Rattle.tool_arguments.specs.Operands.{address_in, all_in, first_empty, is_operand, module_in, operand_view, operands_of, source_in, type_in};
 ghost use Rattle.tool_arguments.specs.Requests.{address_view};
 ghost use Rattle.tool_arguments.specs.SourceViews.{source_view};
 ghost use Rattle.tool_arguments.specs.declared.options.Next.{Next};
 
-use crate::code_address::{address_number, code_address, spelled_in};
+use crate::code_address::{address_number, spelled_in};
 use crate::mistakes::{Mistake, TaskError, Wrong};
-use crate::options::{Next, Options, Wanted, behind_word, is_option_word};
+use crate::options::{Next, behind_word, is_option_word};
 use crate::requests::AddressWord;
 use crate::sources_asked::{SourceAsked, source_of};
 use pdb_text::number_in;
@@ -73,26 +73,18 @@ pub fn operands_in<'w>(
     Ok(all)
 }
 
-/// The load address by which addresses are judged before an image is read: any will do.
-fn judging_base(options: Options) -> Option<u64>
-    ensures { result ≡ judging_base options }
-{
-    match (options.base, options.wanted) {
-        (None, Some(Wanted::Image(_))) => Some(0),
-        (base, _) => base,
-    }
-}
-
 /// The address that an operand is.
-fn address_in(options: Options, word: &[u8]) -> Result<AddressWord<'_>, Wrong>
-    ensures { result_map_both address_view (λ wrong. wrong) result ≡ address_in options word.now }
+fn address_in<'w>(operand: Operand<'w>) -> Result<AddressWord<'w>, Wrong>
+    ensures { result_map_both address_view (λ wrong. wrong) result ≡ address_in (operand_view operand.entry) }
 {
-    let Some(address) = spelled_in(word) else {
-        return Err(Wrong::BadAddress);
-    };
-    match code_address(judging_base(options), address) {
-        Some(_) => Ok(AddressWord { word, address }),
-        None => Err(Wrong::NeedsBase),
+    let word = operand.word.as_bytes();
+    match spelled_in(word) {
+        Some(address) => Ok(AddressWord {
+            argument: operand.argument,
+            word,
+            address,
+        }),
+        None => Err(Wrong::BadAddress),
     }
 }
 
@@ -100,14 +92,13 @@ fn address_in(options: Options, word: &[u8]) -> Result<AddressWord<'_>, Wrong>
 #[tactic(auto, using(crate::proofs::AllWords::all_there, crate::proofs::AllWords::begins, crate::proofs::AllWords::wrong_there, crate::proofs::AllWords::one_more))]
 pub fn all_addresses<'w>(
     alloc: Global,
-    options: Options,
     operands: &[Operand<'w>],
 ) -> Result<Vec<AddressWord<'w>>, TaskError>
-    ensures { Judges (λ v. map address_view v.items) result (all_in (address_in options) (map operand_view operands.now)) }
+    ensures { Judges (λ v. map address_view v.items) result (all_in address_in (map operand_view operands.now)) }
 {
     let mut all = Vec::new(alloc);
     for operand in operands {
-        match address_in(options, operand.word.as_bytes()) {
+        match address_in(*operand) {
             Ok(address) => all.push(address)?,
             Err(wrong) => return Err(TaskError::Mistake(operand.mistake(wrong))),
         }
@@ -116,10 +107,10 @@ pub fn all_addresses<'w>(
 }
 
 /// The index of a module that an operand is.
-fn module_in(word: &str) -> Result<u32, Wrong>
-    ensures { result ≡ module_in word.now }
+fn module_in(operand: Operand<'_>) -> Result<u32, Wrong>
+    ensures { result ≡ module_in (operand_view operand.entry) }
 {
-    number_in(word).ok_or(Wrong::BadModule)
+    number_in(operand.word).ok_or(Wrong::BadModule)
 }
 
 /// The indices of modules that operands are.
@@ -129,7 +120,7 @@ pub fn all_modules(alloc: Global, operands: &[Operand<'_>]) -> Result<Vec<u32>, 
 {
     let mut all = Vec::new(alloc);
     for operand in operands {
-        match module_in(operand.word) {
+        match module_in(*operand) {
             Ok(index) => all.push(index)?,
             Err(wrong) => return Err(TaskError::Mistake(operand.mistake(wrong))),
         }
@@ -138,10 +129,10 @@ pub fn all_modules(alloc: Global, operands: &[Operand<'_>]) -> Result<Vec<u32>, 
 }
 
 /// The index of a type that an operand is: a number below 2^32, spelled as an address is.
-fn type_in(word: &[u8]) -> Result<u32, Wrong>
-    ensures { result ≡ type_in word.now }
+fn type_in(operand: Operand<'_>) -> Result<u32, Wrong>
+    ensures { result ≡ type_in (operand_view operand.entry) }
 {
-    match address_number(word) {
+    match address_number(operand.word.as_bytes()) {
         Some(number) => u32::try_from(number).map_err(|_| Wrong::BadType),
         None => Err(Wrong::BadType),
     }
@@ -154,7 +145,7 @@ pub fn all_types(alloc: Global, operands: &[Operand<'_>]) -> Result<Vec<u32>, Ta
 {
     let mut all = Vec::new(alloc);
     for operand in operands {
-        match type_in(operand.word.as_bytes()) {
+        match type_in(*operand) {
             Ok(index) => all.push(index)?,
             Err(wrong) => return Err(TaskError::Mistake(operand.mistake(wrong))),
         }
@@ -163,10 +154,10 @@ pub fn all_types(alloc: Global, operands: &[Operand<'_>]) -> Result<Vec<u32>, Ta
 }
 
 /// The lines of a source file that an operand names.
-fn source_in(word: &[u8]) -> Result<SourceAsked<'_>, Wrong>
-    ensures { result_map_both source_view (λ wrong. wrong) result ≡ source_in word.now }
+fn source_in<'w>(operand: Operand<'w>) -> Result<SourceAsked<'w>, Wrong>
+    ensures { result_map_both source_view (λ wrong. wrong) result ≡ source_in (operand_view operand.entry) }
 {
-    source_of(word).ok_or(Wrong::BadSource)
+    source_of(operand.word.as_bytes()).ok_or(Wrong::BadSource)
 }
 
 /// The lines of source files that operands name.
@@ -179,7 +170,7 @@ pub fn all_sources<'w>(
 {
     let mut all = Vec::new(alloc);
     for operand in operands {
-        match source_in(operand.word.as_bytes()) {
+        match source_in(*operand) {
             Ok(source) => all.push(source)?,
             Err(wrong) => return Err(TaskError::Mistake(operand.mistake(wrong))),
         }

@@ -1,7 +1,7 @@
 //! The options, and which command has which.
 
 ghost use Rattle.std.specs.Prelude.{◌≡◌, ◌<◌, ◌≤◌, ◌+◌, get_or, length, position, option_copied, IfSome};
-ghost use Rattle.tool_arguments.specs.OptionNames.{has_option, is_equals, name_part, option_in, placeholder_of, spelled_option, value_part};
+ghost use Rattle.tool_arguments.specs.OptionNames.{has_option, is_equals, name_part, option_in, placeholder_of, reads_one_file, spelled_option, value_part};
 
 use crate::commands::Command;
 
@@ -14,24 +14,30 @@ pub enum OptionName {
     Key,
     /// The image whose PDB the file has to be.
     Image,
+    /// A folder of symbol files.
+    Symbols,
     /// Whether each text stands behind its address.
     Addresses,
     /// Whether names have how far the address is behind their start.
     Offsets,
     /// Whether the symbols of all modules are meant.
     All,
+    /// Whether the paths of files below a store are meant.
+    Path,
     /// Whether the output is JSON.
     Json,
 }
 
 /// All options, in the order of usage.
-pub const OPTIONS: [OptionName; 7] = [
+pub const OPTIONS: [OptionName; 9] = [
     OptionName::Base,
     OptionName::Key,
     OptionName::Image,
+    OptionName::Symbols,
     OptionName::Addresses,
     OptionName::Offsets,
     OptionName::All,
+    OptionName::Path,
     OptionName::Json,
 ];
 
@@ -44,9 +50,11 @@ impl OptionName {
             OptionName::Base => "--base",
             OptionName::Key => "--key",
             OptionName::Image => "--image",
+            OptionName::Symbols => "--symbols",
             OptionName::Addresses => "--addresses",
             OptionName::Offsets => "--offsets",
             OptionName::All => "--all",
+            OptionName::Path => "--path",
             OptionName::Json => "--json",
         }
     }
@@ -59,7 +67,9 @@ impl OptionName {
             OptionName::Base => "HEX",
             OptionName::Key => "KEY",
             OptionName::Image => "IMAGE",
-            OptionName::Addresses | OptionName::Offsets | OptionName::All | OptionName::Json => "",
+            OptionName::Symbols => "DIR",
+            OptionName::Addresses | OptionName::Offsets | OptionName::All => "",
+            OptionName::Path | OptionName::Json => "",
         }
     }
 }
@@ -72,12 +82,24 @@ pub fn option_in(name: &str) -> Option<OptionName>
         "--base" => Some(OptionName::Base),
         "--key" => Some(OptionName::Key),
         "--image" => Some(OptionName::Image),
+        "--symbols" => Some(OptionName::Symbols),
         "--addresses" => Some(OptionName::Addresses),
         "--offsets" => Some(OptionName::Offsets),
         "--all" => Some(OptionName::All),
+        "--path" => Some(OptionName::Path),
         "--json" => Some(OptionName::Json),
         _ => None,
     }
+}
+
+/// Whether a command reads one PDB.
+fn reads_one_file(command: Command) -> bool
+    ensures { result ≡ reads_one_file command }
+{
+    !matches!(
+        command,
+        Command::Key | Command::Check | Command::Help | Command::Version
+    )
 }
 
 /// Whether a command has an option.
@@ -88,8 +110,10 @@ pub fn has_option(command: Command, option: OptionName) -> bool
         OptionName::Base | OptionName::Key | OptionName::Image | OptionName::Addresses => {
             matches!(command, Command::Resolve | Command::Variables)
         }
+        OptionName::Symbols => reads_one_file(command),
         OptionName::Offsets => matches!(command, Command::Resolve),
         OptionName::All => matches!(command, Command::Symbols),
+        OptionName::Path => matches!(command, Command::Key),
         OptionName::Json => match command {
             Command::Resolve | Command::Find | Command::Where | Command::Sources => true,
             Command::Modules | Command::Sections | Command::Streams => true,

@@ -3,7 +3,7 @@
 ghost use Rattle.std.specs.Prelude.{◌≡◌, ◌+◌, ◌<◌, ◌^◌, count_by, length, map, string_bytes};
 ghost use Rattle.std.specs.List.{list_all};
 ghost use Rattle.tool_arguments.specs.OptionNames.{takes_value};
-ghost use Rattle.tool_arguments.specs.Options.{after_option, after_word, at_end, behind_option, behind_word, is_dashes, is_key, is_key_byte, is_key_digit, is_option_word, option_of, options_of, value_in, with_base, with_base_of, with_flag, with_value, with_wanted};
+ghost use Rattle.tool_arguments.specs.Options.{after_option, after_word, at_end, behind_option, behind_word, is_dashes, is_key, is_key_byte, is_key_digit, is_option_word, key_format, option_of, options_of, value_in, with_base, with_base_of, with_flag, with_value, with_wanted};
 
 use crate::code_address::address_number;
 use crate::commands::Command;
@@ -38,6 +38,17 @@ pub enum OutputFormat {
     Json,
 }
 
+/// How the keys of files are written.
+#[derive(Clone, Copy, Debug, PartialEq, Eq)]
+pub enum KeyFormat {
+    /// A line with the key and the name of each file.
+    Names,
+    /// A line with the key and the path of each file below a store.
+    Paths,
+    /// A JSON object a line.
+    Json,
+}
+
 /// What the text of an address has beside its frames.
 #[derive(Clone, Copy, Debug, Default, PartialEq, Eq)]
 pub enum Detail {
@@ -55,6 +66,8 @@ pub enum Detail {
 pub struct Options {
     /// The address at which the image was loaded.
     pub base: Option<u64>,
+    /// The size of the image whose own load address the base is; 0 where it is no image's.
+    pub own_size: u32,
     /// What names the PDB that is wanted.
     pub wanted: Option<Wanted>,
     /// Whether each text stands behind its address.
@@ -63,18 +76,35 @@ pub struct Options {
     pub detail: Detail,
     /// Whether the symbols of all modules are meant.
     pub all: bool,
+    /// Whether the paths of files below a store are meant.
+    pub path: bool,
     /// How the output is written.
     pub format: OutputFormat,
 }
 
 impl Options {
-    /// With the load address of an image as the base, where no other is given.
-    pub fn with_base_of(self, own: u64) -> Options
-        ensures { result ≡ with_base_of self own }
+    /// With the load address of an image of this size as the base, where no other is given.
+    pub fn with_base_of(self, own: u64, size: u32) -> Options
+        ensures { result ≡ with_base_of self own size }
     {
-        Options {
-            base: Some(self.base.unwrap_or(own)),
-            ..self
+        match self.base {
+            Some(_) => self,
+            None => Options {
+                base: Some(own),
+                own_size: size,
+                ..self
+            },
+        }
+    }
+
+    /// How the keys of files are written. `--path` changes no JSON.
+    pub fn key_format(self) -> KeyFormat
+        ensures { result ≡ key_format self }
+    {
+        match self.format {
+            OutputFormat::Json => KeyFormat::Json,
+            OutputFormat::Text if self.path => KeyFormat::Paths,
+            OutputFormat::Text => KeyFormat::Names,
         }
     }
 }
@@ -193,9 +223,11 @@ fn with_value(
         OptionName::Key if !is_key(value.as_bytes()) => Err(Wrong::BadKey),
         OptionName::Key => with_wanted(options, option, Wanted::Key(at)),
         OptionName::Image => with_wanted(options, option, Wanted::Image(at)),
-        OptionName::Addresses | OptionName::Offsets | OptionName::All | OptionName::Json => {
+        OptionName::Symbols => Ok(options),
+        OptionName::Addresses | OptionName::Offsets | OptionName::All => {
             Err(Wrong::TakesNoValue(option))
         }
+        OptionName::Path | OptionName::Json => Err(Wrong::TakesNoValue(option)),
     }
 }
 
@@ -216,6 +248,10 @@ fn with_flag(options: Options, option: OptionName) -> Result<Options, Wrong>
             all: true,
             ..options
         }),
+        (OptionName::Path, _, _) if !options.path => Ok(Options {
+            path: true,
+            ..options
+        }),
         (OptionName::Json, _, OutputFormat::Text) => Ok(Options {
             format: OutputFormat::Json,
             ..options
@@ -230,7 +266,7 @@ fn takes_value(option: OptionName) -> bool
 {
     matches!(
         option,
-        OptionName::Base | OptionName::Key | OptionName::Image
+        OptionName::Base | OptionName::Key | OptionName::Image | OptionName::Symbols
     )
 }
 

@@ -12,7 +12,7 @@ use crate::mistakes::{Mistake, TaskError, Wrong};
 use crate::operands::{
     Operand, all_addresses, all_modules, all_sources, all_types, first_empty, operands_in,
 };
-use crate::options::{Detail, Next, Options, OutputFormat, behind_word, options_in};
+use crate::options::{Detail, KeyFormat, Next, Options, OutputFormat, behind_word, options_in};
 use crate::requests::AddressWord;
 use crate::sources_asked::SourceAsked;
 use std::alloc::Global;
@@ -56,7 +56,7 @@ pub enum Task<'w> {
     /// Print the program's version.
     Version,
     /// Print the keys of files.
-    Keys(OutputFormat, Vec<Operand<'w>>),
+    Keys(KeyFormat, Vec<Operand<'w>>),
     /// Print what is damaged in files.
     Checks(OutputFormat, Vec<Operand<'w>>),
     /// Print the code at addresses.
@@ -86,7 +86,7 @@ fn addresses_task<'w>(
     if rest.is_empty() {
         return Ok(Task::ResolveLines(options, file));
     }
-    let addresses = all_addresses(alloc, options, rest)?;
+    let addresses = all_addresses(alloc, rest)?;
     Ok(Task::Resolve(options, file, addresses))
 }
 
@@ -234,7 +234,7 @@ fn help_task<'w>(operands: &[Operand<'w>]) -> Result<Task<'w>, TaskError>
 
 /// The keys of files, of which there is one; `count` is the number of arguments.
 fn keys_task<'w>(
-    format: OutputFormat,
+    format: KeyFormat,
     files: Vec<Operand<'w>>,
     count: usize,
 ) -> Result<Task<'w>, TaskError>
@@ -275,7 +275,7 @@ fn over_operands<'w>(
     match command {
         Command::Help => help_task(&operands),
         Command::Version => ending(Task::Version, &operands, Wrong::FurtherOperand),
-        Command::Key => keys_task(options.format, operands, count),
+        Command::Key => keys_task(options.key_format(), operands, count),
         Command::Check => checks_task(options.format, operands, count),
         command => match split_first(operands) {
             Some((file, rest)) => over_file(alloc, command, options, file, rest, count),

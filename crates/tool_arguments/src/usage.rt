@@ -17,14 +17,17 @@ fn usage_of(option: OptionName) -> &'static str
         OptionName::Base => " [--base=HEX]",
         OptionName::Key => " [--key=KEY | --image=IMAGE]",
         OptionName::Image => "",
+        OptionName::Symbols => " [--symbols=DIR]..",
         OptionName::Addresses => " [--addresses]",
         OptionName::Offsets => " [--offsets]",
         OptionName::All => " [--all]",
+        OptionName::Path => " [--path]",
         OptionName::Json => " [--json]",
     }
 }
 
 /// How an option stands in the usage of a command; nothing where it hasn't the option.
+#[tactic(auto, unfolding(crate::specs::Usage::usage_part))]
 fn usage_part(command: Command, option: OptionName) -> &'static str
     ensures { result.now ≡ usage_part command option }
 {
@@ -35,12 +38,19 @@ fn usage_part(command: Command, option: OptionName) -> &'static str
     }
 }
 
+/// Appends an option as it stands in the usage of a command.
+fn put_part(out: &mut Vec<u8>, command: Command, option: OptionName) -> Result<(), AllocError>
+    ensures { OnOk result (out.new.items ≡ out.old.items ++ usage_part command option) }
+{
+    out.extend_from_slice(usage_part(command, option).as_bytes())
+}
+
 /// Appends the options of a command.
 fn put_options(out: &mut Vec<u8>, command: Command) -> Result<(), AllocError>
     ensures { OnOk result (out.new.items ≡ out.old.items ++ flat_map (usage_part command) options) }
 {
     for option in OPTIONS {
-        out.extend_from_slice(usage_part(command, option).as_bytes())?;
+        put_part(out, command, option)?;
     }
     Ok(())
 }

@@ -24,8 +24,17 @@ impl Env for Given<'_> {
         }
     }
 
-    fn var(&self, _name: &str, _buf: &mut [u8]) -> Result<usize, FillError> {
-        Err(FillError::NotPresent)
+    // The variable `long` has as many bytes as there are arguments, times 1000.
+    fn var(&self, name: &str, buf: &mut [u8]) -> Result<usize, FillError> {
+        let size = self.args.len() * 1000;
+        if name != "long" {
+            return Err(FillError::NotPresent);
+        }
+        if buf.len() < size {
+            return Err(FillError::TooLong);
+        }
+        buf[..size].fill(b'v');
+        Ok(size)
     }
 
     fn var_at(&self, _i: usize, _buf: &mut [u8]) -> Result<usize, FillError> {
@@ -84,6 +93,24 @@ fn an_argument_is_longer_than_the_first_buffer(rt: HostRuntime) -> Result<(), Fa
         is(&rt, "count", &given.words.len(), &2);
         is(&rt, "long", &given.words[0].as_bytes(), &long.as_slice());
         is(&rt, "next", &given.words[1].as_str(), &"b");
+    }
+    Ok(())
+}
+
+#[test]
+fn a_variable_of_any_length(rt: HostRuntime) -> Result<(), Fail> {
+    let args: [&[u8]; 9] = [b""; 9];
+    for count in [0, 1, 5, 9] {
+        let given = (
+            Given {
+                args: &args[..count],
+            },
+            rt.alloc(),
+        );
+        let value = variable_of(&given, "long")?.expect(&rt, "a variable");
+        is(&rt, "size", &value.len(), &(count * 1000));
+        is(&rt, "bytes", &value.iter().all(|byte| *byte == b'v'), &true);
+        is(&rt, "another", &variable_of(&given, "other")?, &None);
     }
     Ok(())
 }

@@ -16,7 +16,7 @@ fn place(section: u16, offset: u32) -> Option<CodeAddress> {
 /// Whether a word is this address, by a base.
 fn address_is(rt: &impl Abort, base: Option<u64>, word: &[u8], wanted: Option<CodeAddress>) {
     let given = match spelled_in(word) {
-        Some(spelled) => code_address(base, spelled),
+        Some(spelled) => code_address(base, 0, spelled),
         None => None,
     };
     assert!(rt; given == wanted, "{word:?}: {given:?}, and not {wanted:?}");
@@ -93,8 +93,41 @@ fn an_address_is_spelled_before_it_is_judged(rt: HostRuntime) {
         is(&rt, "spelled", &spelled_in(word), &wanted);
     }
     let far = SpelledAddress::Number(0x1_0000_0000);
-    is(&rt, "far", &code_address(None, far), &None);
-    is(&rt, "based", &code_address(Some(0xffff_ffff), far), &rva(1));
+    is(&rt, "far", &code_address(None, 0, far), &None);
+    is(
+        &rt,
+        "based",
+        &code_address(Some(0xffff_ffff), 0, far),
+        &rva(1),
+    );
+}
+
+#[test]
+fn an_address_in_an_image_below_its_base_is_relative(rt: HostRuntime) {
+    let base = Some(0x1_4000_0000);
+    let nowhere = Some(CodeAddress::Nowhere);
+    let rows = [
+        (0, rva(0)),
+        (0x4fff, rva(0x4fff)),
+        (0x5000, nowhere),
+        (0x1_3fff_ffff, nowhere),
+        (0x1_4000_0000, rva(0)),
+        (0x1_4000_1108, rva(0x1108)),
+    ];
+    for (address, wanted) in rows {
+        let spelled = SpelledAddress::Number(address);
+        is(
+            &rt,
+            "in the image",
+            &code_address(base, 0x5000, spelled),
+            &wanted,
+        );
+    }
+    // Both below the base and below the size.
+    let at = |address| code_address(Some(0x1000), 0x5000, SpelledAddress::Number(address));
+    is(&rt, "below the base", &at(0xfff), &rva(0xfff));
+    is(&rt, "at the base", &at(0x1000), &rva(0));
+    is(&rt, "behind it", &at(0x4fff), &rva(0x3fff));
 }
 
 #[test]

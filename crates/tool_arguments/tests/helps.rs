@@ -52,7 +52,7 @@ fn the_help_of_a_command_begins_with_its_usage(rt: HostRuntime) -> Result<(), Fa
         );
     }
     let help = help_text(rt.alloc(), Some(Command::Modules))?;
-    let front: &[u8] = b"pdb_tool modules [--json] FILE\n\nPrints the modules ";
+    let front: &[u8] = b"pdb_tool modules [--symbols=DIR].. [--json] FILE\n\nPrints the modules ";
     is(&rt, "modules", &help.starts_with(front), &true);
     Ok(())
 }

@@ -15,7 +15,7 @@ const COMMAND_LINE: &str =
 
 /// How `resolve` is written.
 const RESOLVE: &str =
-    "usage: pdb_tool resolve [--base=HEX] [--key=KEY | --image=IMAGE] [--addresses] [--offsets] [--json] FILE [ADDRESS..]";
+    "usage: pdb_tool resolve [--base=HEX] [--key=KEY | --image=IMAGE] [--symbols=DIR].. [--addresses] [--offsets] [--json] FILE [ADDRESS..]";
 
 /// Whether the message on the arguments of a line is this one, and behind it a second line.
 fn says(
@@ -73,11 +73,11 @@ fn a_wrong_option_is_answered_by_what_there_is(rt: HostRuntime) -> Result<(), Fa
     let rows = [
         (
             "resolve --bas=7 a",
-            "unknown option --bas: resolve has --base --key --image --addresses --offsets --json",
+            "unknown option --bas: resolve has --base --key --image --symbols --addresses --offsets --json",
         ),
         (
             "resolve a -x\n",
-            "unknown option -x : resolve has --base --key --image --addresses --offsets --json",
+            "unknown option -x : resolve has --base --key --image --symbols --addresses --offsets --json",
         ),
         ("resolve --image", "--image needs a value: --image=IMAGE"),
         ("resolve a --base", "--base needs a value: --base=HEX"),
@@ -112,8 +112,8 @@ fn a_wrong_option_is_answered_by_what_there_is(rt: HostRuntime) -> Result<(), Fa
     let rows = [
         (
             "modules -j a",
-            "unknown option -j: modules has --json",
-            "usage: pdb_tool modules [--json] FILE",
+            "unknown option -j: modules has --symbols --json",
+            "usage: pdb_tool modules [--symbols=DIR].. [--json] FILE",
         ),
         (
             "version --json",
@@ -132,8 +132,8 @@ fn a_wrong_option_is_answered_by_what_there_is(rt: HostRuntime) -> Result<(), Fa
         ),
         (
             "variables a --offsets",
-            "unknown option --offsets: variables has --base --key --image --addresses",
-            "usage: pdb_tool variables [--base=HEX] [--key=KEY | --image=IMAGE] [--addresses] FILE [ADDRESS..]",
+            "unknown option --offsets: variables has --base --key --image --symbols --addresses",
+            "usage: pdb_tool variables [--base=HEX] [--key=KEY | --image=IMAGE] [--symbols=DIR].. [--addresses] FILE [ADDRESS..]",
         ),
     ];
     for (line, message, second) in rows {
@@ -148,47 +148,47 @@ fn a_wrong_operand_is_answered_by_usage(rt: HostRuntime) -> Result<(), Fail> {
         (
             "find",
             "FILE is missing",
-            "usage: pdb_tool find [--json] FILE NAME..",
+            "usage: pdb_tool find [--symbols=DIR].. [--json] FILE NAME..",
         ),
         (
             "key --json",
             "FILE is missing",
-            "usage: pdb_tool key [--json] FILE..",
+            "usage: pdb_tool key [--path] [--json] FILE..",
         ),
         (
             "find a",
             "NAME is missing",
-            "usage: pdb_tool find [--json] FILE NAME..",
+            "usage: pdb_tool find [--symbols=DIR].. [--json] FILE NAME..",
         ),
         (
             "find a ",
             "NAME is empty",
-            "usage: pdb_tool find [--json] FILE NAME..",
+            "usage: pdb_tool find [--symbols=DIR].. [--json] FILE NAME..",
         ),
         (
             "where a",
             "SOURCE is missing",
-            "usage: pdb_tool where [--json] FILE SOURCE[:LINE[-LINE]]..",
+            "usage: pdb_tool where [--symbols=DIR].. [--json] FILE SOURCE[:LINE[-LINE]]..",
         ),
         (
             "where a :7",
             "':7' names no source file: write SOURCE, SOURCE:63 or SOURCE:63-70",
-            "usage: pdb_tool where [--json] FILE SOURCE[:LINE[-LINE]]..",
+            "usage: pdb_tool where [--symbols=DIR].. [--json] FILE SOURCE[:LINE[-LINE]]..",
         ),
         (
             "modules a X",
             "modules takes one FILE, and not X",
-            "usage: pdb_tool modules [--json] FILE",
+            "usage: pdb_tool modules [--symbols=DIR].. [--json] FILE",
         ),
         (
             "sections a 0 1",
             "sections takes one FILE, and not 0",
-            "usage: pdb_tool sections [--json] FILE",
+            "usage: pdb_tool sections [--symbols=DIR].. [--json] FILE",
         ),
         (
             "streams a -- --x",
             "streams takes one FILE, and not --x",
-            "usage: pdb_tool streams [--json] FILE",
+            "usage: pdb_tool streams [--symbols=DIR].. [--json] FILE",
         ),
         (
             "help find key",
@@ -203,26 +203,21 @@ fn a_wrong_operand_is_answered_by_usage(rt: HostRuntime) -> Result<(), Fail> {
         (
             "lines a x",
             "'x' is not the index of a module: pdb_tool modules FILE lists them",
-            "usage: pdb_tool lines FILE [K..]",
+            "usage: pdb_tool lines [--symbols=DIR].. FILE [K..]",
         ),
         (
             "symbols --all a 0",
             "0: symbols --all prints all modules, and takes no K",
-            "usage: pdb_tool symbols [--all] FILE [K..]",
+            "usage: pdb_tool symbols [--symbols=DIR].. [--all] FILE [K..]",
         ),
         (
             "types a x",
             "'x' is not the index of a type: write HEX, as in 1000",
-            "usage: pdb_tool types FILE [INDEX..]",
+            "usage: pdb_tool types [--symbols=DIR].. FILE [INDEX..]",
         ),
         (
             "resolve a z\nz",
             "'z z' is not an address: write 1108, 0x1108 or 1:108; find prints the addresses of names",
-            RESOLVE,
-        ),
-        (
-            "resolve a 140001108",
-            "140001108 needs the load address: --base=HEX",
             RESOLVE,
         ),
     ];
@@ -234,18 +229,27 @@ fn a_wrong_operand_is_answered_by_usage(rt: HostRuntime) -> Result<(), Fail> {
 
 #[test]
 fn a_message_is_appended(rt: HostRuntime) -> Result<(), Fail> {
-    let words = words(rt.alloc(), "fnid")?;
+    let near = words(rt.alloc(), "fnid")?;
     let mistake = Mistake {
         argument: 0,
         wrong: Wrong::UnknownCommand,
     };
     let mut out = Vec::new(rt.alloc());
     out.extend_from_slice(b"x\n")?;
-    put_mistake(&mut out, &words, mistake, Some(Command::Find))?;
+    put_mistake(&mut out, &near, mistake, Some(Command::Find))?;
     let wanted: &[u8] = b"x\npdb_tool: unknown command: fnid; did you mean find?\ncommands: ";
     is(&rt, "text", &&out[..wanted.len()], &wanted);
-    is(&rt, "first", &word_at(&words, 0), &"fnid");
-    is(&rt, "none", &word_at(&words, 1), &"");
+    let far = words(rt.alloc(), "resolve a 140001108")?;
+    let mistake = Mistake {
+        argument: 2,
+        wrong: Wrong::NeedsBase,
+    };
+    let mut out = Vec::new(rt.alloc());
+    put_mistake(&mut out, &far, mistake, None)?;
+    let wanted: &[u8] = b"pdb_tool: 140001108 needs the load address: --base=HEX\nusage: ";
+    is(&rt, "far", &&out[..wanted.len()], &wanted);
+    is(&rt, "first", &word_at(&near, 0), &"fnid");
+    is(&rt, "none", &word_at(&near, 1), &"");
     is(&rt, "no argument", &word_at(&[], 0), &"");
     Ok(())
 }

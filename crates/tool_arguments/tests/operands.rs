@@ -3,7 +3,6 @@
 use crate::code_address::SpelledAddress;
 use crate::mistakes::{Mistake, TaskError, Wrong};
 use crate::operands::*;
-use crate::options::{Options, ValueAt, Wanted};
 use crate::sources_asked::asks_for;
 use crate::tests::fakes::{is, words};
 use pdb_base::PdbInternalSectionOffset;
@@ -74,13 +73,13 @@ fn mistake(argument: usize, wrong: Wrong) -> Option<TaskError> {
 #[test]
 fn operands_are_addresses(rt: HostRuntime) -> Result<(), Fail> {
     let alloc = rt.alloc();
-    let options = Options::default();
-    let given = all_addresses(alloc, options, &OPERANDS)
+    let given = all_addresses(alloc, &OPERANDS)
         .ok()
         .expect(&rt, "addresses");
     is(&rt, "count", &given.len(), &2);
     let first = SpelledAddress::Number(0x11);
     is(&rt, "first", &given[0].address, &first);
+    is(&rt, "argument", &given[0].argument, &OPERANDS[0].argument);
     is(&rt, "word", &given[0].word, &b"11".as_slice());
     is(&rt, "last", &given[1].address, &SpelledAddress::Number(2));
     is(&rt, "word", &given[1].word, &b"2".as_slice());
@@ -88,61 +87,21 @@ fn operands_are_addresses(rt: HostRuntime) -> Result<(), Fail> {
         argument: 4,
         word: "1:10c",
     };
-    let given = all_addresses(alloc, options, &[place])
-        .ok()
-        .expect(&rt, "a place");
+    let given = all_addresses(alloc, &[place]).ok().expect(&rt, "a place");
     let wanted = SpelledAddress::Place(PdbInternalSectionOffset {
         section: 1,
         offset: 0x10c,
     });
     is(&rt, "place", &given[0].address, &wanted);
-    let given = all_addresses(alloc, options, &[OPERANDS[0], WRONG]).err();
+    let far = Operand {
+        argument: 7,
+        word: "140001108",
+    };
+    is(&rt, "far", &all_addresses(alloc, &[far])?.len(), &1);
+    let given = all_addresses(alloc, &[OPERANDS[0], WRONG]).err();
     is(&rt, "wrong", &given, &mistake(9, Wrong::BadAddress));
-    is(&rt, "none", &all_addresses(alloc, options, &[])?.len(), &0);
+    is(&rt, "none", &all_addresses(alloc, &[])?.len(), &0);
     Ok(())
-}
-
-#[test]
-fn a_far_address_needs_a_base(rt: HostRuntime) {
-    let alloc = rt.alloc();
-    let none = Options::default();
-    let far = [
-        OPERANDS[0],
-        Operand {
-            argument: 7,
-            word: "140001108",
-        },
-    ];
-    let given = all_addresses(alloc, none, &far).err();
-    is(&rt, "no base", &given, &mistake(7, Wrong::NeedsBase));
-    let at = ValueAt {
-        argument: 1,
-        is_joined: true,
-    };
-    let based = Options {
-        base: Some(1),
-        ..none
-    };
-    let of_key = Options {
-        wanted: Some(Wanted::Key(at)),
-        ..none
-    };
-    let of_image = Options {
-        wanted: Some(Wanted::Image(at)),
-        ..none
-    };
-    is(&rt, "base", &all_addresses(alloc, based, &far).err(), &None);
-    let given = all_addresses(alloc, of_key, &far).err();
-    is(&rt, "key", &given, &mistake(7, Wrong::NeedsBase));
-    // The image has a base.
-    is(
-        &rt,
-        "image",
-        &all_addresses(alloc, of_image, &far).err(),
-        &None,
-    );
-    let given = all_addresses(alloc, of_image, &[WRONG]).err();
-    is(&rt, "no address", &given, &mistake(9, Wrong::BadAddress));
 }
 
 #[test]

@@ -10,9 +10,11 @@ fn each_option_has_a_name_and_perhaps_a_value(rt: HostRuntime) {
         (OptionName::Base, "--base", "HEX"),
         (OptionName::Key, "--key", "KEY"),
         (OptionName::Image, "--image", "IMAGE"),
+        (OptionName::Symbols, "--symbols", "DIR"),
         (OptionName::Addresses, "--addresses", ""),
         (OptionName::Offsets, "--offsets", ""),
         (OptionName::All, "--all", ""),
+        (OptionName::Path, "--path", ""),
         (OptionName::Json, "--json", ""),
     ];
     for ((option, name, value), listed) in rows.iter().zip(OPTIONS) {
@@ -42,7 +44,7 @@ fn commands_with(option: OptionName) -> usize {
 
 #[test]
 fn commands_have_the_options_of_usage(rt: HostRuntime) {
-    let rows: [(OptionName, &[Command]); 6] = [
+    let rows: [(OptionName, &[Command]); 8] = [
         (OptionName::Base, &[Command::Resolve, Command::Variables]),
         (OptionName::Key, &[Command::Resolve, Command::Variables]),
         (OptionName::Image, &[Command::Resolve, Command::Variables]),
@@ -52,6 +54,8 @@ fn commands_have_the_options_of_usage(rt: HostRuntime) {
         ),
         (OptionName::Offsets, &[Command::Resolve]),
         (OptionName::All, &[Command::Symbols]),
+        (OptionName::Path, &[Command::Key]),
+        (OptionName::Symbols, &COMMANDS[..12]),
     ];
     for (option, commands) in rows {
         is(

@@ -442,10 +442,72 @@ fn a_base_of_ones_own_is_taken_where_none_is_given(rt: HostRuntime) {
     is(
         &rt,
         "none",
-        &Options::default().with_base_of(own),
-        &based(own),
+        &Options::default().with_base_of(own, 7),
+        &Options {
+            own_size: 7,
+            ..based(own)
+        },
     );
-    is(&rt, "given", &based(0).with_base_of(own), &based(0));
+    is(&rt, "given", &based(0).with_base_of(own, 7), &based(0));
     let json = as_json(Options::default());
-    is(&rt, "others", &json.with_base_of(own), &as_json(based(own)));
+    is(
+        &rt,
+        "others",
+        &json.with_base_of(own, 0),
+        &as_json(based(own)),
+    );
+}
+
+#[test]
+fn keys_are_written_as_options_say(rt: HostRuntime) -> Result<(), Fail> {
+    let rows = [
+        ("key a", KeyFormat::Names),
+        ("key --path a", KeyFormat::Paths),
+        ("key --json a", KeyFormat::Json),
+        ("key a --json --path", KeyFormat::Json),
+    ];
+    for (line, wanted) in rows {
+        let options = options_of(rt.alloc(), line).ok().expect(&rt, line);
+        is(&rt, line, &options.key_format(), &wanted);
+    }
+    let twice = wrong(3, Wrong::GivenTwice(OptionName::Path));
+    is(
+        &rt,
+        "twice",
+        &options_of(rt.alloc(), "key --path a --path"),
+        &twice,
+    );
+    let valued = wrong(1, Wrong::TakesNoValue(OptionName::Path));
+    is(
+        &rt,
+        "a value",
+        &options_of(rt.alloc(), "key --path=a"),
+        &valued,
+    );
+    let unknown = wrong(1, Wrong::UnknownOption);
+    is(
+        &rt,
+        "another",
+        &options_of(rt.alloc(), "check --path a"),
+        &unknown,
+    );
+    Ok(())
+}
+
+#[test]
+fn folders_are_given_any_number_of_times(rt: HostRuntime) -> Result<(), Fail> {
+    let none = Options::default();
+    let rows = [
+        ("resolve --symbols=a --symbols b --symbols=a c", Ok(none)),
+        ("find --symbols= a b", Ok(none)),
+        (
+            "types --symbols",
+            wrong(2, Wrong::NeedsValue(OptionName::Symbols)),
+        ),
+        ("key --symbols=a b", wrong(1, Wrong::UnknownOption)),
+    ];
+    for (line, wanted) in rows {
+        is(&rt, line, &options_of(rt.alloc(), line), &wanted);
+    }
+    Ok(())
 }

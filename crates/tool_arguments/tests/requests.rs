@@ -24,6 +24,7 @@ fn object_of(style: Style<'_>) -> Option<&[u8]> {
 
 /// An address with its argument.
 const ELEVEN: AddressWord<'static> = AddressWord {
+    argument: 2,
     word: b"0x11",
     address: SpelledAddress::Number(0x11),
 };
@@ -72,11 +73,30 @@ fn an_address_is_requested_as_options_say(rt: HostRuntime) {
 #[test]
 fn an_argument_without_its_base_is_nowhere(rt: HostRuntime) {
     let far = AddressWord {
+        argument: 2,
         word: b"100000000",
         address: SpelledAddress::Number(0x1_0000_0000),
     };
     let given = request_of(Options::default(), far);
     is(&rt, "address", &given.address, &CodeAddress::Nowhere);
+}
+
+#[test]
+fn the_first_argument_that_needs_a_base(rt: HostRuntime) {
+    let far = |argument| AddressWord {
+        argument,
+        word: b"100000000",
+        address: SpelledAddress::Number(0x1_0000_0000),
+    };
+    let none = Options::default();
+    let all = [ELEVEN, far(3), far(4)];
+    is(&rt, "far", &first_needing(none, &all), &Some(3));
+    is(&rt, "near", &first_needing(none, &[ELEVEN]), &None);
+    is(&rt, "no address", &first_needing(none, &[]), &None);
+    let based = none.with_base_of(0x1000, 0x5000);
+    is(&rt, "base", &first_needing(based, &all), &None);
+    let given = request_of(based, ELEVEN);
+    is(&rt, "in the image", &given.address, &CodeAddress::Rva(0x11));
 }
 
 #[test]

@@ -4,7 +4,7 @@ use crate::commands::Command;
 use crate::mistakes::{Mistake, TaskError, Wrong};
 use crate::operands::Operand;
 use crate::option_names::OptionName;
-use crate::options::{Detail, Options, OutputFormat, ValueAt, Wanted};
+use crate::options::{Detail, KeyFormat, Options, OutputFormat, ValueAt, Wanted};
 use crate::tasks::*;
 use crate::tests::fakes::{is, words};
 use std::alloc::{AllocError, Global};
@@ -66,8 +66,9 @@ fn task_seen(task: Task<'_>) -> Seen {
         Task::Help(Some(command)) => (command.name(), 0, 0, 0),
         Task::ListHelp => ("help of pdb_list", 0, 0, 0),
         Task::Version => ("the version", 0, 0, 0),
-        Task::Keys(OutputFormat::Text, files) => files_seen("keys", &files),
-        Task::Keys(_, files) => files_seen("keys, JSON", &files),
+        Task::Keys(KeyFormat::Names, files) => files_seen("keys", &files),
+        Task::Keys(KeyFormat::Paths, files) => files_seen("paths of keys", &files),
+        Task::Keys(KeyFormat::Json, files) => files_seen("keys, JSON", &files),
         Task::Checks(OutputFormat::Text, files) => files_seen("checks", &files),
         Task::Checks(_, files) => files_seen("checks, JSON", &files),
         Task::Resolve(_, file, addresses) => ("addresses", file.argument, 0, addresses.len()),
@@ -90,6 +91,7 @@ fn each_command_has_its_task(rt: HostRuntime) {
         ("version --", ("the version", 0, 0, 0)),
         ("key a", ("keys", 1, 0, 0)),
         ("key a b c", ("keys", 1, 2, 2)),
+        ("key a --path b", ("paths of keys", 1, 3, 1)),
         ("key a --json b", ("keys, JSON", 1, 3, 1)),
         ("key -", ("keys", 1, 0, 0)),
         ("check a b", ("checks", 1, 2, 1)),
@@ -216,8 +218,7 @@ fn the_first_wrong_argument_is_named(rt: HostRuntime) {
         ("types a 10 1:1", 3, Wrong::BadType),
         ("resolve a 1 x", 3, Wrong::BadAddress),
         ("resolve a - 1", 2, Wrong::BadAddress),
-        ("resolve a 100000000", 2, Wrong::NeedsBase),
-        ("variables a 1 100000000 x", 3, Wrong::NeedsBase),
+        ("variables a 1 100000000 x", 4, Wrong::BadAddress),
         ("resolve -- a --base=1", 3, Wrong::BadAddress),
         ("lines -- a --help", 3, Wrong::BadModule),
         // Options are judged before operands.

@@ -11,7 +11,7 @@ use Rattle.tool_output.specs.declared.stop.Stop.TheVariants.{Unopened, Read, Inp
 use Rattle.tool_output.specs.WriteFailures.{failures_after}
 use Rattle.tool_printing.specs.Printing.{Printing}
 use Rattle.tool_output.specs.declared.fault.Fault.{Fault}
-use Rattle.tool_output.specs.declared.fault.Fault.TheVariants.{Mistaken, NotText, NoInput, Stopped, Image as OverImage, OtherKey}
+use Rattle.tool_output.specs.declared.fault.Fault.TheVariants.{Mistaken, NotText, NoInput, Stopped, Image as OverImage, OtherKey, Reported}
 
 -- a read that failed
 abbrev pub stop_of_fetch : FetchError → Stop
@@ -98,3 +98,4 @@ status_of NoInput = 3
 status_of (Stopped stop argument) = status_of_stop stop
 status_of (OverImage stop value) = status_of_stop stop
 status_of OtherKey = 7
+status_of (Reported stop) = status_of_stop stop

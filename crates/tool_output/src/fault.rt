@@ -23,6 +23,8 @@ pub enum Fault {
     Image(Stop, ValueAt),
     /// A file isn't the wanted one, and that was said.
     OtherKey,
+    /// A command stopped over a file that no argument names, and that was said.
+    Reported(Stop),
 }
 
 impl From<Stop> for Fault {
@@ -74,7 +76,9 @@ pub fn status_of(fault: Fault) -> u8
     match fault {
         Fault::Mistaken(_) | Fault::NotText(_) => 2,
         Fault::NoInput => 3,
-        Fault::Stopped(stop, _) | Fault::Image(stop, _) => status_of_stop(stop),
+        Fault::Stopped(stop, _) | Fault::Image(stop, _) | Fault::Reported(stop) => {
+            status_of_stop(stop)
+        }
         Fault::OtherKey => 7,
     }
 }

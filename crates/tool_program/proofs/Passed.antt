@@ -6,6 +6,7 @@ use Rattle.pdb.specs.Error.{Error}
 use Rattle.pdb_file.specs.FileBytes.{size_by}
 use Rattle.pdb_file.specs.declared.bytes.FileBytes.{FileBytes}
 use Rattle.tool_arguments.specs.Operands.{WordAt}
+use Rattle.tool_arguments.specs.declared.options.KeyFormat.{KeyFormat}
 use Rattle.tool_arguments.specs.declared.options.OutputFormat.{OutputFormat}
 use Rattle.tool_check.specs.CheckTexts.{check_text, findings_text, is_nothing}
 use Rattle.tool_output.specs.EachFile.{GivesText, file_text_view}
@@ -83,7 +84,7 @@ ok_text format name file (Err s) opened text well = tt
 
 -- ---- lines of keys
 
-line_by : (format : OutputFormat) (name file : List ℕ) (r : Result FileText Stop) (s : Stop) → IsErrAnd r (λ x. x ≡ s)
+line_by : (format : KeyFormat) (name file : List ℕ) (r : Result FileText Stop) (s : Stop) → IsErrAnd r (λ x. x ≡ s)
     → ((x : Stop) → x ≢ Memory → x ≢ Read → x ≡ s → key_line format name file ≡ Err x) → (s ≡ Read → ⊥) → GivesText r (line_told (key_line format name file))
 line_by format name file (Ok p) s is told never = absurd is
 line_by format name file (Err x) Memory is told never = inl is
@@ -91,7 +92,7 @@ line_by format name file (Err x) Read is told never = absurd (never refl)
 line_by format name file (Err x) s is told never = inr (rw (told s (λ e. absurd cc) (λ e. absurd cc) refl, is) refl)
 
 -- a file that has no line
-pub line_stopped : {R : Type 0} (known : FileBytes R → Option (List ℕ)) (steady : FileBytes R → Bool) (b : FileBytes R) (read : Result (List ℕ) Stop) (format : OutputFormat) (name : WordAt) (r : Result FileText Stop) (s : Stop)
+pub line_stopped : {R : Type 0} (known : FileBytes R → Option (List ℕ)) (steady : FileBytes R → Bool) (b : FileBytes R) (read : Result (List ℕ) Stop) (format : KeyFormat) (name : WordAt) (r : Result FileText Stop) (s : Stop)
     → OpensAs known steady (Ok b) read → IsErrAnd r (λ x. x ≡ s)
     → ((file : List ℕ) → known b ≡ Some file → length file ≡ size_by b → (x : Stop) → x ≢ Memory → x ≢ Read → x ≡ s → key_line format name.word file ≡ Err x)
     → (steady b ≡ true → (file : List ℕ) → known b ≡ Some file → length file ≡ size_by b → s ≡ Read → ⊥) → GivesText r (keyed format name read)

@@ -1,6 +1,5 @@
 -- The lines of `key`: of a PDB, and of an image with the PDB that it names.
-use Rattle.std.specs.Prelude.{ℕ, ◌/◌, ◌%◌, List, [], ◌∷◌, ◌++◌, codes, flat_map, Option, Some, None, Result, Ok, Err, false, if◌then◌else◌}
-use Rattle.std.specs.Fmt.{digits}
+use Rattle.std.specs.Prelude.{ℕ, List, ◌++◌, codes, Option, Some, None, Result, Ok, Err, if◌then◌else◌}
 use Rattle.json.specs.Json.{Json, null, object, Members, no_members, member}
 use Rattle.pdb.specs.Error.{Error}
 use Rattle.pdb_image.specs.declared.error.ImageError.{ImageError}
@@ -8,18 +7,16 @@ use Rattle.pdb_image.specs.Debug.{Reference}
 use Rattle.pdb_image.specs.Headers.{is_image}
 use Rattle.pdb_image.specs.Images.{Said, image_of}
 use Rattle.pdb_text.specs.OneLine.{one_line}
-use Rattle.pdb.specs.Keys.{byte_text, key_of_file, key_text}
+use Rattle.pdb.specs.Keys.{key_of_file, key_text}
 use Rattle.tool_fields.specs.Values.{behind_blank}
 use Rattle.tool_output.specs.Objects.{json_line, text_value}
 use Rattle.tool_output.specs.Stops.{stop_of_opening}
-use Rattle.tool_arguments.specs.declared.options.OutputFormat.{OutputFormat}
-use Rattle.tool_arguments.specs.declared.options.OutputFormat.TheVariants.{Text, Json as Objects}
+use Rattle.tool_program.specs.KeyPaths.{image_paths, pdb_path}
+use Rattle.tool_program.specs.OwnKeys.{own_key}
+use Rattle.tool_arguments.specs.declared.options.KeyFormat.{KeyFormat}
+use Rattle.tool_arguments.specs.declared.options.KeyFormat.TheVariants.{Names, Paths, Json as Objects}
 use Rattle.tool_output.specs.declared.stop.Stop.{Stop}
 use Rattle.tool_output.specs.declared.stop.Stop.TheVariants.{Image, Memory, Open, Read}
-
--- an image's own key: its time stamp in eight upper hex digits, and its size in lower ones
-unfoldable pub own_key : ℕ → ℕ → List ℕ
-own_key stamp size = flat_map byte_text (stamp / 16777216 ∷ stamp / 65536 % 256 ∷ stamp / 256 % 256 ∷ stamp % 256 ∷ []) ++ digits 16 false size
 
 -- the key and the path of the PDB that an image names
 abbrev pub pdb_named : Option Reference → List ℕ
@@ -48,24 +45,26 @@ pdb_value name key = object (member (codes "key") (text_value key) (member (code
 
 -- ---- in a format
 
-abbrev pub image_in : OutputFormat → List ℕ → Said → List ℕ
-image_in Text name i = image_text name i
+abbrev pub image_in : KeyFormat → List ℕ → Said → List ℕ
+image_in Names name i = image_text name i
+image_in Paths name i = image_paths name i
 image_in Objects name i = json_line (image_value name i)
 
-abbrev pub image_line : OutputFormat → List ℕ → Result Said ImageError → Result (List ℕ) Stop
+abbrev pub image_line : KeyFormat → List ℕ → Result Said ImageError → Result (List ℕ) Stop
 image_line format name (Ok i) = Ok (image_in format name i)
 image_line format name (Err e) = Err (Image e)
 
-abbrev pub pdb_in : OutputFormat → List ℕ → List ℕ → List ℕ
-pdb_in Text name key = pdb_text name key
+abbrev pub pdb_in : KeyFormat → List ℕ → List ℕ → List ℕ
+pdb_in Names name key = pdb_text name key
+pdb_in Paths name key = pdb_path name key
 pdb_in Objects name key = json_line (pdb_value name key)
 
-abbrev pub pdb_line : OutputFormat → List ℕ → Result (List ℕ) Error → Result (List ℕ) Stop
+abbrev pub pdb_line : KeyFormat → List ℕ → Result (List ℕ) Error → Result (List ℕ) Stop
 pdb_line format name (Ok key) = Ok (pdb_in format name key)
 pdb_line format name (Err e) = Err (stop_of_opening e)
 
 -- the line of a file of this name, or why it has none
-unfoldable pub key_line : OutputFormat → List ℕ → List ℕ → Result (List ℕ) Stop
+unfoldable pub key_line : KeyFormat → List ℕ → List ℕ → Result (List ℕ) Stop
 key_line format name file = if is_image file then image_line format name (image_of file) else pdb_line format name (key_of_file file)
 
 -- why a file has no line: a read error only where io holds

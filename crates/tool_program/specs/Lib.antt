@@ -2,7 +2,9 @@ pub mod FileKinds
 pub mod FileTexts
 pub mod Hosts
 pub mod KeyLines
+pub mod KeyPaths
 pub mod Messages
+pub mod OwnKeys
 pub mod ReadBack
 pub mod SeveralFiles
 pub mod Tasks

@@ -1,6 +1,8 @@
 -- What is printed on standard error of a file.
 use Rattle.std.specs.Prelude.{ℕ, List, ◌++◌, codes}
+use Rattle.pdb_paths.specs.FileNames.{file_name}
 use Rattle.pdb_text.specs.OneLine.{one_line}
+use Rattle.tool_fields.specs.Values.{behind_blank}
 
 -- a line on a file
 unfoldable pub about : List ℕ → List ℕ → List ℕ
@@ -9,3 +11,7 @@ about name text = codes "pdb_tool: " ++ one_line name ++ codes ": " ++ text ++ c
 -- that it has a key, and another is wanted
 unfoldable pub other_key : List ℕ → List ℕ → List ℕ → List ℕ
 other_key name key wanted = about name (codes "has the key " ++ key ++ codes ", and " ++ wanted ++ codes " is wanted")
+
+-- that the PDB of an image, which has this path and this key, isn't found
+unfoldable pub no_pdb : List ℕ → List ℕ → List ℕ → List ℕ
+no_pdb image path key = about image (codes "its PDB" ++ behind_blank (file_name path) ++ codes " " ++ key ++ codes " is not found")

@@ -3,6 +3,7 @@ use Rattle.std.specs.Prelude.{ℕ, List, Result, Ok, Err, true}
 use Rattle.pdb.specs.Container.{opens}
 use Rattle.pdb.specs.Error.{Error}
 use Rattle.tool_arguments.specs.Operands.{WordAt}
+use Rattle.tool_arguments.specs.declared.options.KeyFormat.{KeyFormat}
 use Rattle.tool_arguments.specs.declared.options.OutputFormat.{OutputFormat}
 use Rattle.tool_check.specs.CheckTexts.{check_text, findings_text, is_nothing}
 use Rattle.tool_output.specs.EachFile.{TextOf}
@@ -20,7 +21,7 @@ line_told (Ok line) = Ok (record { text = line; is_well = true })
 line_told (Err s) = Err s
 
 -- the line of its key
-abbrev pub keyed : OutputFormat → WordAt → Result (List ℕ) Stop → Result TextOf Stop
+abbrev pub keyed : KeyFormat → WordAt → Result (List ℕ) Stop → Result TextOf Stop
 keyed format name file = of_file file (λ bytes. line_told (key_line format name.word bytes))
 
 abbrev pub checked_by : OutputFormat → List ℕ → List ℕ → Result (Unit {0}) Error → Result TextOf Stop

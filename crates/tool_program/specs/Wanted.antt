@@ -17,23 +17,29 @@ use Rattle.tool_arguments.specs.Options.{is_key_digit}
 use Rattle.tool_arguments.specs.declared.options.Options.{Options}
 use Rattle.tool_output.specs.declared.stop.Stop.{Stop}
 use Rattle.tool_output.specs.declared.stop.Stop.TheVariants.{Image, Memory, NoPdb, Open, Read}
+use Rattle.tool_program.specs.declared.wanted.ImageWants.{ImageWants}
 use Rattle.tool_printing.specs.Printing.{Halted, Printed, Printing, Shown, all_shown}
 
 -- the key that a value of `--key` spells: its hex digits, the letters as upper ones
 abbrev pub wanted_key : List ℕ → List ℕ
 wanted_key value = map to_ascii_uppercase (filter is_key_digit value)
 
--- the key of the PDB that an image names, and the image's load address
+-- the key and the path of the PDB that an image names, and the image's load address and size
 pub record Wants : Type 0 where
   pub key : List ℕ
+  pub path : List ℕ
   pub base : ℕ
+  pub size : ℕ
 
-abbrev pub wants_of : ℕ → Option Reference → Result Wants Stop
-wants_of base None = Err NoPdb
-wants_of base (Some r) = Ok (record { key = key_text r.guid r.age; base = base })
+abbrev pub wants_view : ImageWants → Wants
+wants_view w = record { key = w.key.items; path = w.path.items; base = w.base; size = w.size }
+
+abbrev pub wants_of : Said → Option Reference → Result Wants Stop
+wants_of i None = Err NoPdb
+wants_of i (Some r) = Ok (record { key = key_text r.guid r.age; path = r.path; base = i.base; size = i.size })
 
 abbrev pub wants_by : Result Said ImageError → Result Wants Stop
-wants_by (Ok i) = wants_of i.base i.pdb
+wants_by (Ok i) = wants_of i i.pdb
 wants_by (Err e) = Err (Image e)
 
 abbrev pub wants_in : List ℕ → Result Wants Stop

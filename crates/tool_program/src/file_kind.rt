@@ -81,9 +81,7 @@ pub fn file_kind(front: &[u8], size: u64) -> Option<FileKind>
 pub fn put_kind(out: &mut Vec<u8>, kind: FileKind, size: u64) -> Result<(), AllocError> {
     match kind {
         FileKind::Empty => out.extend_from_slice(b"it is empty"),
-        FileKind::Image => out.extend_from_slice(
-            b"it is an image (EXE or DLL), which key and resolve --image=IMAGE read",
-        ),
+        FileKind::Image => out.extend_from_slice(b"it is an image (EXE or DLL)"),
         FileKind::PortablePdb => out.extend_from_slice(b"it is a portable PDB of .NET"),
         FileKind::OldPdb => out.extend_from_slice(b"it is a PDB of version 2.00"),
         FileKind::Gzip => out.extend_from_slice(b"it is compressed by gzip"),

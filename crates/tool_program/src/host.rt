@@ -1,7 +1,7 @@
 //! What the program reads from.
 
 use pdb_file::{FileBytes, ReadAt};
-use std::alloc::Global;
+use std::alloc::{AllocError, Global};
 use tool_arguments::operands::Operand;
 use tool_output::stop::Stop;
 
@@ -27,6 +27,16 @@ pub trait Host {
     /// The bytes of the file that an argument names, or why it can't be opened or read.
     fn open(&self, name: Operand<'_>) -> Result<FileBytes<Self::File>, Stop>
         ensures { is_known self.now ≡ true → OpensAs (⟦<FileBytes<Self::File> as ReadAt>⟧.known) (⟦<FileBytes<Self::File> as ReadAt>⟧.is_steady) result (file self.now (operand_view name.entry)) };
+
+    /// The bytes of the regular file of a path, or why it can't be opened or read: where there is none it is missing. No pipe
+    /// and no device is opened.
+    fn open_path(&self, path: &str) -> Result<FileBytes<Self::File>, Stop>;
+
+    /// Whether a path leads to a regular file.
+    fn is_file(&self, path: &str) -> bool;
+
+    /// The value of the variable `_NT_SYMBOL_PATH`; none where it isn't there.
+    fn symbol_path(&self) -> Result<Option<Vec<u8>>, AllocError>;
 
     /// The first bytes of a file that has a size, and that size; none of a pipe and the like.
     fn front(&self, name: &str) -> Option<(Vec<u8>, u64)>;

@@ -3,17 +3,20 @@
 ghost use Rattle.std.specs.Prelude.{◌≡◌, ◌≢◌, ◌↔◌, ◌<◌, ◌++◌, true, false, Ok, Err, IfOk, IfErr, IsErrOf, OnOk, Option, ⊤};
 ghost use Rattle.std.specs.Option.{option_map};
 ghost use Rattle.pdb.specs.Error.{Error};
+ghost use Rattle.pdb.specs.Keys.{key_of_file};
 ghost use Rattle.pdb.specs.Refusal.{Gives};
 ghost use Rattle.pdb.specs.Source.{Continues, MayFail, view_bytes};
 ghost use Rattle.pdb_image.specs.Headers.{is_image};
 ghost use Rattle.pdb_image.specs.Images.{image_of, reference, said};
 ghost use Rattle.tool_program.specs.Hosts.{OfKnown, OfSource, StopsAs};
-ghost use Rattle.tool_program.specs.KeyLines.{StopsLine, image_in as line_of_image, image_line as image_line_of, image_text as text_of_image, key_line as key_line_of, own_key, pdb_in as line_of_pdb, pdb_named, pdb_text as text_of_pdb};
-ghost use Rattle.tool_program.specs.Wanted.{StopsImage, wants_in as wants_there};
+ghost use Rattle.tool_program.specs.KeyLines.{StopsLine, image_in as line_of_image, image_line as image_line_of, image_text as text_of_image, key_line as key_line_of, pdb_in as line_of_pdb, pdb_named, pdb_text as text_of_pdb};
+ghost use Rattle.tool_program.specs.OwnKeys.{own_key};
+ghost use Rattle.tool_program.specs.Wanted.{StopsImage, wants_in as wants_there, wants_view};
 ghost use Rattle.tool_output.specs.Stops.{StopsComposing, StopsOpening};
 ghost use Rattle.tool_output.specs.declared.stop.Stop.{Stop};
 
 use crate::key_objects::{image_object, pdb_object};
+use crate::key_paths::{image_paths, pdb_path};
 use crate::wanted::{ImageWants, wants_in};
 use bumpalo::Bump;
 use pdb::{Error, Source, SourceSlice, View, key_of, key_text, put_hex_bytes};
@@ -21,12 +24,12 @@ use pdb_file::{KnownFile, ReadAt, ReadingSource};
 use pdb_image::{Image, PdbReference, is_image};
 use pdb_text::put_one_line;
 use std::alloc::{AllocError, Global};
-use tool_arguments::options::OutputFormat;
+use tool_arguments::options::KeyFormat;
 use tool_fields::values::put_behind_blank;
 use tool_output::stop::{Stop, stop_of_opening};
 
 /// An image's own key: its time stamp in eight upper hex digits, and its size in lower ones.
-#[tactic(auto, unfolding(crate::specs::KeyLines::own_key))]
+#[tactic(auto, unfolding(crate::specs::OwnKeys::own_key))]
 pub fn put_own_key(
     alloc: Global,
     out: &mut Vec<u8>,
@@ -79,25 +82,21 @@ fn image_text(alloc: Global, image: Image<'_>, name: &[u8]) -> Result<Vec<u8>, A
 /// The line of an image, in a format.
 fn image_in(
     alloc: Global,
-    format: OutputFormat,
+    format: KeyFormat,
     image: Image<'_>,
     name: &[u8],
 ) -> Result<Vec<u8>, AllocError>
     ensures { IfOk result (λ v. v.items ≡ line_of_image format name.now (said image.entry)) }
 {
     match format {
-        OutputFormat::Text => image_text(alloc, image, name),
-        OutputFormat::Json => image_object(alloc, image, name),
+        KeyFormat::Names => image_text(alloc, image, name),
+        KeyFormat::Paths => image_paths(alloc, image, name),
+        KeyFormat::Json => image_object(alloc, image, name),
     }
 }
 
 /// The line of an image's bytes.
-fn image_line(
-    alloc: Global,
-    format: OutputFormat,
-    bytes: &[u8],
-    name: &[u8],
-) -> Result<Vec<u8>, Stop>
+fn image_line(alloc: Global, format: KeyFormat, bytes: &[u8], name: &[u8]) -> Result<Vec<u8>, Stop>
     ensures line { IfOk result (λ v. image_line_of format name.now (image_of bytes.now) ≡ Ok v.items) }
     ensures stopped { (s : Stop) → s ≢ Stop.Memory → IsErrOf result s → image_line_of format name.now (image_of bytes.now) ≡ Err s }
     ensures stops { IfErr result (StopsLine ⊥) }
@@ -121,17 +120,13 @@ fn pdb_text(alloc: Global, key: &[u8], name: &[u8]) -> Result<Vec<u8>, AllocErro
 }
 
 /// The line of a PDB with this key, in a format.
-fn pdb_in(
-    alloc: Global,
-    format: OutputFormat,
-    key: &[u8],
-    name: &[u8],
-) -> Result<Vec<u8>, AllocError>
+fn pdb_in(alloc: Global, format: KeyFormat, key: &[u8], name: &[u8]) -> Result<Vec<u8>, AllocError>
     ensures { IfOk result (λ v. v.items ≡ line_of_pdb format name.now key.now) }
 {
     match format {
-        OutputFormat::Text => pdb_text(alloc, key, name),
-        OutputFormat::Json => pdb_object(alloc, key, name),
+        KeyFormat::Names => pdb_text(alloc, key, name),
+        KeyFormat::Paths => pdb_path(alloc, key, name),
+        KeyFormat::Json => pdb_object(alloc, key, name),
     }
 }
 
@@ -177,7 +172,7 @@ fn whole<'s, S: Source<'s>>(alloc: Global, source: &mut S, size: u64) -> Result<
 #[tactic(auto, unfolding(crate::specs::KeyLines::key_line))]
 fn line_of<'s, S: Source<'s>>(
     alloc: Global,
-    format: OutputFormat,
+    format: KeyFormat,
     mut source: S,
     size: u64,
     name: &[u8],
@@ -199,7 +194,7 @@ fn line_of<'s, S: Source<'s>>(
 /// read than its key asks for.
 pub fn key_line<R: ReadAt>(
     alloc: Global,
-    format: OutputFormat,
+    format: KeyFormat,
     bytes: &R,
     size: u64,
     name: &[u8],
@@ -215,9 +210,37 @@ pub fn key_line<R: ReadAt>(
     line_of(alloc, format, source, size, name)
 }
 
+/// Whether a file of this size is an image: it begins with `MZ`.
+pub fn is_image_file<R: ReadAt>(alloc: Global, bytes: &R, size: u64) -> Result<bool, Stop>
+    ensures image { OfKnown (R.known bytes.now) size (λ F. IfOk result (λ b. b ≡ is_image F)) }
+    ensures stops { IfErr result (StopsOpening ⊤) }
+{
+    let arena = Bump::new(alloc);
+    let file = KnownFile::new(bytes);
+    let mut reading = ReadingSource::new(alloc, &arena, bytes, &file, size);
+    match begins_as_image(alloc, &mut reading) {
+        Ok(is_image) => Ok(is_image),
+        Err(e) => Err(stop_of_opening(e)),
+    }
+}
+
+/// The key of a PDB of this size, of which no more is read than the key asks for.
+pub fn pdb_key<R: ReadAt>(alloc: Global, bytes: &R, size: u64) -> Result<Vec<u8>, Stop>
+    ensures key { OfKnown (R.known bytes.now) size (λ F. IfOk result (λ v. key_of_file F ≡ Ok v.items)) }
+    ensures stops { IfErr result (StopsOpening ⊤) }
+{
+    let arena = Bump::new(alloc);
+    let file = KnownFile::new(bytes);
+    let source = ReadingSource::new(alloc, &arena, bytes, &file, size);
+    match key_of(alloc, source) {
+        Ok(key) => Ok(key),
+        Err(e) => Err(stop_of_opening(e)),
+    }
+}
+
 /// What an image of this size wants.
 pub fn image_wants<R: ReadAt>(alloc: Global, bytes: &R, size: u64) -> Result<ImageWants, Stop>
-    ensures wants { OfKnown (R.known bytes.now) size (λ F. IfOk result (λ w. wants_there F ≡ Ok (record { key = w.key.items; base = w.base }))) }
+    ensures wants { OfKnown (R.known bytes.now) size (λ F. IfOk result (λ w. wants_there F ≡ Ok (wants_view w))) }
     ensures stopped { OfKnown (R.known bytes.now) size (λ F. StopsAs result (wants_there F)) }
     ensures steady { R.is_steady bytes.now ≡ true → OfKnown (R.known bytes.now) size (λ F. IsErrOf result Stop.Read → ⊥) }
     ensures stops { IfErr result (StopsImage ⊤) }

@@ -1,10 +1,11 @@
 //! What is printed on standard error.
 
 ghost use Rattle.std.specs.Prelude.{◌≡◌, ◌++◌, OnOk};
-ghost use Rattle.tool_program.specs.Messages.{about, other_key};
+ghost use Rattle.tool_program.specs.Messages.{about, no_pdb, other_key};
 
 use crate::file_kind::{FileKind, file_kind, put_kind};
 use crate::host::Host;
+use pdb_paths::file_name;
 use pdb_text::{put_one_line, write_out};
 use std::alloc::{AllocError, Global};
 use std::io::Write;
@@ -12,6 +13,7 @@ use tool_arguments::closest::closest;
 use tool_arguments::messages::{put_mistake, word_at};
 use tool_arguments::mistakes::{Mistake, Wrong};
 use tool_arguments::options::value_in;
+use tool_fields::values::put_behind_blank;
 use tool_output::fault::Fault;
 use tool_output::stop::{Stop, Unopened};
 
@@ -88,7 +90,8 @@ fn put_mistaken(out: &mut Vec<u8>, words: &[String], mistake: Mistake) -> Result
     put_mistake(out, words, mistake, suggested)
 }
 
-/// Appends a fault's lines. That a file isn't the wanted one was printed where it was found.
+/// Appends a fault's lines. That a file isn't the wanted one, and what happened to a file that no argument names, was printed
+/// where it was found.
 fn put_fault<H: Host>(
     host: &H,
     out: &mut Vec<u8>,
@@ -108,7 +111,7 @@ fn put_fault<H: Host>(
             put_stop(out, stop, name, kind_of(host, stop, name))
         }
         Fault::Image(stop, value) => put_stop(out, stop, value_in(words, value), None),
-        Fault::OtherKey => Ok(()),
+        Fault::OtherKey | Fault::Reported(_) => Ok(()),
     }
 }
 
@@ -153,6 +156,42 @@ pub fn report_other_key<E: Write>(
     let mut text = Vec::new(alloc);
     let composed = put_other_key(&mut text, name, key, wanted);
     report(composed, &text, err);
+}
+
+/// Writes that a file is compressed.
+pub fn report_compressed<E: Write>(alloc: Global, name: &str, err: &mut E) {
+    let mut text = Vec::new(alloc);
+    let composed = put_about(&mut text, name, b"is compressed: expand it first");
+    report(composed, &text, err);
+}
+
+/// Appends that the PDB of an image, which has this path and this key, isn't found.
+#[tactic(auto, unfolding(crate::specs::Messages::no_pdb))]
+fn put_no_pdb(out: &mut Vec<u8>, image: &str, path: &[u8], pdb_key: &[u8]) -> Result<(), AllocError>
+    ensures { OnOk result (out.new.items ≡ out.old.items ++ no_pdb image.now path.now pdb_key.now) }
+{
+    let mut text = Vec::new(*out.allocator());
+    text.extend_from_slice(b"its PDB")?;
+    put_behind_blank(&mut text, file_name(path))?;
+    text.extend_from_slice(b" ")?;
+    text.extend_from_slice(pdb_key)?;
+    text.extend_from_slice(b" is not found")?;
+    put_about(out, image, &text)
+}
+
+/// Writes that the PDB of an image, which has this path and this key, isn't found.
+pub fn report_no_pdb<E: Write>(alloc: Global, image: &str, path: &[u8], key: &[u8], err: &mut E) {
+    let mut text = Vec::new(alloc);
+    let composed = put_no_pdb(&mut text, image, path, key);
+    report(composed, &text, err);
+}
+
+/// Writes that the variable with the folders of symbols isn't UTF-8, and isn't used.
+pub fn report_variable<E: Write>(err: &mut E) {
+    let _ = write_out(
+        err,
+        b"pdb_tool: _NT_SYMBOL_PATH: is not UTF-8, and is passed over\n",
+    );
 }
 
 /// Writes that what was printed of a file has an error, and where to look.

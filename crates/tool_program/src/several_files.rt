@@ -17,7 +17,7 @@ use pdb_file::{KnownFile, ReadAt, ReadingSource};
 use std::alloc::Global;
 use std::io::Write;
 use tool_arguments::operands::Operand;
-use tool_arguments::options::OutputFormat;
+use tool_arguments::options::{KeyFormat, OutputFormat};
 use tool_check::checks::check_of;
 use tool_output::each_file::{EachFile, FileText};
 use tool_output::opening::opened;
@@ -27,12 +27,12 @@ use tool_output::stop::Stop;
 #[derive(Drop)]
 pub struct Keys<'h, H> {
     host: &'h H,
-    format: OutputFormat,
+    format: KeyFormat,
 }
 
 impl<'h, H: Host> Keys<'h, H> {
     /// The keys of a host's files, in a format.
-    pub fn new(host: &'h H, format: OutputFormat) -> Self {
+    pub fn new(host: &'h H, format: KeyFormat) -> Self {
         Keys { host, format }
     }
 }

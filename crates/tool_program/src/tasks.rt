@@ -1,24 +1,26 @@
 //! What the program does.
 
-ghost use Rattle.std.specs.Prelude.{◌≡◌};
-ghost use Rattle.tool_program.specs.Tasks.{exit_status, looks_up};
+ghost use Rattle.std.specs.Prelude.{◌≡◌, map};
+ghost use Rattle.tool_arguments.specs.Requests.{address_view};
+ghost use Rattle.tool_program.specs.Tasks.{all_based, exit_status, looks_up};
 
 use crate::file_printing::{answer_file, print_file};
 use crate::host::Host;
 use crate::key_line::image_wants;
-use crate::messages::{report_damage, report_other_key, report_reading};
+use crate::messages::{report_damage, report_other_key, report_reading, report_stop};
+use crate::one_pdb::{OnePdb, one_pdb};
 use crate::several_files::{Checks, Keys};
 use crate::wanted::wanted_key;
-use pdb_file::FileBytes;
 use pdb_text::{CountedWrite, write_out};
 use std::alloc::Global;
 use std::io::{BufRead, Write};
 use tool_arguments::commands::Command;
 use tool_arguments::help::{VERSION, help_text};
 use tool_arguments::list_help::LIST;
+use tool_arguments::mistakes::{Mistake, Wrong};
 use tool_arguments::operands::Operand;
 use tool_arguments::options::{Options, ValueAt, Wanted, value_in};
-use tool_arguments::requests::AddressWord;
+use tool_arguments::requests::{AddressWord, first_needing};
 use tool_arguments::tasks::{FileTask, Task, task_in};
 use tool_output::each_file::print_each_file;
 use tool_output::fault::{Fault, status_of};
@@ -53,12 +55,6 @@ fn looks_up(task: &FileTask<'_>) -> bool
     matches!(task, FileTask::Find(..) | FileTask::Where(..))
 }
 
-/// The bytes of the file that an operand names.
-fn opened<H: Host>(host: &H, name: Operand<'_>) -> Result<FileBytes<H::File>, Fault> {
-    host.open(name)
-        .map_err(|stop| Fault::Stopped(stop, name.argument))
-}
-
 /// What the image wants that the value of an option names.
 fn wants_of_image<H: Host>(
     host: &H,
@@ -74,7 +70,7 @@ fn wants_of_image<H: Host>(
     let wants = image_wants(host.alloc(), &image, image.size())?;
     Ok(Wants {
         key: Some(wants.key),
-        options: options.with_base_of(wants.base),
+        options: options.with_base_of(wants.base, wants.size),
     })
 }
 
@@ -95,45 +91,91 @@ fn wants_of<H: Host>(host: &H, options: Options, words: &[String]) -> Result<Wan
     }
 }
 
+/// Why the program fails where a command stopped over a PDB. That it can't be read is reported here, if no argument names it.
+fn fault_over<H: Host, E: Write>(
+    host: &H,
+    stop: Stop,
+    own_path: Option<&str>,
+    name: Operand<'_>,
+    err: &mut E,
+) -> Fault {
+    match (own_path, stop) {
+        (Some(path), Stop::Read | Stop::Open(_)) => {
+            report_stop(host, stop, path, err);
+            Fault::Reported(stop)
+        }
+        _ => Fault::Stopped(stop, name.argument),
+    }
+}
+
 /// Whether a text was printed. That what was read for it has an error is reported, unless it can't be printed; and that the
-/// file isn't the wanted one.
-fn printed_or_other<E: Write>(
-    alloc: Global,
+/// file isn't the wanted one. `own_path` is the path of a PDB that no argument names.
+fn printed_or_other<H: Host, E: Write>(
+    host: &H,
     printed: Result<Option<Vec<u8>>, Stop>,
     is_damaged: bool,
+    own_path: Option<&str>,
     name: Operand<'_>,
     wanted: Option<&[u8]>,
     err: &mut E,
 ) -> IsWell {
+    let path = own_path.unwrap_or(name.word);
     if is_damaged && !matches!(printed, Err(Stop::Write)) {
-        report_damage(alloc, name.word, err);
+        report_damage(host.alloc(), path, err);
     }
     match printed {
         Ok(None) => Ok(true),
         Ok(Some(key)) => {
-            report_other_key(alloc, name.word, &key, wanted.unwrap_or(&[]), err);
+            report_other_key(host.alloc(), path, &key, wanted.unwrap_or(&[]), err);
             Err(Fault::OtherKey)
         }
-        Err(stop) => Err(Fault::Stopped(stop, name.argument)),
+        Err(stop) => Err(fault_over(host, stop, own_path, name, err)),
     }
 }
 
-/// Prints what is asked for of the file that an operand names, if it is the wanted one.
+/// Prints what is asked for of a PDB, if it is the wanted one. An operand names it or its image.
 fn print_of<H: Host, I: BufRead, W: CountedWrite, E: Write>(
     host: &H,
+    file: &OnePdb<H::File>,
     name: Operand<'_>,
     wanted: Option<&[u8]>,
     task: &FileTask<'_>,
     streams: &mut StandardStreams<'_, I, W, E>,
 ) -> IsWell {
-    let alloc = host.alloc();
-    let bytes = opened(host, name)?;
     let mut out = Printout::new(streams.out);
-    let printed = print_file(alloc, &bytes, bytes.size(), wanted, task, &mut out);
+    let printed = print_file(
+        host.alloc(),
+        &file.bytes,
+        file.bytes.size(),
+        wanted,
+        task,
+        &mut out,
+    );
     let is_well = out.has_text() || !looks_up(task);
     let is_damaged = out.is_damaged();
-    printed_or_other(alloc, printed, is_damaged, name, wanted, streams.err)?;
+    printed_or_other(
+        host,
+        printed,
+        is_damaged,
+        file.own_path(),
+        name,
+        wanted,
+        streams.err,
+    )?;
     Ok(is_well)
+}
+
+/// That no address needs a load address which isn't known.
+fn all_based(options: Options, addresses: &[AddressWord<'_>]) -> Result<(), Mistake>
+    ensures { result ≡ all_based options (map address_view addresses.now) }
+{
+    match first_needing(options, addresses) {
+        Some(argument) => Err(Mistake {
+            argument,
+            wrong: Wrong::NeedsBase,
+        }),
+        None => Ok(()),
+    }
 }
 
 /// Prints the code at addresses.
@@ -146,8 +188,11 @@ fn print_code<H: Host, I: BufRead, W: CountedWrite, E: Write>(
     streams: &mut StandardStreams<'_, I, W, E>,
 ) -> IsWell {
     let wants = wants_of(host, options, words)?;
-    let task = FileTask::Code(wants.options, addresses);
-    print_of(host, name, wants.key.as_deref(), &task, streams)
+    let file = one_pdb(host, name, words, streams.err)?;
+    let options = file.options(wants.options);
+    all_based(options, &addresses).map_err(Fault::Mistaken)?;
+    let task = FileTask::Code(options, addresses);
+    print_of(host, &file, name, wants.key.as_deref(), &task, streams)
 }
 
 /// Prints the code at the addresses that the lines of standard input are.
@@ -161,7 +206,7 @@ fn answer_input<H: Host, I: BufRead, W: CountedWrite, E: Write>(
     let alloc = host.alloc();
     let has_input = host.has_input();
     let wants = wants_of(host, options, words)?;
-    let bytes = opened(host, name)?;
+    let file = one_pdb(host, name, words, streams.err)?;
     if !has_input {
         return Err(Fault::NoInput);
     }
@@ -172,15 +217,16 @@ fn answer_input<H: Host, I: BufRead, W: CountedWrite, E: Write>(
     let mut out = Printout::new(streams.out);
     let printed = answer_file(
         alloc,
-        &bytes,
-        bytes.size(),
+        &file.bytes,
+        file.bytes.size(),
         key,
-        wants.options,
+        file.options(wants.options),
         streams.input,
         &mut out,
     );
     let is_damaged = out.is_damaged();
-    printed_or_other(alloc, printed, is_damaged, name, key, streams.err)
+    let own_path = file.own_path();
+    printed_or_other(host, printed, is_damaged, own_path, name, key, streams.err)
 }
 
 /// That what is looked up is UTF-8.
@@ -232,7 +278,8 @@ pub fn run<H: Host, I: BufRead, W: CountedWrite, E: Write>(
         Task::ResolveLines(options, file) => answer_input(host, options, file, words, streams),
         Task::File(file, task) => {
             all_text(host, file, &task)?;
-            print_of(host, file, None, &task, streams)
+            let pdb = one_pdb(host, file, words, streams.err)?;
+            print_of(host, &pdb, file, None, &task, streams)
         }
     }
 }

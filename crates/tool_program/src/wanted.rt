@@ -6,7 +6,7 @@ ghost use Rattle.pdb.specs.Error.{Error};
 ghost use Rattle.pdb.specs.Source.{Continues, MayFail};
 ghost use Rattle.tool_output.specs.Stops.{StopsOpening};
 ghost use Rattle.tool_output.specs.declared.stop.Stop.{Stop};
-ghost use Rattle.tool_program.specs.Wanted.{StopsImage, other_key as other_key_of, other_than, wanted_key, wants_in as wants_there};
+ghost use Rattle.tool_program.specs.Wanted.{StopsImage, other_key as other_key_of, other_than, wanted_key, wants_in as wants_there, wants_view};
 
 use pdb::{PDB, Source, key_in, key_text};
 use pdb_image::Image;
@@ -14,13 +14,17 @@ use std::alloc::{AllocError, Global};
 use tool_arguments::options::is_key_digit;
 use tool_output::stop::{Stop, stop_of_opening};
 
-/// The key of the PDB that an image names, and the image's load address.
+/// The PDB that an image names, and where the image's code is.
 #[derive(Drop)]
 pub struct ImageWants {
-    /// The key, as the line of a PDB has it.
+    /// The key of the PDB, as the line of a PDB has it.
     pub key: Vec<u8>,
+    /// The path of the PDB, as the linker wrote it.
+    pub path: Vec<u8>,
     /// The load address.
     pub base: u64,
+    /// The size of the image in memory.
+    pub size: u32,
 }
 
 /// The key that a value of `--key` spells: its hex digits, the letters as upper ones.
@@ -38,7 +42,7 @@ pub fn wanted_key(alloc: Global, value: &str) -> Result<Vec<u8>, AllocError>
 
 /// What an image wants, by its bytes.
 pub fn wants_in(alloc: Global, bytes: &[u8]) -> Result<ImageWants, Stop>
-    ensures wants { IfOk result (λ w. wants_there bytes.now ≡ Ok (record { key = w.key.items; base = w.base })) }
+    ensures wants { IfOk result (λ w. wants_there bytes.now ≡ Ok (wants_view w)) }
     ensures stopped { (s : Stop) → s ≢ Stop.Memory → IsErrOf result s → wants_there bytes.now ≡ Err s }
     ensures stops { IfErr result (StopsImage ⊥) }
 {
@@ -49,10 +53,11 @@ pub fn wants_in(alloc: Global, bytes: &[u8]) -> Result<ImageWants, Stop>
     let Some(pdb) = image.pdb else {
         return Err(Stop::NoPdb);
     };
-    let key = key_text(alloc, &pdb.guid, pdb.age)?;
     Ok(ImageWants {
-        key,
+        key: key_text(alloc, &pdb.guid, pdb.age)?,
+        path: Vec::from_slice(alloc, pdb.path)?,
         base: image.base,
+        size: image.size,
     })
 }
 

@@ -41,7 +41,7 @@ fn files_that_are_no_pdb(rt: HostRuntime) -> Result<(), Fail> {
         (
             "image",
             4,
-            "pdb_tool: image: this is no PDB file of the format MSF 7.00: it is an image (EXE or DLL), which key and resolve --image=IMAGE read\n",
+            "pdb_tool: image: the data ends before a record does\n",
         ),
         (
             "empty",
@@ -63,9 +63,12 @@ fn files_that_are_no_pdb(rt: HostRuntime) -> Result<(), Fail> {
     for (name, status, wanted) in rows {
         fails(&rt, &host, &["lines", name], status, wanted)?;
     }
+    let wanted =
+        "pdb_tool: image: this is no PDB file of the format MSF 7.00: it is an image (EXE or DLL)\n";
+    fails(&rt, &host, &["check", "image"], 1, wanted)?;
     let piped = one(rt.alloc(), &FILES, true);
     let wanted = "pdb_tool: image: this is no PDB file of the format MSF 7.00\n";
-    fails(&rt, &piped, &["lines", "image"], 4, wanted)
+    fails(&rt, &piped, &["check", "image"], 1, wanted)
 }
 
 #[test]

@@ -10,6 +10,7 @@ mod files;
 mod findings;
 mod forms;
 mod found_objects;
+mod image_pdb;
 mod imports;
 mod kept_ends;
 mod kinds;

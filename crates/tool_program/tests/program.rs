@@ -6,7 +6,7 @@ use crate::tasks::{StandardStreams, run};
 use crate::tests::fakes::is;
 use pdb_file::{FileBytes, ReadAt};
 use pdb_text::CountedWriter;
-use std::alloc::Global;
+use std::alloc::{AllocError, Global};
 use std::io::{self, ErrorKind};
 use std::process::Abort;
 use std::test::Fail;
@@ -54,6 +54,8 @@ pub struct Fakes<'a> {
     pub not_text: &'a [usize],
     pub has_input: bool,
     pub is_asked_by_hand: bool,
+    /// The value of `_NT_SYMBOL_PATH`.
+    pub variable: Option<&'a [u8]>,
 }
 
 impl<'a> Fakes<'a> {
@@ -85,12 +87,29 @@ impl<'a> Host for Fakes<'a> {
         if self.not_text.contains(&name.argument) {
             return Err(Stop::Unopened(Unopened::NotText));
         }
-        match self.bytes_of(name.word) {
+        self.open_path(name.word)
+    }
+
+    fn open_path(&self, path: &str) -> Result<FileBytes<Pieces<'a>>, Stop> {
+        match self.bytes_of(path) {
+            // A file without bytes stands for one that nobody may read.
+            Some(b"") if path.starts_with("denied") => Err(Stop::Unopened(Unopened::Denied)),
             Some(bytes) if self.is_whole => {
                 Ok(FileBytes::Whole(Vec::from_slice(self.alloc, bytes)?))
             }
             Some(bytes) => Ok(FileBytes::InParts(Pieces { bytes }, bytes.len() as u64)),
             None => Err(Stop::Unopened(Unopened::Missing)),
+        }
+    }
+
+    fn is_file(&self, path: &str) -> bool {
+        self.bytes_of(path).is_some()
+    }
+
+    fn symbol_path(&self) -> Result<Option<Vec<u8>>, AllocError> {
+        match self.variable {
+            Some(value) => Ok(Some(Vec::from_slice(self.alloc, value)?)),
+            None => Ok(None),
         }
     }
 
@@ -154,6 +173,7 @@ pub fn one<'a>(alloc: Global, files: &'a [(&'a str, &'a [u8])], is_whole: bool) 
         not_text: &[],
         has_input: true,
         is_asked_by_hand: false,
+        variable: None,
     }
 }
 

@@ -9,24 +9,24 @@ use pdb::Error;
 use pdb_image::ImageError;
 use std::alloc::{AllocError, Global};
 use std::test::Fail;
-use tool_arguments::options::{Options, OutputFormat, ValueAt};
+use tool_arguments::options::{KeyFormat, Options, ValueAt};
 use tool_output::fault::Fault;
 use tool_output::stop::{Stop, Unopened};
 
 /// Puts a number of four bytes at an offset, least byte first.
-fn put(bytes: &mut Vec<u8>, at: usize, number: u32) {
+pub fn put(bytes: &mut Vec<u8>, at: usize, number: u32) {
     put_bytes(bytes, at, &number.to_le_bytes());
 }
 
 /// Puts bytes at an offset.
-fn put_bytes(bytes: &mut Vec<u8>, at: usize, part: &[u8]) {
+pub fn put_bytes(bytes: &mut Vec<u8>, at: usize, part: &[u8]) {
     for (place, byte) in bytes.iter_mut().skip(at).zip(part) {
         *place = *byte;
     }
 }
 
 /// An image of 354 bytes.
-fn image(alloc: Global) -> Result<Vec<u8>, AllocError> {
+pub fn image(alloc: Global) -> Result<Vec<u8>, AllocError> {
     let mut bytes = vec![in alloc; 0u8; 354]?;
     put_bytes(&mut bytes, 0, b"MZ");
     put(&mut bytes, 60, 64);
@@ -59,7 +59,7 @@ fn image(alloc: Global) -> Result<Vec<u8>, AllocError> {
 const KEY: &[u8] = b"030201000504070608090A0B0C0D0E0F1";
 
 /// A PDB with the GUID of the image's, and this age.
-fn pdb(alloc: Global, age: u8) -> Result<Vec<u8>, AllocError> {
+pub fn pdb(alloc: Global, age: u8) -> Result<Vec<u8>, AllocError> {
     let mut information = vec![in alloc; 0u8; 40]?;
     put(&mut information, 0, 20000404);
     put(&mut information, 8, 7);
@@ -85,12 +85,7 @@ fn pdb(alloc: Global, age: u8) -> Result<Vec<u8>, AllocError> {
 }
 
 /// The line of these bytes, which lie in memory.
-fn line_of(
-    alloc: Global,
-    format: OutputFormat,
-    bytes: &[u8],
-    name: &[u8],
-) -> Result<Vec<u8>, Stop> {
+fn line_of(alloc: Global, format: KeyFormat, bytes: &[u8], name: &[u8]) -> Result<Vec<u8>, Stop> {
     let bytes = Vec::from_slice(alloc, bytes)?;
     key_line(alloc, format, &bytes, bytes.len() as u64, name)
 }
@@ -100,25 +95,25 @@ fn lines_of_images(rt: HostRuntime) -> Result<(), Fail> {
     let alloc = rt.alloc();
     let mut bytes = image(alloc)?;
     let line = b"112233443000 x.exe 030201000504070608090A0B0C0D0E0F1 a.pdb\n".as_slice();
-    let given = line_of(alloc, OutputFormat::Text, &bytes, b"x.exe")
+    let given = line_of(alloc, KeyFormat::Names, &bytes, b"x.exe")
         .ok()
         .expect(&rt, "line");
     is(&rt, "line", &given.as_slice(), &line);
     let object =
         b"{\"key\":\"112233443000\",\"file\":\"x.exe\",\"pdb_key\":\"030201000504070608090A0B0C0D0E0F1\",\"pdb\":\"a.pdb\"}\n".as_slice();
-    let given = line_of(alloc, OutputFormat::Json, &bytes, b"x.exe")
+    let given = line_of(alloc, KeyFormat::Json, &bytes, b"x.exe")
         .ok()
         .expect(&rt, "object");
     is(&rt, "object", &given.as_slice(), &object);
     for size in 2..354 {
-        let given = line_of(alloc, OutputFormat::Text, &bytes[..size], b"x.exe");
+        let given = line_of(alloc, KeyFormat::Names, &bytes[..size], b"x.exe");
         let wanted = Err(Stop::Image(ImageError::UnexpectedEof));
         is(&rt, "cut", &given, &wanted);
     }
     put(&mut bytes, 72, 0xabcdef);
     put(&mut bytes, 144, 0xABC000);
     put(&mut bytes, 308, 16);
-    let given = line_of(alloc, OutputFormat::Text, &bytes, b"x.exe")
+    let given = line_of(alloc, KeyFormat::Names, &bytes, b"x.exe")
         .ok()
         .expect(&rt, "line");
     is(
@@ -129,7 +124,7 @@ fn lines_of_images(rt: HostRuntime) -> Result<(), Fail> {
     );
     let object =
         b"{\"key\":\"00ABCDEFabc000\",\"file\":\"x.exe\",\"pdb_key\":null,\"pdb\":null}\n".as_slice();
-    let given = line_of(alloc, OutputFormat::Json, &bytes, b"x.exe")
+    let given = line_of(alloc, KeyFormat::Json, &bytes, b"x.exe")
         .ok()
         .expect(&rt, "object");
     is(&rt, "object", &given.as_slice(), &object);
@@ -148,24 +143,24 @@ fn a_line_end_in_a_path_is_a_blank(rt: HostRuntime) -> Result<(), Fail> {
     let mut bytes = image(alloc)?;
     put_bytes(&mut bytes, 348, b"a\r\ndb");
     let line = b"112233443000 x 030201000504070608090A0B0C0D0E0F1 a  db\n".as_slice();
-    let given = line_of(alloc, OutputFormat::Text, &bytes, b"x")
+    let given = line_of(alloc, KeyFormat::Names, &bytes, b"x")
         .ok()
         .expect(&rt, "line");
     is(&rt, "line", &given.as_slice(), &line);
     let line = b"112233443000 x y 030201000504070608090A0B0C0D0E0F1 a  db\n".as_slice();
-    let given = line_of(alloc, OutputFormat::Text, &bytes, b"x\ny")
+    let given = line_of(alloc, KeyFormat::Names, &bytes, b"x\ny")
         .ok()
         .expect(&rt, "line");
     is(&rt, "a name's", &given.as_slice(), &line);
     put_bytes(&mut bytes, 348, b"\0");
     let line = b"112233443000 x 030201000504070608090A0B0C0D0E0F1\n".as_slice();
-    let given = line_of(alloc, OutputFormat::Text, &bytes, b"x")
+    let given = line_of(alloc, KeyFormat::Names, &bytes, b"x")
         .ok()
         .expect(&rt, "line");
     is(&rt, "no path", &given.as_slice(), &line);
     let bytes = pdb(alloc, 1)?;
     let line = b"030201000504070608090A0B0C0D0E0F1 a  .pdb\n".as_slice();
-    let given = line_of(alloc, OutputFormat::Text, &bytes, b"a\r\n.pdb")
+    let given = line_of(alloc, KeyFormat::Names, &bytes, b"a\r\n.pdb")
         .ok()
         .expect(&rt, "line");
     is(&rt, "a PDB's", &given.as_slice(), &line);
@@ -177,13 +172,13 @@ fn lines_of_pdbs(rt: HostRuntime) -> Result<(), Fail> {
     let alloc = rt.alloc();
     let bytes = pdb(alloc, 1)?;
     let line = b"030201000504070608090A0B0C0D0E0F1 a.pdb\n".as_slice();
-    let given = line_of(alloc, OutputFormat::Text, &bytes, b"a.pdb")
+    let given = line_of(alloc, KeyFormat::Names, &bytes, b"a.pdb")
         .ok()
         .expect(&rt, "line");
     is(&rt, "line", &given.as_slice(), &line);
     let object =
         b"{\"key\":\"030201000504070608090A0B0C0D0E0F1\",\"file\":\"a\\\\b.pdb\"}\n".as_slice();
-    let given = line_of(alloc, OutputFormat::Json, &bytes, b"a\\b.pdb")
+    let given = line_of(alloc, KeyFormat::Json, &bytes, b"a\\b.pdb")
         .ok()
         .expect(&rt, "object");
     is(&rt, "object", &given.as_slice(), &object);
@@ -192,7 +187,7 @@ fn lines_of_pdbs(rt: HostRuntime) -> Result<(), Fail> {
         is(
             &rt,
             "no file",
-            &line_of(alloc, OutputFormat::Text, bytes, b"a").map(|_| ()),
+            &line_of(alloc, KeyFormat::Names, bytes, b"a").map(|_| ()),
             &refused,
         );
     }
@@ -207,6 +202,8 @@ fn what_is_wanted(rt: HostRuntime) -> Result<(), Fail> {
     let wants = wants_in(alloc, &image(alloc)?).ok().expect(&rt, "wants");
     is(&rt, "its key", &wants.key.as_slice(), &KEY);
     is(&rt, "base", &wants.base, &0x1_4000_0000);
+    is(&rt, "size", &wants.size, &0x3000);
+    is(&rt, "path", &wants.path.as_slice(), &b"a.pdb".as_slice());
     let refused = wants_in(alloc, &pdb(alloc, 1)?).err();
     is(
         &rt,
@@ -218,11 +215,11 @@ fn what_is_wanted(rt: HostRuntime) -> Result<(), Fail> {
         base: Some(7),
         ..Options::default()
     };
-    is(&rt, "given", &given.with_base_of(9).base, &Some(7));
+    is(&rt, "given", &given.with_base_of(9, 1).base, &Some(7));
     is(
         &rt,
         "own",
-        &Options::default().with_base_of(9).base,
+        &Options::default().with_base_of(9, 1).base,
         &Some(9),
     );
     Ok(())

@@ -7,5 +7,5 @@ use Rattle.tool_arguments.proofs.operands.all_addresses.Given as goal
 -- what all operands are is what those so far are, and then the others
 abbrev pub invariant-loop-operand : goal.invariant-loop-operand
 invariant-loop-operand l = record {
-  judged : all_in (address_in l.options) (map operand_view l.operands) ≡ behind (map address_view l.all.items) (all_in (address_in l.options) (map operand_view (drop l.operand-index l.operands)));
+  judged : all_in address_in (map operand_view l.operands) ≡ behind (map address_view l.all.items) (all_in address_in (map operand_view (drop l.operand-index l.operands)));
 }
