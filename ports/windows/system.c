@@ -2,7 +2,7 @@
  *
  * Nothing here is proved. Each function keeps what the proofs state of the function of its name: its result, and on an error
  * -1 and Linux's number of the error. linux_read, linux_write and linux_pread return how many bytes were read or written,
- * which may be fewer than wanted; 0 bytes are the end of the file. Files are read-only. There is one thread.
+ * which may be fewer than wanted; 0 bytes are the end of the file. A file is read-only unless it is new. There is one thread.
  */
 #include <cpuid.h>
 #include <stddef.h>
@@ -14,10 +14,11 @@
 
 /* Linux's numbers, by which the module was made. */
 enum {
-    NO_ENTRY = 2, IO_ERROR = 5, BAD_FILE = 9, NO_MEMORY = 12, NO_ACCESS = 13, IS_DIRECTORY = 21, INVALID = 22,
+    NO_ENTRY = 2, IO_ERROR = 5, BAD_FILE = 9, NO_MEMORY = 12, NO_ACCESS = 13, EXISTS = 17, IS_DIRECTORY = 21, INVALID = 22,
     TOO_MANY_FILES = 24, NOT_A_TERMINAL = 25, NO_SPACE = 28, NOT_SEEKABLE = 29, BROKEN_PIPE = 32, NAME_TOO_LONG = 36,
     NOT_IMPLEMENTED = 38, BAD_NAME = 84
 };
+enum { READ_WRITE = 2, CREATE = 0x40, EXCLUSIVE = 0x80, NEW = READ_WRITE | CREATE | EXCLUSIVE };
 enum { NO_CONTROLLING_TERMINAL = 0x100, CLOSE_ON_EXEC = 0x80000, EMPTY_PATH = 0x1000, MOST_FILES = 64 };
 
 static int error_number;
@@ -36,6 +37,7 @@ static int64_t fails_as_windows(void) {
     case ERROR_FILE_NOT_FOUND: case ERROR_PATH_NOT_FOUND: case ERROR_INVALID_NAME: case ERROR_BAD_NETPATH:
     case ERROR_INVALID_DRIVE: return fails(NO_ENTRY);
     case ERROR_ACCESS_DENIED: case ERROR_SHARING_VIOLATION: case ERROR_LOCK_VIOLATION: return fails(NO_ACCESS);
+    case ERROR_ALREADY_EXISTS: case ERROR_FILE_EXISTS: return fails(EXISTS);
     case ERROR_NOT_ENOUGH_MEMORY: case ERROR_OUTOFMEMORY: return fails(NO_MEMORY);
     case ERROR_BROKEN_PIPE: case ERROR_NO_DATA: case ERROR_PIPE_NOT_CONNECTED: return fails(BROKEN_PIPE);
     case ERROR_DISK_FULL: case ERROR_HANDLE_DISK_FULL: return fails(NO_SPACE);
@@ -162,17 +164,19 @@ static wchar_t *wide_name(const char *name) {
     return wide;
 }
 
-/* Opens a file or a directory for reading; any further flag is an error. */
+/* Opens a file or a directory for reading, or a new file for writing too; any further flag is an error. */
 int32_t linux_open(const char *name, int32_t flags, ...) {
     int32_t number = 3;
-    if (flags & ~(NO_CONTROLLING_TERMINAL | CLOSE_ON_EXEC)) return (int32_t)fails(INVALID);
+    int is_new = (flags & NEW) == NEW;
+    if (flags & ~(NO_CONTROLLING_TERMINAL | CLOSE_ON_EXEC | (is_new ? NEW : 0))) return (int32_t)fails(INVALID);
     if (!*name) return (int32_t)fails(NO_ENTRY);
     while (number < MOST_FILES && files[number].handle) number++;
     if (number == MOST_FILES) return (int32_t)fails(TOO_MANY_FILES);
     wchar_t *wide = wide_name(name);
     if (!wide) return -1;
-    HANDLE handle = CreateFileW(wide, GENERIC_READ, FILE_SHARE_READ | FILE_SHARE_WRITE | FILE_SHARE_DELETE, NULL,
-                                OPEN_EXISTING, FILE_FLAG_BACKUP_SEMANTICS, NULL);
+    HANDLE handle = CreateFileW(wide, is_new ? GENERIC_READ | GENERIC_WRITE : GENERIC_READ,
+                                FILE_SHARE_READ | FILE_SHARE_WRITE | FILE_SHARE_DELETE, NULL,
+                                is_new ? CREATE_NEW : OPEN_EXISTING, FILE_FLAG_BACKUP_SEMANTICS, NULL);
     DWORD why = GetLastError();
     free(wide);
     SetLastError(why);
@@ -243,6 +247,50 @@ int64_t linux_lseek(int32_t number, int64_t by, int32_t from) {
     int64_t base = from == START ? 0 : from == HERE ? file->offset : size.QuadPart;
     if (by < 0 ? base < -by : by > INT64_MAX - base) return fails(INVALID);
     return file->offset = base + by;
+}
+
+/* What stands on the disk when the program ends; of a directory Windows refuses it. */
+int32_t linux_fsync(int32_t number) {
+    struct file *file = file_of(number);
+    if (!file) return (int32_t)fails(BAD_FILE);
+    return FlushFileBuffers(file->handle) ? 0 : (int32_t)fails_as_windows();
+}
+
+/* Calls a function of Windows on a name. */
+static int32_t on_name(const char *name, BOOL (*call)(const wchar_t *)) {
+    wchar_t *wide = wide_name(name);
+    if (!wide) return -1;
+    BOOL done = call(wide);
+    DWORD why = GetLastError();
+    free(wide);
+    SetLastError(why);
+    return done ? 0 : (int32_t)fails_as_windows();
+}
+
+static BOOL make_directory(const wchar_t *wide) { return CreateDirectoryW(wide, NULL); }
+
+static BOOL delete_file(const wchar_t *wide) { return DeleteFileW(wide); }
+
+int32_t linux_mkdir(const char *name, uint32_t mode) {
+    (void)mode;
+    return on_name(name, make_directory);
+}
+
+int32_t linux_unlink(const char *name) { return on_name(name, delete_file); }
+
+/* Gives a file another name; a file that has it is replaced. */
+int32_t linux_rename(const char *from, const char *to) {
+    wchar_t *old = wide_name(from);
+    if (!old) return -1;
+    wchar_t *new = wide_name(to);
+    BOOL done = new && MoveFileExW(old, new, MOVEFILE_REPLACE_EXISTING);
+    DWORD why = GetLastError();
+    int has_name = new != NULL;
+    free(old);
+    free(new);
+    SetLastError(why);
+    if (done) return 0;
+    return has_name ? (int32_t)fails_as_windows() : -1;
 }
 
 int32_t linux_isatty(int32_t number) {

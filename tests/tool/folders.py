@@ -20,7 +20,9 @@ COMMANDS = {
     "sources": [],
     "modules": [],
     "sections": [],
+    "frames": [],
     "streams": [],
+    "stream": ["1"],
 }
 
 

@@ -107,6 +107,16 @@ def key_text(it):
     return f"{it['key']} {it['file']}{pdb}"
 
 
+FRAME_DATA = ["rva", "size", "kind", "locals", "params", "saved", "prolog", "max", "seh", "eh", "start", "bp", "program"]
+
+
+def frame_text(it):
+    sizes = "".join(f" {name}={it[name]}" for name in ("locals", "params", "saved", "prolog", "max"))
+    flags = "".join(f" {name}" for name in ("seh", "eh", "start", "bp") if it[name])
+    program_of_it = "" if it["kind"] != "framedata" else " ??" if it["program"] is None else behind_blank(it["program"])
+    return f"{it['rva']:#x} {it['size']} {it['kind']}{sizes}{flags}{program_of_it}"
+
+
 # The members that the objects of each command have, and what follows from one.
 KINDS = {
     "resolve": (["asked", "frames"], asked_text),
@@ -116,6 +126,7 @@ KINDS = {
     "check": (["file", "where", "text"], check_text),
     "modules": (["module", "bytes", "name", "object"], module_text),
     "sections": (["section", "rva", "size", "flags", "name"], section_text),
+    "frames": (FRAME_DATA, frame_text),
     "streams": (["stream", "size", "what"], stream_text),
     "key": (["key", "file"], key_text),
 }
@@ -202,7 +213,7 @@ def objects_of_the_sample(sample):
     for command, text in LISTS.items():
         text = text % sample.encode() if b"%s" in text else text
         compare(f"objects of {command}", (int(command == "check"), text, b""), command, "--json", sample)
-    for command in "modules", "sections", "streams", "key", "sources", "check":
+    for command in "modules", "sections", "frames", "streams", "key", "sources", "check":
         same(f"{command} of the sample", command, sample)
     compare("objects of find", (0, FOUND, b""), "find", sample, "*", "--json")
     compare("objects of where", (0, LINES, b""), "where", "--json", sample, "A.C")
@@ -218,7 +229,7 @@ def objects_of_the_sample(sample):
 def objects_of_real_files():
     for name in REAL:
         file = f"{FILES}/{name}.pdb"
-        count = sum(same(f"{command} of {name}", command, file) for command in ("modules", "sections", "streams", "key", "sources", "check"))
+        count = sum(same(f"{command} of {name}", command, file) for command in ("modules", "sections", "frames", "streams", "key", "sources", "check"))
         tell(count > 3, f"{name} has objects", count)
         tell(same(f"names of {name}", "find", file, "*") > 3, f"{name} has names")
         same(f"sources of modules of {name}", "sources", file, "1", "0", "77")
@@ -240,7 +251,7 @@ def objects_of_damaged_files(room):
         path = f"{room}/damaged.pdb"
         with open(path, "wb") as it:
             it.write(data)
-        for command in "modules", "sections", "streams", "key", "sources", "check":
+        for command in "modules", "sections", "frames", "streams", "key", "sources", "check":
             same(f"{command} of damaged file {number}", command, path)
         same(f"names of damaged file {number}", "find", path, "*")
         same(f"lines of a source file of damaged file {number}", "where", path, "main.cpp", "tour.h", "dll.c", "tour.c")

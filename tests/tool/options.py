@@ -25,12 +25,14 @@ COMMANDS = {
     "sources": (["--symbols", "--json"], ["0"]),
     "modules": (["--symbols", "--json"], []),
     "sections": (["--symbols", "--json"], []),
+    "frames": (["--symbols", "--json"], []),
     "streams": (["--symbols", "--json"], []),
+    "stream": (["--symbols"], ["1"]),
     "key": (["--path", "--json"], []),
     "check": (["--json"], []),
 }
 VALUES = {"--base": "0", "--key": KEY, "--image": "/nowhere", "--symbols": "/nowhere"}
-LACKS = {"find": b"NAME is missing", "where": b"SOURCE is missing"}
+LACKS = {"find": b"NAME is missing", "where": b"SOURCE is missing", "stream": b"STREAM is missing"}
 
 
 def spelled(option):
@@ -65,13 +67,13 @@ def options_of_a_command(sample, command):
     compare(f"{command} without a file", wrong(b"FILE is missing", usage), command)
     compare(f"{command} of nothing behind --", wrong(b"FILE is missing", usage), command, "--")
     if command in LACKS:
-        compare(f"{command} of a file alone", wrong(LACKS[command], usage), command, "--json", sample)
+        compare(f"{command} of a file alone", wrong(LACKS[command], usage), command, "--symbols=x", sample)
 
 
 def options_anywhere(sample, room):
     for command in COMMANDS:
         options_of_a_command(sample, command)
-    for command in "modules", "sections", "streams":
+    for command in "modules", "sections", "frames", "streams":
         compare(f"{command} of two files", wrong(f"{command} takes one FILE, and not -".encode(), usage_of(command)), command, sample, "-")
     usage = usage_of("resolve")
     for first, second in (["--key", KEY], ["--image=x"]), (["--image", "x"], [f"--key={KEY}"]):

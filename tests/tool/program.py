@@ -45,7 +45,7 @@ def stored(name):
         return it.read()
 
 
-COMMANDS = b"resolve variables find where lines scopes symbols types sources modules sections streams key check help version"
+COMMANDS = b"resolve variables find where lines scopes symbols types sources modules sections frames streams stream key store check help version"
 NO_ADDRESS = b"'%s' is not an address: write 1108, 0x1108 or 1:108; find prints the addresses of names"
 NO_MODULE = b"'%s' is not the index of a module: pdb_tool modules FILE lists them"
 NO_TYPE = b"'%s' is not the index of a type: write HEX, as in 1000"

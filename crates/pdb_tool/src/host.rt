@@ -2,15 +2,16 @@
 
 use pdb_file::{FileBytes, ReadAt, bytes_of, size_of};
 use std::alloc::{AllocError, Global};
-use std::fs::{self, File};
-use std::io::{self, ErrorKind};
+use std::fs::{self, File, OpenFile};
+use std::io::{self, ErrorKind, Write};
 use std::os::fd::AsRawFd;
 use std::rt::{Env, Files};
 use tool_arguments::arguments::variable_of;
 use tool_arguments::operands::Operand;
 use tool_output::stop::{Stop, Unopened};
 use tool_program::file_kind::FRONT_SIZE;
-use tool_program::host::Host;
+use tool_program::host::{Host, Unstored};
+use tool_program::store_paths::folder_of;
 
 /// The machine, and which arguments aren't UTF-8.
 #[derive(Drop)]
@@ -56,6 +57,58 @@ fn open_named(rt: &impl Files<File = File>, name: &str) -> Result<File, Stop> {
     }
 }
 
+/// How many bytes of a file are copied at once.
+const BLOCK: usize = 65536;
+
+/// How many names a file has before it is whole.
+const PART_NAMES: u32 = 100;
+
+/// That a file can't be written.
+fn unwritten(e: &io::Error) -> Unstored {
+    Unstored::Unwritten(unopened_by(e))
+}
+
+/// A new file beside a path, and its path: the first of a hundred names that isn't there.
+fn new_part(
+    rt: &(impl Files<File = File> + AllocGlobal),
+    path: &str,
+) -> Result<(String, File), Unstored> {
+    for k in 0..PART_NAMES {
+        let part = format!(in rt.alloc(); "{path}.{k}.part")?;
+        match File::create_new(rt, part.as_str()) {
+            Ok(file) => return Ok((part, file)),
+            Err(e) if e.kind() == ErrorKind::AlreadyExists => {}
+            Err(e) => return Err(unwritten(&e)),
+        }
+    }
+    Err(Unstored::Unwritten(Unopened::Other))
+}
+
+/// Copies all bytes to a file, has the disk keep them, and closes it.
+fn copy_to(alloc: Global, bytes: &FileBytes<File>, mut file: File) -> Result<(), Unstored> {
+    let mut block = Vec::new(alloc);
+    block.resize(BLOCK, 0)?;
+    let mut at = 0;
+    while at < bytes.size() {
+        match bytes.read_bytes_at(&mut block, at) {
+            Ok(0) | Err(_) => return Err(Unstored::Unread),
+            Ok(count) => {
+                file.write_all(&block[..count]).map_err(|e| unwritten(&e))?;
+                at += count as u64;
+            }
+        }
+    }
+    file.sync_all().map_err(|e| unwritten(&e))
+}
+
+/// Has the disk keep the names in a folder. A system that can't is none that stops the program.
+fn keep_names(rt: &impl Files<File = File>, folder: &str) {
+    let folder = if folder.is_empty() { "." } else { folder };
+    if let Ok(file) = fs::open(rt, folder) {
+        let _ = file.sync_all();
+    }
+}
+
 impl<'a, R: Files<File = File> + Env + AllocGlobal> Machine<'a, R> {
     /// The machine, where the arguments of these indices aren't UTF-8; and whether standard input is a terminal.
     pub fn new(rt: &'a R, not_text: &'a [usize], is_asked_by_hand: bool) -> Self {
@@ -97,6 +150,21 @@ impl<'a, R: Files<File = File> + Env + AllocGlobal> Host for Machine<'a, R> {
         }
         let file = open_named(self.rt, path)?;
         Ok(bytes_of(self.rt.alloc(), file)?)
+    }
+
+    fn store(&self, path: &str, bytes: &FileBytes<File>) -> Result<(), Unstored> {
+        let folder = folder_of(path);
+        fs::create_dir_all(self.rt, folder).map_err(|e| unwritten(&e))?;
+        let (part, file) = new_part(self.rt, path)?;
+        let moved = match copy_to(self.rt.alloc(), bytes, file) {
+            Ok(()) => fs::rename(self.rt, part.as_str(), path).map_err(|e| unwritten(&e)),
+            Err(why) => Err(why),
+        };
+        if moved.is_err() {
+            let _ = fs::remove_file(self.rt, part.as_str());
+        }
+        keep_names(self.rt, folder);
+        moved
     }
 
     fn is_file(&self, path: &str) -> bool {

@@ -3,7 +3,7 @@ use Rattle.std.specs.Prelude.{ℕ, List, [], ◌∷◌, codes, ◌||◌, Option,
 use Rattle.std.specs.Option.{unwrap_or}
 use Rattle.std.specs.Str.{bytes_eq}
 use Rattle.tool_arguments.specs.declared.commands.Command.{Command}
-use Rattle.tool_arguments.specs.declared.commands.Command.TheVariants.{Resolve, Variables, Find, Where, Lines, Scopes, Symbols, Types, Sources, Modules, Sections, Streams, Key, Check, Help, Version}
+use Rattle.tool_arguments.specs.declared.commands.Command.TheVariants.{Resolve, Variables, Find, Where, Lines, Scopes, Symbols, Types, Sources, Modules, Sections, Frames, Streams, Stream, Key, Store, Check, Help, Version}
 
 -- the name of a command
 abbrev pub name_of : Command → List ℕ
@@ -18,8 +18,11 @@ name_of Types = codes "types"
 name_of Sources = codes "sources"
 name_of Modules = codes "modules"
 name_of Sections = codes "sections"
+name_of Frames = codes "frames"
 name_of Streams = codes "streams"
+name_of Stream = codes "stream"
 name_of Key = codes "key"
+name_of Store = codes "store"
 name_of Check = codes "check"
 name_of Help = codes "help"
 name_of Version = codes "version"
@@ -37,8 +40,11 @@ operands_of Types = codes "FILE [INDEX..]"
 operands_of Sources = codes "FILE [K..]"
 operands_of Modules = codes "FILE"
 operands_of Sections = codes "FILE"
+operands_of Frames = codes "FILE"
 operands_of Streams = codes "FILE"
+operands_of Stream = codes "FILE STREAM"
 operands_of Key = codes "FILE.."
+operands_of Store = codes "FILE.."
 operands_of Check = codes "FILE.."
 operands_of Help = codes "[COMMAND]"
 operands_of Version = codes ""
@@ -50,8 +56,11 @@ listing_in word =
     else if bytes_eq word (codes "sources") then Some Sources
     else if bytes_eq word (codes "modules") then Some Modules
     else if bytes_eq word (codes "sections") then Some Sections
+    else if bytes_eq word (codes "frames") then Some Frames
     else if bytes_eq word (codes "streams") then Some Streams
+    else if bytes_eq word (codes "stream") then Some Stream
     else if bytes_eq word (codes "key") then Some Key
+    else if bytes_eq word (codes "store") then Some Store
     else if bytes_eq word (codes "check") then Some Check
     else if bytes_eq word (codes "help") then Some Help
     else if bytes_eq word (codes "version") then Some Version
@@ -82,4 +91,4 @@ command_of (word ∷ words) = unwrap_or (named_in word) Help
 
 -- all commands, in the order of help
 abbrev pub commands : List Command
-commands = Resolve ∷ Variables ∷ Find ∷ Where ∷ Lines ∷ Scopes ∷ Symbols ∷ Types ∷ Sources ∷ Modules ∷ Sections ∷ Streams ∷ Key ∷ Check ∷ Help ∷ Version ∷ []
+commands = Resolve ∷ Variables ∷ Find ∷ Where ∷ Lines ∷ Scopes ∷ Symbols ∷ Types ∷ Sources ∷ Modules ∷ Sections ∷ Frames ∷ Streams ∷ Stream ∷ Key ∷ Store ∷ Check ∷ Help ∷ Version ∷ []

@@ -8,6 +8,7 @@ pub mod Options
 pub mod Requests
 pub mod SourcesAsked
 pub mod SourceViews
+pub mod StreamsAsked
 pub mod SymbolValues
 pub mod Tasks
 pub mod Usage

@@ -36,6 +36,7 @@ unknown_command word closest = between (codes "unknown command: ") word [] ++ su
 abbrev pub most_operands : Command → List ℕ
 most_operands command.Help = codes " takes one COMMAND, and not "
 most_operands command.Version = codes " takes no operands, and not "
+most_operands command.Stream = codes " takes one STREAM, and not "
 most_operands c = codes " takes one FILE, and not "
 
 abbrev pub further : Command → List ℕ → List ℕ
@@ -55,6 +56,8 @@ abbrev pub wrong_operand : List ℕ → Wrong → List ℕ
 wrong_operand word wrong.MissingFile = codes "FILE is missing"
 wrong_operand word wrong.MissingName = codes "NAME is missing"
 wrong_operand word wrong.MissingSource = codes "SOURCE is missing"
+wrong_operand word wrong.MissingStream = codes "STREAM is missing"
+wrong_operand word wrong.MissingFolder = codes "store needs a folder: --symbols=DIR"
 wrong_operand word wrong.EmptyName = codes "NAME is empty"
 wrong_operand word wrong.BadAddress = between (codes "'") word (codes "' is not an address: write 1108, 0x1108 or 1:108; find prints the addresses of names")
 wrong_operand word wrong.NeedsBase = between [] word (codes " needs the load address: --base=HEX")

@@ -2,13 +2,13 @@
 use Rattle.std.specs.Prelude.{ℕ, ◌+◌, List, [], ◌∷◌, codes, drop, position, take, Bool, true, false, ◌==◌, Option, Some, None, option_map, if◌then◌else◌}
 use Rattle.std.specs.Str.{bytes_eq}
 use Rattle.tool_arguments.specs.declared.commands.Command.{Command}
-use Rattle.tool_arguments.specs.declared.commands.Command.TheVariants.{Resolve, Variables, Find, Where, Symbols, Sources, Modules, Sections, Streams, Key as KeyOf, Check, Help, Version}
+use Rattle.tool_arguments.specs.declared.commands.Command.TheVariants.{Resolve, Variables, Find, Where, Symbols, Sources, Modules, Sections, Frames, Streams, Key as KeyOf, Store, Check, Help, Version}
 use Rattle.tool_arguments.specs.declared.option_names.OptionName.{OptionName}
-use Rattle.tool_arguments.specs.declared.option_names.OptionName.TheVariants.{Base, Key, Image, Symbols as Folders, Addresses, Offsets, All, Path, Json}
+use Rattle.tool_arguments.specs.declared.option_names.OptionName.TheVariants.{Base, Key, Image, Symbols as Folders, Addresses, Offsets, All, Path, Replace, Json}
 
 -- all options, in the order of usage
 abbrev pub options : List OptionName
-options = Base ∷ Key ∷ Image ∷ Folders ∷ Addresses ∷ Offsets ∷ All ∷ Path ∷ Json ∷ []
+options = Base ∷ Key ∷ Image ∷ Folders ∷ Addresses ∷ Offsets ∷ All ∷ Path ∷ Replace ∷ Json ∷ []
 
 abbrev pub spelled_option : OptionName → List ℕ
 spelled_option Base = codes "--base"
@@ -19,6 +19,7 @@ spelled_option Addresses = codes "--addresses"
 spelled_option Offsets = codes "--offsets"
 spelled_option All = codes "--all"
 spelled_option Path = codes "--path"
+spelled_option Replace = codes "--replace"
 spelled_option Json = codes "--json"
 
 -- what stands for its value in usage; nothing where it takes none
@@ -47,6 +48,7 @@ option_in name =
     else if bytes_eq name (codes "--offsets") then Some Offsets
     else if bytes_eq name (codes "--all") then Some All
     else if bytes_eq name (codes "--path") then Some Path
+    else if bytes_eq name (codes "--replace") then Some Replace
     else if bytes_eq name (codes "--json") then Some Json
     else None
 
@@ -63,6 +65,7 @@ takes_json Where = true
 takes_json Sources = true
 takes_json Modules = true
 takes_json Sections = true
+takes_json Frames = true
 takes_json Streams = true
 takes_json KeyOf = true
 takes_json Check = true
@@ -80,23 +83,28 @@ abbrev pub takes_path : Command → Bool
 takes_path KeyOf = true
 takes_path command = false
 
--- a command that reads one PDB, which it may find in folders of symbols
-abbrev pub reads_one_file : Command → Bool
-reads_one_file KeyOf = false
-reads_one_file Check = false
-reads_one_file Help = false
-reads_one_file Version = false
-reads_one_file command = true
+abbrev pub takes_replace : Command → Bool
+takes_replace Store = true
+takes_replace command = false
+
+-- a command that has folders of symbols: it reads one PDB, which it may find there, or it files some there
+abbrev pub has_folders : Command → Bool
+has_folders KeyOf = false
+has_folders Check = false
+has_folders Help = false
+has_folders Version = false
+has_folders command = true
 
 abbrev pub has_option : Command → OptionName → Bool
 has_option command Base = takes_addresses command
 has_option command Key = takes_addresses command
 has_option command Image = takes_addresses command
-has_option command Folders = reads_one_file command
+has_option command Folders = has_folders command
 has_option command Addresses = takes_addresses command
 has_option command Offsets = takes_offsets command
 has_option command All = takes_all command
 has_option command Path = takes_path command
+has_option command Replace = takes_replace command
 has_option command Json = takes_json command
 
 -- ---- arguments like `--name=value`

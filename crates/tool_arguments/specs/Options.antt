@@ -65,12 +65,20 @@ wanted_behind o name new (Some old) = Err KeyAndImage
 abbrev pub with_wanted : Options → OptionName → Wanted → Result Options Wrong
 with_wanted o name new = wanted_behind o name new o.wanted
 
--- with an option that has this value; folders of symbols are kept apart, since there may be many
+-- the first folder of symbols counts as the one to file in; all of them are kept apart
+abbrev pub folder_behind : Options → ValueAt → Option ValueAt → Options
+folder_behind o at None = record o { folder = Some at }
+folder_behind o at (Some first) = o
+
+abbrev pub with_folder : Options → ValueAt → Options
+with_folder o at = folder_behind o at o.folder
+
+-- with an option that has this value
 abbrev pub with_value : Options → OptionName → ValueAt → List ℕ → Result Options Wrong
 with_value o option.Base at value = with_base o (address_number value)
 with_value o option.Key at value = if is_key value then with_wanted o option.Key (Key at) else Err BadKey
 with_value o option.Image at value = with_wanted o option.Image (Image at)
-with_value o option.Symbols at value = Ok o
+with_value o option.Symbols at value = Ok (with_folder o at)
 with_value o name at value = Err (TakesNoValue name)
 
 -- ---- options without a value, each given once
@@ -88,6 +96,7 @@ with_flag o option.Addresses = if o.addresses then Err (GivenTwice option.Addres
 with_flag o option.Offsets = with_offsets o o.detail
 with_flag o option.All = if o.all then Err (GivenTwice option.All) else Ok (record o { all = true })
 with_flag o option.Path = if o.path then Err (GivenTwice option.Path) else Ok (record o { path = true })
+with_flag o option.Replace = if o.replace then Err (GivenTwice option.Replace) else Ok (record o { replace = true })
 with_flag o option.Json = with_json o o.format
 with_flag o name = Err (GivenTwice name)
 
@@ -132,7 +141,7 @@ after_word command g p word = after_next command g p word g.next
 -- ---- all arguments
 
 abbrev pub no_options : Options
-no_options = record { base = None; own_size = 0; wanted = None; addresses = false; detail = detail.Plain; all = false; path = false; format = Text }
+no_options = record { base = None; own_size = 0; wanted = None; addresses = false; detail = detail.Plain; all = false; path = false; replace = false; folder = None; format = Text }
 
 -- what is said before the first argument
 abbrev pub nothing_given : Given

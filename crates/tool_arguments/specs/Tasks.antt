@@ -7,6 +7,7 @@ use Rattle.tool_arguments.specs.Options.{behind_word, key_format, options_of}
 use Rattle.tool_arguments.specs.Requests.{AddressOf, address_view}
 use Rattle.tool_arguments.specs.SourcesAsked.{SourceOf}
 use Rattle.tool_arguments.specs.SourceViews.{source_view}
+use Rattle.tool_arguments.specs.StreamsAsked.{StreamOf, stream_of, stream_view}
 use Rattle.tool_arguments.specs.declared.commands.Command.{Command}
 use Rattle.tool_arguments.specs.declared.commands.Command.TheVariants as command
 use Rattle.tool_arguments.specs.declared.mistakes.Mistake.{Mistake}
@@ -17,9 +18,11 @@ use Rattle.tool_arguments.specs.declared.options.Next.TheVariants.{Word}
 use Rattle.tool_arguments.specs.declared.options.Detail.TheVariants.{Variables}
 use Rattle.tool_arguments.specs.declared.options.KeyFormat.{KeyFormat}
 use Rattle.tool_arguments.specs.declared.options.Options.{Options}
+use Rattle.tool_arguments.specs.declared.options.ValueAt.{ValueAt}
 use Rattle.tool_arguments.specs.declared.options.OutputFormat.{OutputFormat}
 use Rattle.tool_arguments.specs.declared.tasks.FileTask.{FileTask}
 use Rattle.tool_arguments.specs.declared.tasks.FileTask.TheVariants as file_task
+use Rattle.tool_arguments.specs.declared.tasks.Storing.{Storing}
 use Rattle.tool_arguments.specs.declared.tasks.Task.{Task}
 use Rattle.tool_arguments.specs.declared.tasks.Task.TheVariants as task
 
@@ -36,6 +39,7 @@ pub data FileTaskOf : Type 0 where
   wheres : OutputFormat → List SourceOf → FileTaskOf
   modules : OutputFormat → FileTaskOf
   sections : OutputFormat → FileTaskOf
+  frames : OutputFormat → FileTaskOf
   streams : OutputFormat → FileTaskOf
 
 abbrev pub file_task_view : FileTask → FileTaskOf
@@ -50,6 +54,7 @@ file_task_view (file_task.Find format names) = finds format (map operand_view na
 file_task_view (file_task.Where format asked) = wheres format (map source_view asked.items)
 file_task_view (file_task.Modules format) = modules format
 file_task_view (file_task.Sections format) = sections format
+file_task_view (file_task.Frames format) = frames format
 file_task_view (file_task.Streams format) = streams format
 
 -- the task, over the files of operands
@@ -59,8 +64,10 @@ pub data TaskOf : Type 0 where
   version : TaskOf
   keys : KeyFormat → List WordAt → TaskOf
   checks : OutputFormat → List WordAt → TaskOf
+  store : Storing → List WordAt → TaskOf
   resolve : Options → WordAt → List AddressOf → TaskOf
   resolve_lines : Options → WordAt → TaskOf
+  stream : WordAt → StreamOf → TaskOf
   of_file : WordAt → FileTaskOf → TaskOf
 
 abbrev pub task_view : Task → TaskOf
@@ -69,8 +76,10 @@ task_view task.ListHelp = list_help
 task_view task.Version = version
 task_view (task.Keys format files) = keys format (map operand_view files.items)
 task_view (task.Checks format files) = checks format (map operand_view files.items)
+task_view (task.Store storing files) = store storing (map operand_view files.items)
 task_view (task.Resolve o f addresses) = resolve o (operand_view f) (map address_view addresses.items)
 task_view (task.ResolveLines o f) = resolve_lines o (operand_view f)
+task_view (task.Stream f asked) = stream (operand_view f) (stream_view asked)
 task_view (task.File f t) = of_file (operand_view f) (file_task_view t)
 
 abbrev pub missing : {A : Type 0} → ℕ → Wrong → Result A Mistake
@@ -104,6 +113,11 @@ abbrev pub where_task : OutputFormat → WordAt → List WordAt → ℕ → Resu
 where_task format f [] n = missing n wrong.MissingSource
 where_task format f (w ∷ ws) n = given (λ asked. of_file f (wheres format asked)) (all_in source_in (w ∷ ws))
 
+-- a stream; n is where it is missing
+abbrev pub stream_task : WordAt → List WordAt → ℕ → Result TaskOf Mistake
+stream_task f [] n = missing n wrong.MissingStream
+stream_task f (w ∷ ws) n = ending (stream f (stream_of w.word)) ws wrong.FurtherOperand
+
 abbrev pub symbols_task : Options → WordAt → List WordAt → Result TaskOf Mistake
 symbols_task o f rest = if o.all then ending (of_file f all_symbols) rest wrong.ModuleOfAll else given (λ ks. of_file f (symbols ks)) (all_in module_in rest)
 
@@ -126,6 +140,8 @@ over_file command.Find o f rest n = find_task o.format f rest n
 over_file command.Where o f rest n = where_task o.format f rest n
 over_file command.Modules o f rest n = ending (of_file f (modules o.format)) rest wrong.FurtherOperand
 over_file command.Sections o f rest n = ending (of_file f (sections o.format)) rest wrong.FurtherOperand
+over_file command.Frames o f rest n = ending (of_file f (frames o.format)) rest wrong.FurtherOperand
+over_file command.Stream o f rest n = stream_task f rest n
 over_file command.Streams o f rest n = ending (of_file f (streams o.format)) rest wrong.FurtherOperand
 over_file c o f rest n = module_task c o f rest
 
@@ -152,6 +168,15 @@ abbrev pub checks_task : OutputFormat → List WordAt → ℕ → Result TaskOf 
 checks_task format [] n = missing n wrong.MissingFile
 checks_task format (w ∷ ws) n = Ok (checks format (w ∷ ws))
 
+-- files that are filed in a folder, of which there is one; n is where the first or the folder is missing
+abbrev pub stored_in : Option ValueAt → Bool → List WordAt → ℕ → Result TaskOf Mistake
+stored_in None replaces files n = missing n wrong.MissingFolder
+stored_in (Some folder) replaces files n = Ok (store (record { folder = folder; replaces = replaces }) files)
+
+abbrev pub store_task : Options → List WordAt → ℕ → Result TaskOf Mistake
+store_task o [] n = missing n wrong.MissingFile
+store_task o (w ∷ ws) n = stored_in o.folder o.replace (w ∷ ws) n
+
 abbrev pub over_split : Command → Options → Option (WordAt × List WordAt) → ℕ → Result TaskOf Mistake
 over_split c o None n = missing n wrong.MissingFile
 over_split c o (Some x) n = over_file c o x.0 x.1 n
@@ -161,6 +186,7 @@ over_operands command.Help o operands n = help_task operands
 over_operands command.Version o operands n = ending version operands wrong.FurtherOperand
 over_operands command.Key o operands n = keys_task (key_format o) operands n
 over_operands command.Check o operands n = checks_task o.format operands n
+over_operands command.Store o operands n = store_task o operands n
 over_operands c o operands n = over_split c o (split_first operands) n
 
 abbrev pub is_help : List ℕ → Bool

@@ -4,7 +4,7 @@ use Rattle.tool_arguments.specs.Commands.{name_of, operands_of}
 use Rattle.tool_arguments.specs.OptionNames.{has_option, options, spelled_option}
 use Rattle.tool_arguments.specs.declared.commands.Command.{Command}
 use Rattle.tool_arguments.specs.declared.option_names.OptionName.{OptionName}
-use Rattle.tool_arguments.specs.declared.option_names.OptionName.TheVariants.{Base, Key, Image, Symbols, Addresses, Offsets, All, Path, Json}
+use Rattle.tool_arguments.specs.declared.option_names.OptionName.TheVariants.{Base, Key, Image, Symbols, Addresses, Offsets, All, Path, Replace, Json}
 
 -- how an option stands in usage: `--image` beside `--key`, which it excludes
 abbrev pub usage_of : OptionName → List ℕ
@@ -16,6 +16,7 @@ usage_of Addresses = codes " [--addresses]"
 usage_of Offsets = codes " [--offsets]"
 usage_of All = codes " [--all]"
 usage_of Path = codes " [--path]"
+usage_of Replace = codes " [--replace]"
 usage_of Json = codes " [--json]"
 
 unfoldable pub usage_part : Command → OptionName → List ℕ

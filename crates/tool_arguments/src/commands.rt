@@ -28,10 +28,16 @@ pub enum Command {
     Modules,
     /// The section headers of the image.
     Sections,
+    /// How functions lay out their frames.
+    Frames,
     /// The streams of the file.
     Streams,
+    /// The bytes of a stream.
+    Stream,
     /// The keys under which symbol servers have files.
     Key,
+    /// Files, under their keys.
+    Store,
     /// What is wrong with files.
     Check,
     /// What the program can do, or a command.
@@ -41,7 +47,7 @@ pub enum Command {
 }
 
 /// All commands, in the order of help.
-pub const COMMANDS: [Command; 16] = [
+pub const COMMANDS: [Command; 19] = [
     Command::Resolve,
     Command::Variables,
     Command::Find,
@@ -53,8 +59,11 @@ pub const COMMANDS: [Command; 16] = [
     Command::Sources,
     Command::Modules,
     Command::Sections,
+    Command::Frames,
     Command::Streams,
+    Command::Stream,
     Command::Key,
+    Command::Store,
     Command::Check,
     Command::Help,
     Command::Version,
@@ -77,8 +86,11 @@ impl Command {
             Command::Sources => "sources",
             Command::Modules => "modules",
             Command::Sections => "sections",
+            Command::Frames => "frames",
             Command::Streams => "streams",
+            Command::Stream => "stream",
             Command::Key => "key",
+            Command::Store => "store",
             Command::Check => "check",
             Command::Help => "help",
             Command::Version => "version",
@@ -96,8 +108,9 @@ impl Command {
             Command::Lines | Command::Scopes | Command::Symbols => "FILE [K..]",
             Command::Types => "FILE [INDEX..]",
             Command::Sources => "FILE [K..]",
-            Command::Modules | Command::Sections | Command::Streams => "FILE",
-            Command::Key | Command::Check => "FILE..",
+            Command::Modules | Command::Sections | Command::Frames | Command::Streams => "FILE",
+            Command::Stream => "FILE STREAM",
+            Command::Key | Command::Store | Command::Check => "FILE..",
             Command::Help => "[COMMAND]",
             Command::Version => "",
         }
@@ -113,8 +126,11 @@ fn listing_in(word: &str) -> Option<Command>
         "sources" => Some(Command::Sources),
         "modules" => Some(Command::Modules),
         "sections" => Some(Command::Sections),
+        "frames" => Some(Command::Frames),
         "streams" => Some(Command::Streams),
+        "stream" => Some(Command::Stream),
         "key" => Some(Command::Key),
+        "store" => Some(Command::Store),
         "check" => Some(Command::Check),
         "help" => Some(Command::Help),
         "version" => Some(Command::Version),

@@ -23,8 +23,11 @@ pdb_tool prints what Microsoft symbol files (PDB) say about a program.
   pdb_tool sources FILE [K..]                     source files of modules
   pdb_tool modules FILE                           modules (object files), with their sizes
   pdb_tool sections FILE                          section headers of the image
+  pdb_tool frames FILE                            how functions lay out their frames (x86)
   pdb_tool streams FILE                           streams of the file, with their sizes
+  pdb_tool stream FILE STREAM                     the bytes of a stream
   pdb_tool key FILE..                             symbol-server keys of PDB files and images
+  pdb_tool store --symbols=DIR FILE..             files PDB files and images under their keys
   pdb_tool check FILE..                           damage
 
   pdb_tool help COMMAND                           arguments, output and an example of a command
@@ -33,10 +36,10 @@ pdb_tool prints what Microsoft symbol files (PDB) say about a program.
 
 K is the index of a module, counted from 0: modules lists them.
 
-FILE is a PDB or, in each command but key and check, an image (EXE or DLL), whose PDB is read.
+FILE is a PDB or, in each command but key, store and check, an image (EXE or DLL), whose PDB is read.
 
-With --json each command but variables, lines, scopes, symbols and types prints a JSON object on
-each line.
+With --json each command but variables, lines, scopes, symbols, types, stream and store prints a
+JSON object on each line.
 
 -- ends the options: what stands behind it is an operand, whatever it begins with.
 
@@ -269,6 +272,48 @@ the stream is, or -. A stream can be several things: they are separated by comma
   {\"stream\":2,\"size\":null,\"what\":[\"types\"]}
 ";
 
+const FRAMES: &str = "\
+Prints how functions lay out their stack frames, as compilers for x86 tell it to debuggers: the
+address relative to the load address, the number of bytes of code, the kind of the frame, the sizes
+in bytes of local variables, parameters and saved registers, how many bytes of code set the frame
+up, and how large the stack becomes at most. Behind them stand seh, eh, start and bp: the function
+handles exceptions of Windows, or of C++; the code is where a function begins; the frame pointer has
+another use. Last is the program by which a debugger undoes the frame; ?? if the file lacks it.
+
+The kind is framedata for a record with such a program, or else fpo, trap, tss or standard. Records
+with a program come first. `none` is printed if the file has neither stream. With --json a program
+that isn't there is null.
+
+  $ pdb_tool frames app.pdb
+  0x1010 39 framedata locals=0 params=8 saved=4 prolog=3 max=0 start $T0 $ebp = $eip $T0 4 + ^ =
+  0x1040 12 fpo locals=0 params=4 saved=0 prolog=0 max=0
+  $ pdb_tool frames --json app.pdb
+  {\"rva\":4160,\"size\":12,\"kind\":\"fpo\",\"locals\":0,\"params\":4,\"saved\":0,\"prolog\":0,\"max\":0,\"seh\":false,\"eh\":false,\"start\":false,\"bp\":false,\"program\":null}
+";
+
+const STREAM: &str = "\
+Writes the bytes of a stream as they are. STREAM is the number of the stream, as streams prints it,
+of one to ten digits, or else its name. If the file has no such stream, or it can't be read, nothing
+is written, and the status is 1.
+
+  $ pdb_tool stream app.pdb 1 > information
+  $ pdb_tool stream app.pdb /names > names
+";
+
+const STORE: &str = "\
+Files each FILE, a PDB or an image (EXE or DLL), in the folder DIR under its key, where debuggers,
+symbol servers and --symbols=DIR find it: as DIR/NAME/KEY/NAME, where NAME is what stands behind
+the last / or \\ of FILE, and KEY what key prints. Folders are made where they aren't there. A line
+is `stored PATH`, or `present PATH` if the same bytes are there already. Other bytes stay, which is
+told on standard error; --replace replaces them. A FILE that can't be filed is told there too, the
+next one follows, and the status is then 1. No reader sees half a file: it is written under another
+name first, PATH.0.part.
+
+  $ pdb_tool store --symbols=/symbols app.pdb app.exe
+  stored /symbols/app.pdb/00112233445566778899AABBCCDDEEFF2/app.pdb
+  stored /symbols/app.exe/112233443000/app.exe
+";
+
 const KEY: &str = "\
 Prints the key under which a symbol server stores each FILE: of a PDB its GUID in 32 hex digits and
 its age in hex digits, a blank, and FILE. An image (EXE or DLL) has another key: its time stamp in
@@ -342,8 +387,11 @@ fn body_of(command: Command) -> &'static str {
         Command::Sources => SOURCES,
         Command::Modules => MODULES,
         Command::Sections => SECTIONS,
+        Command::Frames => FRAMES,
         Command::Streams => STREAMS,
+        Command::Stream => STREAM,
         Command::Key => KEY,
+        Command::Store => STORE,
         Command::Check => CHECK,
         Command::Help => HELP,
         Command::Version => VERSION_HELP,
@@ -356,7 +404,7 @@ fn command_help(alloc: Global, command: Command) -> Result<Vec<u8>, AllocError> 
     put_usage(&mut text, command)?;
     text.extend_from_slice(b"\n\n")?;
     text.extend_from_slice(body_of(command).as_bytes())?;
-    if has_option(command, OptionName::Symbols) {
+    if has_option(command, OptionName::Symbols) && command != Command::Store {
         text.extend_from_slice(IMAGE.as_bytes())?;
     }
     Ok(text)

@@ -14,6 +14,7 @@ pub mod option_names;
 pub mod options;
 pub mod requests;
 pub mod sources_asked;
+pub mod streams_asked;
 pub mod symbol_values;
 pub mod tasks;
 pub mod usage;

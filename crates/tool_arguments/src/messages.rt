@@ -113,6 +113,7 @@ fn most_operands(command: Command) -> &'static str
     match command {
         Command::Help => " takes one COMMAND, and not ",
         Command::Version => " takes no operands, and not ",
+        Command::Stream => " takes one STREAM, and not ",
         _ => " takes one FILE, and not ",
     }
 }
@@ -154,6 +155,8 @@ fn put_wrong_operand(out: &mut Vec<u8>, word: &str, wrong: Wrong) -> Result<(), 
         Wrong::MissingFile => out.extend_from_slice(b"FILE is missing"),
         Wrong::MissingName => out.extend_from_slice(b"NAME is missing"),
         Wrong::MissingSource => out.extend_from_slice(b"SOURCE is missing"),
+        Wrong::MissingStream => out.extend_from_slice(b"STREAM is missing"),
+        Wrong::MissingFolder => out.extend_from_slice(b"store needs a folder: --symbols=DIR"),
         Wrong::EmptyName => out.extend_from_slice(b"NAME is empty"),
         Wrong::BadAddress => put_between(out, b"'", word, HOW_ADDRESS),
         Wrong::NeedsBase => put_between(out, b"", word, b" needs the load address: --base=HEX"),
@@ -194,13 +197,20 @@ fn put_why(
     }
 }
 
+/// Appends the name of a command behind a blank.
+fn put_command(out: &mut Vec<u8>, command: Command) -> Result<(), AllocError>
+    ensures { OnOk result (out.new.items ≡ out.old.items ++ command_behind command) }
+{
+    out.push(b' ')?;
+    out.extend_from_slice(command.name().as_bytes())
+}
+
 /// Appends the names of all commands, each behind a blank.
 fn put_commands(out: &mut Vec<u8>) -> Result<(), AllocError>
     ensures { OnOk result (out.new.items ≡ out.old.items ++ flat_map command_behind commands) }
 {
     for command in COMMANDS {
-        out.push(b' ')?;
-        out.extend_from_slice(command.name().as_bytes())?;
+        put_command(out, command)?;
     }
     Ok(())
 }

@@ -1,7 +1,7 @@
 //! The options, and which command has which.
 
 ghost use Rattle.std.specs.Prelude.{◌≡◌, ◌<◌, ◌≤◌, ◌+◌, get_or, length, position, option_copied, IfSome};
-ghost use Rattle.tool_arguments.specs.OptionNames.{has_option, is_equals, name_part, option_in, placeholder_of, reads_one_file, spelled_option, value_part};
+ghost use Rattle.tool_arguments.specs.OptionNames.{has_option, is_equals, name_part, has_folders, option_in, placeholder_of, spelled_option, value_part};
 
 use crate::commands::Command;
 
@@ -24,12 +24,14 @@ pub enum OptionName {
     All,
     /// Whether the paths of files below a store are meant.
     Path,
+    /// Whether files that are there are replaced.
+    Replace,
     /// Whether the output is JSON.
     Json,
 }
 
 /// All options, in the order of usage.
-pub const OPTIONS: [OptionName; 9] = [
+pub const OPTIONS: [OptionName; 10] = [
     OptionName::Base,
     OptionName::Key,
     OptionName::Image,
@@ -38,6 +40,7 @@ pub const OPTIONS: [OptionName; 9] = [
     OptionName::Offsets,
     OptionName::All,
     OptionName::Path,
+    OptionName::Replace,
     OptionName::Json,
 ];
 
@@ -55,6 +58,7 @@ impl OptionName {
             OptionName::Offsets => "--offsets",
             OptionName::All => "--all",
             OptionName::Path => "--path",
+            OptionName::Replace => "--replace",
             OptionName::Json => "--json",
         }
     }
@@ -69,7 +73,7 @@ impl OptionName {
             OptionName::Image => "IMAGE",
             OptionName::Symbols => "DIR",
             OptionName::Addresses | OptionName::Offsets | OptionName::All => "",
-            OptionName::Path | OptionName::Json => "",
+            OptionName::Path | OptionName::Replace | OptionName::Json => "",
         }
     }
 }
@@ -87,14 +91,15 @@ pub fn option_in(name: &str) -> Option<OptionName>
         "--offsets" => Some(OptionName::Offsets),
         "--all" => Some(OptionName::All),
         "--path" => Some(OptionName::Path),
+        "--replace" => Some(OptionName::Replace),
         "--json" => Some(OptionName::Json),
         _ => None,
     }
 }
 
-/// Whether a command reads one PDB.
-fn reads_one_file(command: Command) -> bool
-    ensures { result ≡ reads_one_file command }
+/// Whether a command has folders of symbol files: it reads one PDB, or it files some.
+fn has_folders(command: Command) -> bool
+    ensures { result ≡ has_folders command }
 {
     !matches!(
         command,
@@ -110,13 +115,14 @@ pub fn has_option(command: Command, option: OptionName) -> bool
         OptionName::Base | OptionName::Key | OptionName::Image | OptionName::Addresses => {
             matches!(command, Command::Resolve | Command::Variables)
         }
-        OptionName::Symbols => reads_one_file(command),
+        OptionName::Symbols => has_folders(command),
         OptionName::Offsets => matches!(command, Command::Resolve),
         OptionName::All => matches!(command, Command::Symbols),
         OptionName::Path => matches!(command, Command::Key),
+        OptionName::Replace => matches!(command, Command::Store),
         OptionName::Json => match command {
             Command::Resolve | Command::Find | Command::Where | Command::Sources => true,
-            Command::Modules | Command::Sections | Command::Streams => true,
+            Command::Modules | Command::Sections | Command::Frames | Command::Streams => true,
             Command::Key | Command::Check => true,
             _ => false,
         },

@@ -3,7 +3,7 @@
 ghost use Rattle.std.specs.Prelude.{◌≡◌, ◌+◌, ◌<◌, ◌^◌, count_by, length, map, string_bytes};
 ghost use Rattle.std.specs.List.{list_all};
 ghost use Rattle.tool_arguments.specs.OptionNames.{takes_value};
-ghost use Rattle.tool_arguments.specs.Options.{after_option, after_word, at_end, behind_option, behind_word, is_dashes, is_key, is_key_byte, is_key_digit, is_option_word, key_format, option_of, options_of, value_in, with_base, with_base_of, with_flag, with_value, with_wanted};
+ghost use Rattle.tool_arguments.specs.Options.{after_option, after_word, at_end, behind_option, behind_word, is_dashes, is_key, is_key_byte, is_key_digit, is_option_word, key_format, option_of, options_of, value_in, with_base, with_base_of, with_flag, with_folder, with_value, with_wanted};
 
 use crate::code_address::address_number;
 use crate::commands::Command;
@@ -78,6 +78,10 @@ pub struct Options {
     pub all: bool,
     /// Whether the paths of files below a store are meant.
     pub path: bool,
+    /// Whether files that are there are replaced.
+    pub replace: bool,
+    /// The first folder of symbol files.
+    pub folder: Option<ValueAt>,
     /// How the output is written.
     pub format: OutputFormat,
 }
@@ -209,6 +213,16 @@ fn with_wanted(options: Options, option: OptionName, wanted: Wanted) -> Result<O
     }
 }
 
+/// With one more folder of symbol files.
+fn with_folder(options: Options, at: ValueAt) -> Options
+    ensures { result ≡ with_folder options at }
+{
+    Options {
+        folder: options.folder.or(Some(at)),
+        ..options
+    }
+}
+
 /// With an option that has a value.
 fn with_value(
     options: Options,
@@ -223,11 +237,13 @@ fn with_value(
         OptionName::Key if !is_key(value.as_bytes()) => Err(Wrong::BadKey),
         OptionName::Key => with_wanted(options, option, Wanted::Key(at)),
         OptionName::Image => with_wanted(options, option, Wanted::Image(at)),
-        OptionName::Symbols => Ok(options),
+        OptionName::Symbols => Ok(with_folder(options, at)),
         OptionName::Addresses | OptionName::Offsets | OptionName::All => {
             Err(Wrong::TakesNoValue(option))
         }
-        OptionName::Path | OptionName::Json => Err(Wrong::TakesNoValue(option)),
+        OptionName::Path | OptionName::Replace | OptionName::Json => {
+            Err(Wrong::TakesNoValue(option))
+        }
     }
 }
 
@@ -250,6 +266,10 @@ fn with_flag(options: Options, option: OptionName) -> Result<Options, Wrong>
         }),
         (OptionName::Path, _, _) if !options.path => Ok(Options {
             path: true,
+            ..options
+        }),
+        (OptionName::Replace, _, _) if !options.replace => Ok(Options {
+            replace: true,
             ..options
         }),
         (OptionName::Json, _, OutputFormat::Text) => Ok(Options {

@@ -5,16 +5,19 @@ ghost use Rattle.std.specs.Option.{option_map};
 ghost use Rattle.tool_arguments.specs.Mistakes.{Judges};
 ghost use Rattle.tool_arguments.specs.Operands.{operand_view};
 ghost use Rattle.tool_arguments.specs.declared.options.Next.{Next};
-ghost use Rattle.tool_arguments.specs.Tasks.{addresses_task, asks_for_help, behind_command, checks_task, ending, find_task, help_task, is_help, keys_task, module_task, over_file, over_operands, split_first, symbols_task, task_of, task_view, wants_help, where_task};
+ghost use Rattle.tool_arguments.specs.Tasks.{addresses_task, asks_for_help, behind_command, checks_task, ending, find_task, help_task, is_help, keys_task, module_task, over_file, over_operands, split_first, store_task, stream_task, symbols_task, task_of, task_view, wants_help, where_task};
 
 use crate::commands::{Command, command_in, named_in};
 use crate::mistakes::{Mistake, TaskError, Wrong};
 use crate::operands::{
     Operand, all_addresses, all_modules, all_sources, all_types, first_empty, operands_in,
 };
-use crate::options::{Detail, KeyFormat, Next, Options, OutputFormat, behind_word, options_in};
+use crate::options::{
+    Detail, KeyFormat, Next, Options, OutputFormat, ValueAt, behind_word, options_in,
+};
 use crate::requests::AddressWord;
 use crate::sources_asked::SourceAsked;
+use crate::streams_asked::{StreamAsked, stream_of};
 use std::alloc::Global;
 
 /// What is printed of one file. Of no index of a module it is that of all modules, and of symbols the global ones.
@@ -42,8 +45,19 @@ pub enum FileTask<'w> {
     Modules(OutputFormat),
     /// The section headers.
     Sections(OutputFormat),
+    /// How functions lay out their frames.
+    Frames(OutputFormat),
     /// The streams.
     Streams(OutputFormat),
+}
+
+/// Where files are filed, and how.
+#[derive(Clone, Copy, Debug, PartialEq, Eq)]
+pub struct Storing {
+    /// The folder.
+    pub folder: ValueAt,
+    /// Whether files that are there with other contents are replaced.
+    pub replaces: bool,
 }
 
 /// What the program has to do. A file is the operand that names it.
@@ -59,10 +73,14 @@ pub enum Task<'w> {
     Keys(KeyFormat, Vec<Operand<'w>>),
     /// Print what is damaged in files.
     Checks(OutputFormat, Vec<Operand<'w>>),
+    /// File files under their keys.
+    Store(Storing, Vec<Operand<'w>>),
     /// Print the code at addresses.
     Resolve(Options, Operand<'w>, Vec<AddressWord<'w>>),
     /// Print the code at the addresses that the lines of standard input are.
     ResolveLines(Options, Operand<'w>),
+    /// Write the bytes of a stream of a file.
+    Stream(Operand<'w>, StreamAsked<'w>),
     /// Print something of a file.
     File(Operand<'w>, FileTask<'w>),
 }
@@ -123,6 +141,23 @@ fn where_task<'w>(
     }
     let sources = all_sources(alloc, rest)?;
     Ok(Task::File(file, FileTask::Where(format, sources)))
+}
+
+/// `stream`; `count` is the number of arguments.
+fn stream_task<'w>(
+    file: Operand<'w>,
+    rest: &[Operand<'w>],
+    count: usize,
+) -> Result<Task<'w>, TaskError>
+    ensures { Judges task_view result (stream_task (operand_view file.entry) (map operand_view rest.now) count) }
+{
+    match rest.split_first() {
+        None => Err(missing(count, Wrong::MissingStream)),
+        Some((stream, rest)) => {
+            let task = Task::Stream(file, stream_of(stream.word));
+            ending(task, rest, Wrong::FurtherOperand)
+        }
+    }
 }
 
 /// A task, behind whose operands none stands.
@@ -211,7 +246,9 @@ fn over_file<'w>(
         Command::Where => where_task(alloc, format, file, &rest, count),
         Command::Modules => ending(Task::File(file, FileTask::Modules(format)), &rest, further),
         Command::Sections => ending(Task::File(file, FileTask::Sections(format)), &rest, further),
+        Command::Frames => ending(Task::File(file, FileTask::Frames(format)), &rest, further),
         Command::Streams => ending(Task::File(file, FileTask::Streams(format)), &rest, further),
+        Command::Stream => stream_task(file, &rest, count),
         _ => module_task(alloc, command, options, file, &rest),
     }
 }
@@ -262,6 +299,24 @@ fn checks_task<'w>(
     }
 }
 
+/// Files that are filed under their keys, of which there is one; `count` is the number of arguments.
+fn store_task<'w>(
+    options: Options,
+    files: Vec<Operand<'w>>,
+    count: usize,
+) -> Result<Task<'w>, TaskError>
+    ensures { Judges task_view result (store_task options (map operand_view files.entry.items) count) }
+{
+    if files.is_empty() {
+        return Err(missing(count, Wrong::MissingFile));
+    }
+    let Some(folder) = options.folder else {
+        return Err(missing(count, Wrong::MissingFolder));
+    };
+    let replaces = options.replace;
+    Ok(Task::Store(Storing { folder, replaces }, files))
+}
+
 /// A command with these options, over all its operands; `count` is the number of arguments.
 fn over_operands<'w>(
     alloc: Global,
@@ -277,6 +332,7 @@ fn over_operands<'w>(
         Command::Version => ending(Task::Version, &operands, Wrong::FurtherOperand),
         Command::Key => keys_task(options.key_format(), operands, count),
         Command::Check => checks_task(options.format, operands, count),
+        Command::Store => store_task(options, operands, count),
         command => match split_first(operands) {
             Some((file, rest)) => over_file(alloc, command, options, file, rest, count),
             None => Err(missing(count, Wrong::MissingFile)),

@@ -22,6 +22,7 @@ fn usage_of(option: OptionName) -> &'static str
         OptionName::Offsets => " [--offsets]",
         OptionName::All => " [--all]",
         OptionName::Path => " [--path]",
+        OptionName::Replace => " [--replace]",
         OptionName::Json => " [--json]",
     }
 }

@@ -5,7 +5,7 @@ use crate::tests::fakes::{is, words};
 use std::test::Fail;
 
 /// Each command by its name, and its operands.
-const ROWS: [(Command, &str, &str); 16] = [
+const ROWS: [(Command, &str, &str); 19] = [
     (Command::Resolve, "resolve", "FILE [ADDRESS..]"),
     (Command::Variables, "variables", "FILE [ADDRESS..]"),
     (Command::Find, "find", "FILE NAME.."),
@@ -17,8 +17,11 @@ const ROWS: [(Command, &str, &str); 16] = [
     (Command::Sources, "sources", "FILE [K..]"),
     (Command::Modules, "modules", "FILE"),
     (Command::Sections, "sections", "FILE"),
+    (Command::Frames, "frames", "FILE"),
     (Command::Streams, "streams", "FILE"),
+    (Command::Stream, "stream", "FILE STREAM"),
     (Command::Key, "key", "FILE.."),
+    (Command::Store, "store", "FILE.."),
     (Command::Check, "check", "FILE.."),
     (Command::Help, "help", "[COMMAND]"),
     (Command::Version, "version", ""),

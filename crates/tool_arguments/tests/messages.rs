@@ -11,7 +11,7 @@ use std::test::Fail;
 
 /// The line of the commands.
 const COMMAND_LINE: &str =
-    "commands: resolve variables find where lines scopes symbols types sources modules sections streams key check help version";
+    "commands: resolve variables find where lines scopes symbols types sources modules sections frames streams stream key store check help version";
 
 /// How `resolve` is written.
 const RESOLVE: &str =
@@ -164,6 +164,21 @@ fn a_wrong_operand_is_answered_by_usage(rt: HostRuntime) -> Result<(), Fail> {
             "find a ",
             "NAME is empty",
             "usage: pdb_tool find [--symbols=DIR].. [--json] FILE NAME..",
+        ),
+        (
+            "stream a",
+            "STREAM is missing",
+            "usage: pdb_tool stream [--symbols=DIR].. FILE STREAM",
+        ),
+        (
+            "stream a 1 2",
+            "stream takes one STREAM, and not 2",
+            "usage: pdb_tool stream [--symbols=DIR].. FILE STREAM",
+        ),
+        (
+            "store a",
+            "store needs a folder: --symbols=DIR",
+            "usage: pdb_tool store [--symbols=DIR].. [--replace] FILE..",
         ),
         (
             "where a",

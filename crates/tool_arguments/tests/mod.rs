@@ -12,6 +12,7 @@ mod option_names;
 mod options;
 mod requests;
 mod sources_asked;
+mod streams_asked;
 mod symbol_values;
 mod tasks;
 mod usage;

@@ -15,6 +15,7 @@ fn each_option_has_a_name_and_perhaps_a_value(rt: HostRuntime) {
         (OptionName::Offsets, "--offsets", ""),
         (OptionName::All, "--all", ""),
         (OptionName::Path, "--path", ""),
+        (OptionName::Replace, "--replace", ""),
         (OptionName::Json, "--json", ""),
     ];
     for ((option, name, value), listed) in rows.iter().zip(OPTIONS) {
@@ -44,7 +45,24 @@ fn commands_with(option: OptionName) -> usize {
 
 #[test]
 fn commands_have_the_options_of_usage(rt: HostRuntime) {
-    let rows: [(OptionName, &[Command]); 8] = [
+    let in_folders = [
+        Command::Resolve,
+        Command::Variables,
+        Command::Find,
+        Command::Where,
+        Command::Lines,
+        Command::Scopes,
+        Command::Symbols,
+        Command::Types,
+        Command::Sources,
+        Command::Modules,
+        Command::Sections,
+        Command::Frames,
+        Command::Streams,
+        Command::Stream,
+        Command::Store,
+    ];
+    let rows: [(OptionName, &[Command]); 9] = [
         (OptionName::Base, &[Command::Resolve, Command::Variables]),
         (OptionName::Key, &[Command::Resolve, Command::Variables]),
         (OptionName::Image, &[Command::Resolve, Command::Variables]),
@@ -55,7 +73,8 @@ fn commands_have_the_options_of_usage(rt: HostRuntime) {
         (OptionName::Offsets, &[Command::Resolve]),
         (OptionName::All, &[Command::Symbols]),
         (OptionName::Path, &[Command::Key]),
-        (OptionName::Symbols, &COMMANDS[..12]),
+        (OptionName::Replace, &[Command::Store]),
+        (OptionName::Symbols, &in_folders),
     ];
     for (option, commands) in rows {
         is(
@@ -76,6 +95,7 @@ fn commands_have_the_options_of_usage(rt: HostRuntime) {
         Command::Sources,
         Command::Modules,
         Command::Sections,
+        Command::Frames,
         Command::Streams,
         Command::Key,
         Command::Check,

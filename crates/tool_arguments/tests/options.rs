@@ -494,12 +494,43 @@ fn keys_are_written_as_options_say(rt: HostRuntime) -> Result<(), Fail> {
     Ok(())
 }
 
+/// The options that have their first folder of symbol files there, and nothing else.
+fn in_folder(argument: usize, is_joined: bool) -> Options {
+    Options {
+        folder: Some(ValueAt {
+            argument,
+            is_joined,
+        }),
+        ..Options::default()
+    }
+}
+
 #[test]
 fn folders_are_given_any_number_of_times(rt: HostRuntime) -> Result<(), Fail> {
-    let none = Options::default();
     let rows = [
-        ("resolve --symbols=a --symbols b --symbols=a c", Ok(none)),
-        ("find --symbols= a b", Ok(none)),
+        (
+            "resolve --symbols=a --symbols b --symbols=a c",
+            Ok(in_folder(1, true)),
+        ),
+        ("find --symbols= a b", Ok(in_folder(1, true))),
+        ("find a --symbols b --symbols=c", Ok(in_folder(3, false))),
+        ("find a b", Ok(Options::default())),
+        (
+            "store a --replace --symbols=b",
+            Ok(Options {
+                replace: true,
+                ..in_folder(3, true)
+            }),
+        ),
+        (
+            "store --replace --replace a",
+            wrong(2, Wrong::GivenTwice(OptionName::Replace)),
+        ),
+        (
+            "store --replace=1 a",
+            wrong(1, Wrong::TakesNoValue(OptionName::Replace)),
+        ),
+        ("find --replace a b", wrong(1, Wrong::UnknownOption)),
         (
             "types --symbols",
             wrong(2, Wrong::NeedsValue(OptionName::Symbols)),

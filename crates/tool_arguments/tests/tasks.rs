@@ -5,6 +5,7 @@ use crate::mistakes::{Mistake, TaskError, Wrong};
 use crate::operands::Operand;
 use crate::option_names::OptionName;
 use crate::options::{Detail, KeyFormat, Options, OutputFormat, ValueAt, Wanted};
+use crate::streams_asked::StreamAsked;
 use crate::tasks::*;
 use crate::tests::fakes::{is, words};
 use std::alloc::{AllocError, Global};
@@ -57,6 +58,8 @@ fn file_task_seen(file: Operand<'_>, task: FileTask<'_>) -> Seen {
         FileTask::Sections(_) => ("sections, JSON", file.argument, 0, 0),
         FileTask::Streams(OutputFormat::Text) => ("streams", file.argument, 0, 0),
         FileTask::Streams(_) => ("streams, JSON", file.argument, 0, 0),
+        FileTask::Frames(OutputFormat::Text) => ("frames", file.argument, 0, 0),
+        FileTask::Frames(_) => ("frames, JSON", file.argument, 0, 0),
     }
 }
 
@@ -71,8 +74,16 @@ fn task_seen(task: Task<'_>) -> Seen {
         Task::Keys(KeyFormat::Json, files) => files_seen("keys, JSON", &files),
         Task::Checks(OutputFormat::Text, files) => files_seen("checks", &files),
         Task::Checks(_, files) => files_seen("checks, JSON", &files),
+        Task::Store(storing, files) if storing.replaces => files_seen("replaced", &files),
+        Task::Store(_, files) => files_seen("stored", &files),
         Task::Resolve(_, file, addresses) => ("addresses", file.argument, 0, addresses.len()),
         Task::ResolveLines(_, file) => ("lines of input", file.argument, 0, 0),
+        Task::Stream(file, StreamAsked::Number(number)) => {
+            ("stream of a number", file.argument, number as usize, 0)
+        }
+        Task::Stream(file, StreamAsked::Name(name)) => {
+            ("stream of a name", file.argument, name.len(), 0)
+        }
         Task::File(file, task) => file_task_seen(file, task),
     }
 }
@@ -127,6 +138,19 @@ fn each_command_has_its_task(rt: HostRuntime) {
         ("sections a --json", ("sections, JSON", 1, 0, 0)),
         ("streams a", ("streams", 1, 0, 0)),
         ("streams --json -- --json", ("streams, JSON", 3, 0, 0)),
+        ("frames a", ("frames", 1, 0, 0)),
+        ("frames a --json", ("frames, JSON", 1, 0, 0)),
+        ("stream a 7", ("stream of a number", 1, 7, 0)),
+        (
+            "stream a 9999999999",
+            ("stream of a number", 1, 9999999999, 0),
+        ),
+        ("stream a 99999999999", ("stream of a name", 1, 11, 0)),
+        ("stream a 0x7", ("stream of a name", 1, 3, 0)),
+        ("stream a -- -7", ("stream of a name", 1, 2, 0)),
+        ("store --symbols=d a", ("stored", 2, 0, 0)),
+        ("store --symbols d a b c", ("stored", 3, 4, 2)),
+        ("store a --replace b --symbols=d", ("replaced", 1, 3, 1)),
     ];
     for (line, wanted) in rows {
         is(&rt, line, &asked(rt.alloc(), line), &Ok(wanted));
@@ -210,6 +234,12 @@ fn the_first_wrong_argument_is_named(rt: HostRuntime) {
         ("where a", 2, Wrong::MissingSource),
         ("where a --", 3, Wrong::MissingSource),
         ("where a :1 b", 2, Wrong::BadSource),
+        ("stream a", 2, Wrong::MissingStream),
+        ("stream a 1 2", 3, Wrong::FurtherOperand),
+        ("stream", 1, Wrong::MissingFile),
+        ("frames a b", 2, Wrong::FurtherOperand),
+        ("store --symbols=d", 2, Wrong::MissingFile),
+        ("store a b", 3, Wrong::MissingFolder),
         ("where a b ", 3, Wrong::BadSource),
         ("symbols --all a 0 x", 3, Wrong::ModuleOfAll),
         ("symbols a x --all", 2, Wrong::ModuleOfAll),

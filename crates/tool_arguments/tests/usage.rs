@@ -8,7 +8,7 @@ use std::test::Fail;
 #[test]
 fn usage_has_the_options_before_the_operands(rt: HostRuntime) -> Result<(), Fail> {
     // The command, its usage, and the names of its options.
-    let rows: [(Command, &[u8], &[u8]); 16] = [
+    let rows: [(Command, &[u8], &[u8]); 19] = [
         (
             Command::Resolve,
             b"pdb_tool resolve [--base=HEX] [--key=KEY | --image=IMAGE] [--symbols=DIR].. [--addresses] [--offsets] [--json] FILE [ADDRESS..]",
@@ -65,9 +65,24 @@ fn usage_has_the_options_before_the_operands(rt: HostRuntime) -> Result<(), Fail
             b" --symbols --json",
         ),
         (
+            Command::Frames,
+            b"pdb_tool frames [--symbols=DIR].. [--json] FILE",
+            b" --symbols --json",
+        ),
+        (
             Command::Streams,
             b"pdb_tool streams [--symbols=DIR].. [--json] FILE",
             b" --symbols --json",
+        ),
+        (
+            Command::Stream,
+            b"pdb_tool stream [--symbols=DIR].. FILE STREAM",
+            b" --symbols",
+        ),
+        (
+            Command::Store,
+            b"pdb_tool store [--symbols=DIR].. [--replace] FILE..",
+            b" --symbols --replace",
         ),
         (
             Command::Key,

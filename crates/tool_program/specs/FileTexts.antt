@@ -4,7 +4,8 @@ use Rattle.tool_addresses.specs.RequestTexts.{address_shown}
 use Rattle.tool_arguments.specs.Operands.{word_of}
 use Rattle.tool_arguments.specs.SourceViews.{source_view}
 use Rattle.tool_arguments.specs.declared.tasks.FileTask.{FileTask}
-use Rattle.tool_arguments.specs.declared.tasks.FileTask.TheVariants.{AllSymbols, Code, Find, Lines, Modules, Scopes, Sections, Sources, Streams, Symbols, Types, Where}
+use Rattle.tool_arguments.specs.declared.tasks.FileTask.TheVariants.{AllSymbols, Code, Find, Frames, Lines, Modules, Scopes, Sections, Sources, Streams, Symbols, Types, Where}
+use Rattle.tool_lists.specs.FrameTexts.{frames_command}
 use Rattle.tool_lists.specs.ModuleLists.{modules_command}
 use Rattle.tool_lists.specs.SectionTexts.{sections_command}
 use Rattle.tool_lists.specs.StreamTexts.{streams_command}
@@ -26,4 +27,5 @@ file_shown file (Find format words) = shown (find_command format file (map word_
 file_shown file (Where format asked) = shown (where_command format file (map source_view asked.items))
 file_shown file (Modules format) = shown (modules_command format file)
 file_shown file (Sections format) = shown (sections_command format file)
+file_shown file (Frames format) = shown (frames_command format file)
 file_shown file (Streams format) = shown (streams_command format file)

@@ -67,6 +67,19 @@ pdb_line format name (Err e) = Err (stop_of_opening e)
 unfoldable pub key_line : KeyFormat → List ℕ → List ℕ → Result (List ℕ) Stop
 key_line format name file = if is_image file then image_line format name (image_of file) else pdb_line format name (key_of_file file)
 
+-- ---- the key under which a store has a file: of an image its own, else that of the PDB
+
+abbrev pub image_key : Result Said ImageError → Result (List ℕ) Stop
+image_key (Ok i) = Ok (own_key i.time_stamp i.size)
+image_key (Err e) = Err (Image e)
+
+abbrev pub or_stopped : Result (List ℕ) Error → Result (List ℕ) Stop
+or_stopped (Ok key) = Ok key
+or_stopped (Err e) = Err (stop_of_opening e)
+
+unfoldable pub file_key : List ℕ → Result (List ℕ) Stop
+file_key file = if is_image file then image_key (image_of file) else or_stopped (key_of_file file)
+
 -- why a file has no line: a read error only where io holds
 abbrev pub StopsLine : Type 0 → Stop → Type 0
 StopsLine io Memory = Unit {0}

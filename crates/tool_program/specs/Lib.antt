@@ -9,3 +9,4 @@ pub mod ReadBack
 pub mod SeveralFiles
 pub mod Tasks
 pub mod Wanted
+pub mod StorePaths

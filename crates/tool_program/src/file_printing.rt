@@ -1,10 +1,12 @@
 //! What is printed of a file.
 
-ghost use Rattle.std.specs.Prelude.{◌≡◌, ⊤, false, true, Ok, IfErr, IfOk, IsErrOf, OnOk, option_copied};
+ghost use Rattle.std.specs.Prelude.{◌≡◌, ⊤, false, true, Err, Ok, IfErr, IfOk, IsErrOf, OnOk, option_copied};
 ghost use Rattle.pdb.specs.Container.{opens};
 ghost use Rattle.pdb.specs.Error.{Error};
 ghost use Rattle.pdb.specs.Source.{Continues, IsKnown};
 ghost use Rattle.tool_addresses.specs.RequestTexts.{address_shown};
+ghost use Rattle.tool_arguments.specs.StreamsAsked.{stream_view};
+ghost use Rattle.tool_lists.specs.StreamBytes.{gap_in, stream_asked_in, stream_shown};
 ghost use Rattle.tool_output.specs.Stops.{Halts, StopsAsked, StopsCommand, StopsComposing};
 ghost use Rattle.tool_output.specs.WriteFailures.{failures_after};
 ghost use Rattle.tool_output.specs.declared.stop.Stop.{Stop};
@@ -24,9 +26,12 @@ use tool_addresses::lines::answer_lines;
 use tool_addresses::resolve::print_addresses;
 use tool_arguments::options::Options;
 use tool_arguments::requests::AddressWord;
+use tool_arguments::streams_asked::StreamAsked;
 use tool_arguments::tasks::FileTask;
+use tool_lists::frame_texts::print_frames;
 use tool_lists::module_lists::print_modules;
 use tool_lists::section_texts::print_sections;
+use tool_lists::stream_bytes::{StreamGap, print_stream};
 use tool_lists::stream_texts::print_streams;
 use tool_output::opening::opened;
 use tool_output::stop::{Stop, stop_of};
@@ -88,6 +93,7 @@ fn print_task<'s, S: Source<'s>, P: Printer>(
         FileTask::Where(format, asked) => print_where(alloc, &mut pdb, *format, asked, out),
         FileTask::Modules(format) => print_modules(alloc, &mut pdb, *format, out),
         FileTask::Sections(format) => print_sections(alloc, &mut pdb, *format, out),
+        FileTask::Frames(format) => print_frames(alloc, &mut pdb, *format, out),
         FileTask::Streams(format) => print_streams(alloc, &mut pdb, *format, out),
     }
 }
@@ -120,6 +126,29 @@ pub fn print_file<R: ReadAt, P: Printer>(
             Ok(None)
         }
     }
+}
+
+/// Writes the bytes of a stream of a file of this size; where they can't be had whole, it writes nothing, and says why.
+pub fn print_stream_of<R: ReadAt, P: Printer>(
+    alloc: Global,
+    bytes: &R,
+    size: u64,
+    asked: StreamAsked<'_>,
+    out: &mut P,
+) -> Result<Option<StreamGap>, Stop>
+    ensures prints { OfKnown (R.known bytes.now) size (λ F. Prints (stream_shown (stream_asked_in F (stream_view asked.entry))) (P.state out.old) (P.state out.new) result) }
+    ensures gap { OfKnown (R.known bytes.now) size (λ F. IfOk result (λ gap. gap ≡ gap_in (stream_asked_in F (stream_view asked.entry)))) }
+    ensures opened { OfKnown (R.known bytes.now) size (λ F. OnOk result (opens F ≡ Ok tt)) }
+    ensures refused { OfKnown (R.known bytes.now) size (λ F. (e : Error) → IsErrOf result (Stop.Open e) → opens F ≡ Err e) }
+    ensures steady { R.is_steady bytes.now ≡ true → OfKnown (R.known bytes.now) size (λ F. IsErrOf result Stop.Read → ⊥) }
+    ensures stops { IfErr result (StopsCommand ⊤) }
+    ensures failures { (P.state out.new).failures ≡ failures_after (P.state out.old).failures result }
+{
+    let arena = Bump::new(alloc);
+    let file = KnownFile::new(bytes);
+    let source = ReadingSource::new(alloc, &arena, bytes, &file, size);
+    let mut pdb = opened(alloc, source)?;
+    print_stream(&mut pdb, asked, out)
 }
 
 /// Prints the texts of the lines of a reader over a file of this size, each before the next is read, if it is the

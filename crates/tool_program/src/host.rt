@@ -3,7 +3,28 @@
 use pdb_file::{FileBytes, ReadAt};
 use std::alloc::{AllocError, Global};
 use tool_arguments::operands::Operand;
-use tool_output::stop::Stop;
+use tool_output::stop::{Stop, Unopened};
+
+/// Why a file can't be stored.
+#[derive(Clone, Copy, Debug, PartialEq, Eq)]
+pub enum Unstored {
+    /// It can't be read.
+    Unread,
+    /// It can't be written, for this reason.
+    Unwritten(Unopened),
+    /// Out of memory.
+    OutOfMemory,
+}
+
+impl From<AllocError> for Unstored {
+    ghost use Rattle.tool_program.specs.declared.host.Unstored.TheVariants.{OutOfMemory};
+
+    ghost from_gives = { λ _ e. e ≡ OutOfMemory };
+
+    fn from(_e: AllocError) -> Unstored {
+        Unstored::OutOfMemory
+    }
+}
 
 /// What opens files, and what is known of standard input and of the arguments.
 pub trait Host {
@@ -31,6 +52,10 @@ pub trait Host {
     /// The bytes of the regular file of a path, or why it can't be opened or read: where there is none it is missing. No pipe
     /// and no device is opened.
     fn open_path(&self, path: &str) -> Result<FileBytes<Self::File>, Stop>;
+
+    /// Writes a file of these bytes at a path, whole or not at all: under another name first. Folders are made where they
+    /// aren't there.
+    fn store(&self, path: &str, bytes: &FileBytes<Self::File>) -> Result<(), Unstored>;
 
     /// Whether a path leads to a regular file.
     fn is_file(&self, path: &str) -> bool;

@@ -9,7 +9,7 @@ ghost use Rattle.pdb.specs.Source.{Continues, MayFail, view_bytes};
 ghost use Rattle.pdb_image.specs.Headers.{is_image};
 ghost use Rattle.pdb_image.specs.Images.{image_of, reference, said};
 ghost use Rattle.tool_program.specs.Hosts.{OfKnown, OfSource, StopsAs};
-ghost use Rattle.tool_program.specs.KeyLines.{StopsLine, image_in as line_of_image, image_line as image_line_of, image_text as text_of_image, key_line as key_line_of, pdb_in as line_of_pdb, pdb_named, pdb_text as text_of_pdb};
+ghost use Rattle.tool_program.specs.KeyLines.{StopsLine, file_key as file_key_of, image_in as line_of_image, image_key as image_key_of, image_line as image_line_of, image_text as text_of_image, key_line as key_line_of, pdb_in as line_of_pdb, pdb_named, pdb_text as text_of_pdb};
 ghost use Rattle.tool_program.specs.OwnKeys.{own_key};
 ghost use Rattle.tool_program.specs.Wanted.{StopsImage, wants_in as wants_there, wants_view};
 ghost use Rattle.tool_output.specs.Stops.{StopsComposing, StopsOpening};
@@ -236,6 +236,52 @@ pub fn pdb_key<R: ReadAt>(alloc: Global, bytes: &R, size: u64) -> Result<Vec<u8>
         Ok(key) => Ok(key),
         Err(e) => Err(stop_of_opening(e)),
     }
+}
+
+/// The key of an image's bytes.
+fn image_key(alloc: Global, bytes: &[u8]) -> Result<Vec<u8>, Stop>
+    ensures key { IfOk result (λ v. image_key_of (image_of bytes.now) ≡ Ok v.items) }
+    ensures stopped { (s : Stop) → s ≢ Stop.Memory → IsErrOf result s → image_key_of (image_of bytes.now) ≡ Err s }
+    ensures stops { IfErr result (StopsLine ⊥) }
+{
+    let image = match Image::parse(bytes) {
+        Ok(image) => image,
+        Err(e) => return Err(Stop::Image(e)),
+    };
+    let mut key = Vec::new(alloc);
+    put_own_key(alloc, &mut key, image.time_stamp, image.size)?;
+    Ok(key)
+}
+
+/// The key under which a store has a source's file of this size: of an image, which is viewed whole, its own.
+fn key_of_source<'s, S: Source<'s>>(
+    alloc: Global,
+    mut source: S,
+    size: u64,
+) -> Result<Vec<u8>, Stop>
+    ensures key { OfSource (S.state source) size (λ F. IfOk result (λ v. file_key_of F ≡ Ok v.items)) }
+    ensures stopped { OfSource (S.state source) size (λ F. StopsAs result (file_key_of F)) }
+    ensures steady { IsErrOf result Stop.Read → (S.state source).steady ≡ false }
+    ensures stops { IfErr result (StopsLine ⊤) }
+{
+    if begins_as_image(alloc, &mut source).map_err(stop_of_opening)? {
+        let bytes = whole(alloc, &mut source, size)?;
+        return image_key(alloc, bytes.as_slice());
+    }
+    key_of(alloc, source).map_err(stop_of_opening)
+}
+
+/// The key under which a store has a file of this size: of an image its own, else that of the PDB.
+pub fn file_key<R: ReadAt>(alloc: Global, bytes: &R, size: u64) -> Result<Vec<u8>, Stop>
+    ensures key { OfKnown (R.known bytes.now) size (λ F. IfOk result (λ v. file_key_of F ≡ Ok v.items)) }
+    ensures stopped { OfKnown (R.known bytes.now) size (λ F. StopsAs result (file_key_of F)) }
+    ensures steady { R.is_steady bytes.now ≡ true → OfKnown (R.known bytes.now) size (λ F. IsErrOf result Stop.Read → ⊥) }
+    ensures stops { IfErr result (StopsLine ⊤) }
+{
+    let arena = Bump::new(alloc);
+    let file = KnownFile::new(bytes);
+    let source = ReadingSource::new(alloc, &arena, bytes, &file, size);
+    key_of_source(alloc, source, size)
 }
 
 /// What an image of this size wants.

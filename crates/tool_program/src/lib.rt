@@ -14,5 +14,7 @@ pub mod list_laws;
 pub mod messages;
 pub mod one_pdb;
 pub mod several_files;
+pub mod store;
+pub mod store_paths;
 pub mod tasks;
 pub mod wanted;

@@ -1,19 +1,22 @@
 //! What is printed on standard error.
 
 ghost use Rattle.std.specs.Prelude.{◌≡◌, ◌++◌, OnOk};
-ghost use Rattle.tool_program.specs.Messages.{about, no_pdb, other_key};
+ghost use Rattle.tool_arguments.specs.StreamsAsked.{stream_view};
+ghost use Rattle.tool_program.specs.Messages.{about, no_pdb, no_stream, other_key};
 
 use crate::file_kind::{FileKind, file_kind, put_kind};
 use crate::host::Host;
 use pdb_paths::file_name;
-use pdb_text::{put_one_line, write_out};
+use pdb_text::{put_decimal, put_one_line, write_out};
 use std::alloc::{AllocError, Global};
 use std::io::Write;
 use tool_arguments::closest::closest;
 use tool_arguments::messages::{put_mistake, word_at};
 use tool_arguments::mistakes::{Mistake, Wrong};
 use tool_arguments::options::value_in;
+use tool_arguments::streams_asked::StreamAsked;
 use tool_fields::values::put_behind_blank;
+use tool_lists::stream_bytes::StreamGap;
 use tool_output::fault::Fault;
 use tool_output::stop::{Stop, Unopened};
 
@@ -183,6 +186,73 @@ fn put_no_pdb(out: &mut Vec<u8>, image: &str, path: &[u8], pdb_key: &[u8]) -> Re
 pub fn report_no_pdb<E: Write>(alloc: Global, image: &str, path: &[u8], key: &[u8], err: &mut E) {
     let mut text = Vec::new(alloc);
     let composed = put_no_pdb(&mut text, image, path, key);
+    report(composed, &text, err);
+}
+
+/// Why a file can't be written.
+fn unwritten_by(why: Unopened) -> &'static str {
+    match why {
+        Unopened::Missing => "cannot write file: no such folder",
+        Unopened::Directory => "cannot write file: it is a directory",
+        Unopened::Denied => "cannot write file: permission denied",
+        Unopened::NotText | Unopened::Other => "cannot write file",
+    }
+}
+
+/// Writes that a file can't be written.
+pub fn report_unwritten<E: Write>(alloc: Global, path: &str, why: Unopened, err: &mut E) {
+    let mut text = Vec::new(alloc);
+    let composed = put_about(&mut text, path, unwritten_by(why).as_bytes());
+    report(composed, &text, err);
+}
+
+/// Writes that another file is where one was to be stored.
+pub fn report_other_contents<E: Write>(alloc: Global, path: &str, err: &mut E) {
+    let mut text = Vec::new(alloc);
+    let composed = put_about(&mut text, path, b"is there already, with other contents");
+    report(composed, &text, err);
+}
+
+/// Writes that a file can't be stored under its name.
+pub fn report_unnamed<E: Write>(alloc: Global, name: &str, err: &mut E) {
+    let mut text = Vec::new(alloc);
+    let composed = put_about(&mut text, name, b"no file can be stored under its name");
+    report(composed, &text, err);
+}
+
+/// Appends that a file lacks a stream, and where to look.
+#[tactic(auto, unfolding(crate::specs::Messages::no_stream))]
+fn put_no_stream(out: &mut Vec<u8>, name: &str, asked: StreamAsked<'_>) -> Result<(), AllocError>
+    ensures { OnOk result (out.new.items ≡ out.old.items ++ no_stream name.now (stream_view asked.entry)) }
+{
+    out.extend_from_slice(b"pdb_tool: ")?;
+    put_one_line(out, name.as_bytes())?;
+    match asked {
+        StreamAsked::Number(number) => {
+            out.extend_from_slice(b" has no stream ")?;
+            put_decimal(out, number)?;
+        }
+        StreamAsked::Name(called) => {
+            out.extend_from_slice(b" has no stream called ")?;
+            put_one_line(out, called)?;
+        }
+    }
+    out.extend_from_slice(b": pdb_tool streams FILE lists them\n")
+}
+
+/// Writes why no bytes of a stream are there.
+pub fn report_gap<E: Write>(
+    alloc: Global,
+    name: &str,
+    asked: StreamAsked<'_>,
+    gap: StreamGap,
+    err: &mut E,
+) {
+    let mut text = Vec::new(alloc);
+    let composed = match gap {
+        StreamGap::Missing => put_no_stream(&mut text, name, asked),
+        StreamGap::Refused(e) => put_opening(&mut text, name, e, None),
+    };
     report(composed, &text, err);
 }
 

@@ -4,12 +4,13 @@ ghost use Rattle.std.specs.Prelude.{◌≡◌, map};
 ghost use Rattle.tool_arguments.specs.Requests.{address_view};
 ghost use Rattle.tool_program.specs.Tasks.{all_based, exit_status, looks_up};
 
-use crate::file_printing::{answer_file, print_file};
+use crate::file_printing::{answer_file, print_file, print_stream_of};
 use crate::host::Host;
 use crate::key_line::image_wants;
-use crate::messages::{report_damage, report_other_key, report_reading, report_stop};
+use crate::messages::{report_damage, report_gap, report_other_key, report_reading, report_stop};
 use crate::one_pdb::{OnePdb, one_pdb};
 use crate::several_files::{Checks, Keys};
+use crate::store::store_files;
 use crate::wanted::wanted_key;
 use pdb_text::{CountedWrite, write_out};
 use std::alloc::Global;
@@ -21,6 +22,7 @@ use tool_arguments::mistakes::{Mistake, Wrong};
 use tool_arguments::operands::Operand;
 use tool_arguments::options::{Options, ValueAt, Wanted, value_in};
 use tool_arguments::requests::{AddressWord, first_needing};
+use tool_arguments::streams_asked::StreamAsked;
 use tool_arguments::tasks::{FileTask, Task, task_in};
 use tool_output::each_file::print_each_file;
 use tool_output::fault::{Fault, status_of};
@@ -229,17 +231,52 @@ fn answer_input<H: Host, I: BufRead, W: CountedWrite, E: Write>(
     printed_or_other(host, printed, is_damaged, own_path, name, key, streams.err)
 }
 
-/// That what is looked up is UTF-8.
-fn all_text<H: Host>(host: &H, file: Operand<'_>, task: &FileTask<'_>) -> Result<(), Fault> {
-    if !looks_up(task) {
-        return Ok(());
-    }
+/// That each argument but the one that names a file is UTF-8.
+fn others_are_text<H: Host>(host: &H, file: Operand<'_>) -> Result<(), Fault> {
     for argument in host.not_text() {
         if *argument != file.argument {
             return Err(Fault::NotText(*argument));
         }
     }
     Ok(())
+}
+
+/// That what is looked up is UTF-8.
+fn all_text<H: Host>(host: &H, file: Operand<'_>, task: &FileTask<'_>) -> Result<(), Fault> {
+    if looks_up(task) {
+        others_are_text(host, file)
+    } else {
+        Ok(())
+    }
+}
+
+/// Writes the bytes of a stream.
+fn write_stream<H: Host, I: BufRead, W: CountedWrite, E: Write>(
+    host: &H,
+    name: Operand<'_>,
+    asked: StreamAsked<'_>,
+    words: &[String],
+    streams: &mut StandardStreams<'_, I, W, E>,
+) -> IsWell {
+    others_are_text(host, name)?;
+    let file = one_pdb(host, name, words, streams.err)?;
+    let mut out = Printout::new(streams.out);
+    let written = print_stream_of(
+        host.alloc(),
+        &file.bytes,
+        file.bytes.size(),
+        asked,
+        &mut out,
+    );
+    match written {
+        Ok(None) => Ok(true),
+        Ok(Some(gap)) => {
+            let path = file.own_path().unwrap_or(name.word);
+            report_gap(host.alloc(), path, asked, gap, streams.err);
+            Ok(false)
+        }
+        Err(stop) => Err(fault_over(host, stop, file.own_path(), name, streams.err)),
+    }
 }
 
 /// Prints a text of the program's own.
@@ -275,6 +312,15 @@ pub fn run<H: Host, I: BufRead, W: CountedWrite, E: Write>(
         Task::Resolve(options, file, addresses) => {
             print_code(host, options, file, addresses, words, streams)
         }
+        Task::Store(storing, files) => store_files(
+            host,
+            storing,
+            &files,
+            words,
+            streams.out,
+            streams.err,
+        ),
+        Task::Stream(file, asked) => write_stream(host, file, asked, words, streams),
         Task::ResolveLines(options, file) => answer_input(host, options, file, words, streams),
         Task::File(file, task) => {
             all_text(host, file, &task)?;
