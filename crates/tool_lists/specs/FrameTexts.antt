@@ -99,13 +99,20 @@ frame_line_in Objects strings f = json_line (frame_value f (program_of strings f
 
 -- ---- all records
 
--- of each whole 32 bytes of `FRAMEDATA`
-abbrev pub frame_data_lines : OutputFormat → Option (List ℕ) → List ℕ → List ℕ
-frame_data_lines format strings b = flat_map (λ k. frame_line_in format strings (frame_data_at b k)) (range_with_len 0 (length b / 32))
+-- record k of `FRAMEDATA`, and of `FPO_DATA`, which has no program
+abbrev pub newer_line : OutputFormat → Option (List ℕ) → List ℕ → ℕ → List ℕ
+newer_line format strings b k = frame_line_in format strings (frame_data_at b k)
 
--- of each whole 16 bytes of `FPO_DATA`, which have no programs
+abbrev pub older_line : OutputFormat → List ℕ → ℕ → List ℕ
+older_line format b k = frame_line_in format None (fpo_at b k)
+
+-- each whole 32 bytes of `FRAMEDATA`
+abbrev pub frame_data_lines : OutputFormat → Option (List ℕ) → List ℕ → List ℕ
+frame_data_lines format strings b = flat_map (newer_line format strings b) (range_with_len 0 (length b / 32))
+
+-- each whole 16 bytes of `FPO_DATA`
 abbrev pub fpo_lines : OutputFormat → List ℕ → List ℕ
-fpo_lines format b = flat_map (λ k. frame_line_in format None (fpo_at b k)) (range_with_len 0 (length b / 16))
+fpo_lines format b = flat_map (older_line format b) (range_with_len 0 (length b / 16))
 
 abbrev pub lines_of_new : OutputFormat → Option (List ℕ) → Option (List ℕ) → List ℕ
 lines_of_new format strings None = []

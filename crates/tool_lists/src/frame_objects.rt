@@ -106,7 +106,7 @@ pub fn put_frame_object(
     strings: Option<&StringTable<'_>>,
     frame: &FrameData,
 ) -> Result<(), AllocError>
-    ensures { OnOk result (out.new.items ≡ out.old.items ++ json_line (frame_value frame.now (program_of (option_copied strings) frame.now.program))) }
+    ensures { OnOk result (out.new.items ≡ out.old.items ++ json_line (frame_value frame.now (program_of (option_copied strings.entry) frame.now.program))) }
 {
     let alloc = *out.allocator();
     let mut writer = value_behind(out);

@@ -1,12 +1,12 @@
 //! The text of `frames`.
 
-ghost use Rattle.std.specs.Prelude.{◌≡◌, ◌++◌, true, codes, flat_map, length, option_copied, IfErr, OnOk};
+ghost use Rattle.std.specs.Prelude.{◌≡◌, ◌++◌, ◌/◌, ◌<◌, true, codes, flat_map, length, option_copied, IfErr, OnOk};
 ghost use Rattle.std.specs.Fmt.{decimal};
 ghost use Rattle.std.specs.List.{range_with_len};
 ghost use Rattle.pdb.specs.Source.{Continues, MayFail};
 ghost use Rattle.pdb_frames.specs.FrameViews.{fpo_bytes, frame_bytes};
 ghost use Rattle.tool_fields.specs.FieldTexts.{field};
-ghost use Rattle.tool_lists.specs.FrameTexts.{flag_text, flags_text, fpo_lines, frame_data_lines, frame_line, frame_line_in, frames_command, kind_word, lines_of_new, lines_of_old, program_of, program_text, sizes_text, table_text};
+ghost use Rattle.tool_lists.specs.FrameTexts.{flag_text, flags_text, fpo_lines, frame_data_lines, frame_line, frame_line_in, frames_command, kind_word, lines_of_new, lines_of_old, newer_line, older_line, program_of, program_text, sizes_text, table_text};
 ghost use Rattle.tool_output.specs.Stops.{Halts, StopsComposing};
 ghost use Rattle.tool_printing.specs.Printing.{Prints, shown};
 
@@ -39,7 +39,7 @@ pub fn kind_word(kind: FrameType) -> &'static str
 
 /// The program that undoes a frame; no bytes where the record has none, or the string table hasn't it.
 pub fn program_of<'a>(strings: Option<&'a StringTable<'_>>, program: Option<StringRef>) -> &'a [u8]
-    ensures { result.now ≡ program_of (option_copied strings) program }
+    ensures { result.now ≡ program_of (option_copied strings.entry) program }
 {
     let (Some(strings), Some(program)) = (strings, program) else {
         return &[];
@@ -111,7 +111,7 @@ fn put_frame(
     strings: Option<&StringTable<'_>>,
     frame: &FrameData,
 ) -> Result<(), AllocError>
-    ensures { OnOk result (out.new.items ≡ out.old.items ++ frame_line (option_copied strings) frame.now) }
+    ensures { OnOk result (out.new.items ≡ out.old.items ++ frame_line (option_copied strings.entry) frame.now) }
 {
     put_address(out, Some(frame.code_start))?;
     put_field(out, u64::from(frame.code_size))?;
@@ -130,11 +130,44 @@ fn put_frame_in(
     strings: Option<&StringTable<'_>>,
     frame: &FrameData,
 ) -> Result<(), AllocError>
-    ensures { OnOk result (out.new.items ≡ out.old.items ++ frame_line_in format (option_copied strings) frame.now) }
+    ensures { OnOk result (out.new.items ≡ out.old.items ++ frame_line_in format (option_copied strings.entry) frame.now) }
 {
     match format {
         OutputFormat::Text => put_frame(out, strings, frame),
         OutputFormat::Json => put_frame_object(out, strings, frame),
+    }
+}
+
+/// The line of the record of a number that has a program.
+fn put_newer(
+    out: &mut Vec<u8>,
+    format: OutputFormat,
+    strings: Option<&StringTable<'_>>,
+    records: FrameDataRecords<'_>,
+    k: usize,
+) -> Result<(), AllocError>
+    requires { k < length (frame_bytes records) / 32 }
+    ensures { OnOk result (out.new.items ≡ out.old.items ++ newer_line format (option_copied strings.entry) (frame_bytes records.entry) k) }
+{
+    match records.get(k) {
+        Some(frame) => put_frame_in(out, format, strings, &frame),
+        None => Ok(()),
+    }
+}
+
+/// The line of the record of a number that has none.
+fn put_older(
+    out: &mut Vec<u8>,
+    format: OutputFormat,
+    records: FpoRecords<'_>,
+    k: usize,
+) -> Result<(), AllocError>
+    requires { k < length (fpo_bytes records) / 16 }
+    ensures { OnOk result (out.new.items ≡ out.old.items ++ older_line format (fpo_bytes records.entry) k) }
+{
+    match records.get(k) {
+        Some(frame) => put_frame_in(out, format, None, &frame),
+        None => Ok(()),
     }
 }
 
@@ -145,12 +178,10 @@ fn put_frame_data(
     strings: Option<&StringTable<'_>>,
     records: FrameDataRecords<'_>,
 ) -> Result<(), AllocError>
-    ensures { OnOk result (out.new.items ≡ out.old.items ++ frame_data_lines format (option_copied strings) (frame_bytes records)) }
+    ensures { OnOk result (out.new.items ≡ out.old.items ++ frame_data_lines format (option_copied strings.entry) (frame_bytes records.entry)) }
 {
     for k in 0..records.len() {
-        if let Some(frame) = records.get(k) {
-            put_frame_in(out, format, strings, &frame)?;
-        }
+        put_newer(out, format, strings, records, k)?;
     }
     Ok(())
 }
@@ -161,12 +192,10 @@ fn put_fpo(
     format: OutputFormat,
     records: FpoRecords<'_>,
 ) -> Result<(), AllocError>
-    ensures { OnOk result (out.new.items ≡ out.old.items ++ fpo_lines format (fpo_bytes records)) }
+    ensures { OnOk result (out.new.items ≡ out.old.items ++ fpo_lines format (fpo_bytes records.entry)) }
 {
     for k in 0..records.len() {
-        if let Some(frame) = records.get(k) {
-            put_frame_in(out, format, None, &frame)?;
-        }
+        put_older(out, format, records, k)?;
     }
     Ok(())
 }
@@ -178,7 +207,7 @@ fn put_new(
     strings: Option<&StringTable<'_>>,
     stream: Option<&Stream<'_>>,
 ) -> Result<(), AllocError>
-    ensures { OnOk result (out.new.items ≡ out.old.items ++ lines_of_new format (option_copied strings) (option_copied stream)) }
+    ensures { OnOk result (out.new.items ≡ out.old.items ++ lines_of_new format (option_copied strings.entry) (option_copied stream.entry)) }
 {
     match stream {
         Some(stream) => put_frame_data(
@@ -197,7 +226,7 @@ fn put_old(
     format: OutputFormat,
     stream: Option<&Stream<'_>>,
 ) -> Result<(), AllocError>
-    ensures { OnOk result (out.new.items ≡ out.old.items ++ lines_of_old format (option_copied stream)) }
+    ensures { OnOk result (out.new.items ≡ out.old.items ++ lines_of_old format (option_copied stream.entry)) }
 {
     match stream {
         Some(stream) => put_fpo(out, format, FpoRecords::new(stream.as_slice())),
@@ -212,7 +241,7 @@ fn put_table(
     strings: Option<&StringTable<'_>>,
     table: &FrameTable<'_>,
 ) -> Result<(), AllocError>
-    ensures { OnOk result (out.new.items ≡ out.old.items ++ table_text format (option_copied strings) table.now) }
+    ensures { OnOk result (out.new.items ≡ out.old.items ++ table_text format (option_copied strings.entry) table.now) }
 {
     let new_stream = table.new_stream();
     let old_stream = table.old_stream();
