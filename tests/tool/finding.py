@@ -4,7 +4,7 @@ import os
 import random
 import re
 
-from program import FILES, LIST, NO_MODULE, NO_SOURCE, REAL, compare, damage_notice, ran, tell, wrong
+from program import FILES, LIST, NO_LINES, NO_MODULE, NO_SOURCE, REAL, compare, damage_notice, ran, tell, wrong
 
 FIND = b"""public 0001:00000100 0x1100 - main
 data 0003:00000010 - - g
@@ -30,7 +30,7 @@ procedure 0001:000005c0 0x15c0 36 operator new
 """
 USAGES = {
     "find": b"usage: pdb_tool find [--symbols=DIR].. [--json] FILE NAME..\n",
-    "where": b"usage: pdb_tool where [--symbols=DIR].. [--json] FILE SOURCE[:LINE[-LINE]]..\n",
+    "where": b"usage: pdb_tool where [--symbols=DIR].. [--json] FILE SOURCE..\n",
     "sources": b"usage: pdb_tool sources [--symbols=DIR].. [--json] FILE [K..]\n",
     "modules": b"usage: pdb_tool modules [--symbols=DIR].. [--json] FILE\n",
     "sections": b"usage: pdb_tool sections [--symbols=DIR].. [--json] FILE\n",
@@ -71,7 +71,10 @@ def found_in_the_sample(sample):
         (["a.c:9-11", "A.c:12"], third + fourth),
         (["a.c:9999999999"], b""),
         (["a.c:0-9999999999"], WHERE),
-        (["a.c:10-9"], b""),
+        (["a.c:1:0"], first),
+        (["a.c:10:2"], third),
+        (["a.c:1-2:0"], b""),
+        (["a.c:2-2"], second),
         (["a.c:"], b""),
         (["a.c:1-"], b""),
         (["a.c:00000000001"], b""),
@@ -98,6 +101,8 @@ def arguments(sample):
     for topic, bad in [("find", ""), ("where", ""), ("where", ":1"), ("where", ":1-2"), ("sources", "x"), ("sources", "4294967296"), ("modules", "0"), ("sections", "1")]:
         words = [sample, *EVERYTHING[topic], bad]
         compare(f"{topic} with {bad!r}", wrong(why.get(topic, topic.encode() + b" takes one FILE, and not %s").replace(b"%s", bad.encode()), USAGES[topic]), topic, *words)
+    for bad in "a.c:10-9", "a.c:9999999999-0":
+        compare(f"where with {bad}", wrong(NO_LINES % bad.encode(), USAGES["where"]), "where", sample, "a.c", bad)
     for topic in "find", "where":
         compare(f"{topic} without a name", wrong(b"NAME is missing" if topic == "find" else b"SOURCE is missing", USAGES[topic]), topic, sample)
 

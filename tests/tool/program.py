@@ -50,6 +50,7 @@ NO_ADDRESS = b"'%s' is not an address: write 1108, 0x1108 or 1:108; find prints 
 NO_MODULE = b"'%s' is not the index of a module: pdb_tool modules FILE lists them"
 NO_TYPE = b"'%s' is not the index of a type: write HEX, as in 1000"
 NO_SOURCE = b"'%s' names no source file: write SOURCE, SOURCE:63 or SOURCE:63-70"
+NO_LINES = b"'%s' names no lines: write the lower line first, as in SOURCE:63-70"
 NO_BASE = b"%s: HEX is 1 to 16 hex digits"
 NO_KEY = b"%s: KEY is 33 to 40 hex digits"
 OPTIONS_OF_RESOLVE = b"resolve has --base --key --image --symbols --addresses --offsets --json"

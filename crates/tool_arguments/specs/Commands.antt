@@ -32,7 +32,7 @@ abbrev pub operands_of : Command → List ℕ
 operands_of Resolve = codes "FILE [ADDRESS..]"
 operands_of Variables = codes "FILE [ADDRESS..]"
 operands_of Find = codes "FILE NAME.."
-operands_of Where = codes "FILE SOURCE[:LINE[-LINE]].."
+operands_of Where = codes "FILE SOURCE.."
 operands_of Lines = codes "FILE [K..]"
 operands_of Scopes = codes "FILE [K..]"
 operands_of Symbols = codes "FILE [K..]"

@@ -65,6 +65,7 @@ wrong_operand word wrong.BadModule = between (codes "'") word (codes "' is not t
 wrong_operand word wrong.ModuleOfAll = between [] word (codes ": symbols --all prints all modules, and takes no K")
 wrong_operand word wrong.BadType = between (codes "'") word (codes "' is not the index of a type: write HEX, as in 1000")
 wrong_operand word wrong.BadSource = between (codes "'") word (codes "' names no source file: write SOURCE, SOURCE:63 or SOURCE:63-70")
+wrong_operand word wrong.BadLines = between (codes "'") word (codes "' names no lines: write the lower line first, as in SOURCE:63-70")
 wrong_operand word other = []
 
 abbrev pub is_of_option : Wrong → Bool

@@ -9,7 +9,7 @@ use Rattle.tool_arguments.specs.SourcesAsked.{SourceOf, source_of}
 use Rattle.tool_arguments.specs.declared.code_address.SpelledAddress.{SpelledAddress}
 use Rattle.tool_arguments.specs.declared.mistakes.Mistake.{Mistake}
 use Rattle.tool_arguments.specs.declared.mistakes.Wrong.{Wrong}
-use Rattle.tool_arguments.specs.declared.mistakes.Wrong.TheVariants.{BadAddress, BadModule, BadSource, BadType}
+use Rattle.tool_arguments.specs.declared.mistakes.Wrong.TheVariants.{BadAddress, BadModule, BadType}
 use Rattle.tool_arguments.specs.declared.options.Next.{Next}
 use Rattle.tool_arguments.specs.declared.options.Next.TheVariants.{Word, Value, Operand}
 use Rattle.tool_arguments.specs.declared.operands.Operand.{Operand as Named}
@@ -82,4 +82,4 @@ abbrev pub type_in : WordAt → Result ℕ Wrong
 type_in w = small_index (address_number w.word)
 
 abbrev pub source_in : WordAt → Result SourceOf Wrong
-source_in w = or_wrong (source_of w.word) BadSource
+source_in w = source_of w.word

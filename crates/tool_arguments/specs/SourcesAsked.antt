@@ -1,9 +1,11 @@
 -- Which lines of which source files a word asks for.
-use Rattle.std.specs.Prelude.{ℕ, ◌+◌, ◌-◌, List, [], ◌∷◌, length, take, drop, map, slice_index_or, position, Bool, true, ◌&&◌, ◌||◌, ◌==◌, nat_le, if◌then◌else◌, Option, Some, None, option_map, option_and_then}
+use Rattle.std.specs.Prelude.{ℕ, ◌+◌, ◌-◌, List, [], ◌∷◌, length, take, drop, map, slice_index_or, position, Bool, true, ◌&&◌, ◌||◌, ◌==◌, nat_le, if◌then◌else◌, Option, Some, None, Result, Ok, Err, option_map, option_and_then}
 use Rattle.std.specs.List.{list_any}
-use Rattle.std.specs.Option.{option_or}
+use Rattle.std.specs.Option.{is_some, option_or}
 use Rattle.std.specs.Str.{bytes_eq}
 use Rattle.pdb_text.specs.Numbers.{long_number_in}
+use Rattle.tool_arguments.specs.declared.mistakes.Wrong.{Wrong}
+use Rattle.tool_arguments.specs.declared.mistakes.Wrong.TheVariants.{BadLines, BadSource}
 
 -- ---- words
 
@@ -49,12 +51,36 @@ abbrev pub source_by : List ℕ → Option (ℕ × Stretch) → SourceOf
 source_by word None = record { source = word; lines = None }
 source_by word (Some x) = record { source = take x.0 word; lines = Some x.1 }
 
--- none where it names no file
-abbrev pub if_named : SourceOf → Option SourceOf
-if_named s = if bytes_eq s.source [] then None else Some s
+abbrev pub source_in : List ℕ → SourceOf
+source_in word = source_by word (lines_at word (last_colon word))
 
-unfoldable pub source_of : List ℕ → Option SourceOf
-source_of word = if_named (source_by word (lines_at word (last_colon word)))
+-- what stands before the last colon, where a number stands behind it
+abbrev pub before_number_by : List ℕ → Option ℕ → Option (List ℕ)
+before_number_by word None = None
+before_number_by word (Some at) = option_map (λ n. take at word) (long_number_in (drop (at + 1) word))
+
+abbrev pub before_number : List ℕ → Option (List ℕ)
+before_number word = before_number_by word (last_colon word)
+
+-- without `:COLUMN` behind `:LINE`
+abbrev pub without_column_by : List ℕ → Option (List ℕ) → List ℕ
+without_column_by word None = word
+without_column_by word (Some before) = if is_some (before_number before) then before else word
+
+abbrev pub without_column : List ℕ → List ℕ
+without_column word = without_column_by word (before_number word)
+
+-- of two lines the first isn't the higher one
+abbrev pub is_in_order : Option Stretch → Bool
+is_in_order None = true
+is_in_order (Some s) = nat_le s.first s.last
+
+-- wrong where it names no file, or two lines of which the first is the higher one
+abbrev pub judged : SourceOf → Result SourceOf Wrong
+judged s = if bytes_eq s.source [] then Err BadSource else if is_in_order s.lines then Ok s else Err BadLines
+
+unfoldable pub source_of : List ℕ → Result SourceOf Wrong
+source_of word = judged (source_in (without_column word))
 
 -- ---- the files and lines that they ask for
 

@@ -104,7 +104,7 @@ impl Command {
         match self {
             Command::Resolve | Command::Variables => "FILE [ADDRESS..]",
             Command::Find => "FILE NAME..",
-            Command::Where => "FILE SOURCE[:LINE[-LINE]]..",
+            Command::Where => "FILE SOURCE..",
             Command::Lines | Command::Scopes | Command::Symbols => "FILE [K..]",
             Command::Types => "FILE [INDEX..]",
             Command::Sources => "FILE [K..]",

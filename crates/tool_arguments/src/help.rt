@@ -15,7 +15,7 @@ pdb_tool prints what Microsoft symbol files (PDB) say about a program.
   pdb_tool variables [--base=HEX] FILE [ADDRESS..]
                                                   the same, with the variables in scope
   pdb_tool find FILE NAME..                       addresses of functions and data
-  pdb_tool where FILE SOURCE[:LINE[-LINE]]..      addresses of source lines
+  pdb_tool where FILE SOURCE..                    addresses of source lines
   pdb_tool lines FILE [K..]                       line records of modules
   pdb_tool scopes FILE [K..]                      functions, blocks, variables, inlined calls
   pdb_tool symbols [--all] FILE [K..]             symbol records with all their fields
@@ -145,9 +145,9 @@ and text; module is null outside modules.
 
 const WHERE: &str = "\
 Prints the addresses of source lines. SOURCE is the name of a source file, or the end of its path:
-tour.h, src/main.cpp. / is the same as \\, and case doesn't count. Behind it :LINE is one line, and
-:LINE-LINE a range; without them all lines are printed. There is no search for the nearest line:
-give a range.
+tour.h, src/main.cpp. / is the same as \\, and case doesn't count. Behind it :LINE is one line,
+:LINE-LINE a range, the lower line first, and :LINE:COLUMN, as resolve prints it, that line; without
+them all lines are printed. There is no search for the nearest line: give a range.
 
 Each output line is `line` or, for a line of an inlined call, `inlined`; then SECTION:OFFSET in hex,
 the address relative to the load address, the size in bytes, FILE:LINE:COLUMN, and the name of the

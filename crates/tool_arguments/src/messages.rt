@@ -23,6 +23,8 @@ const HOW_TYPE: &[u8] = b"' is not the index of a type: write HEX, as in 1000";
 
 const HOW_SOURCE: &[u8] = b"' names no source file: write SOURCE, SOURCE:63 or SOURCE:63-70";
 
+const HOW_LINES: &[u8] = b"' names no lines: write the lower line first, as in SOURCE:63-70";
+
 /// Appends an option as it is spelled, and a text.
 fn put_option(out: &mut Vec<u8>, option: OptionName, text: &[u8]) -> Result<(), AllocError>
     ensures { OnOk result (out.new.items ≡ out.old.items ++ (spelled_option option ++ text.now)) }
@@ -164,6 +166,7 @@ fn put_wrong_operand(out: &mut Vec<u8>, word: &str, wrong: Wrong) -> Result<(), 
         Wrong::ModuleOfAll => put_between(out, b"", word, HOW_ALL),
         Wrong::BadType => put_between(out, b"'", word, HOW_TYPE),
         Wrong::BadSource => put_between(out, b"'", word, HOW_SOURCE),
+        Wrong::BadLines => put_between(out, b"'", word, HOW_LINES),
         _ => Ok(()),
     }
 }

@@ -157,7 +157,7 @@ pub fn all_types(alloc: Global, operands: &[Operand<'_>]) -> Result<Vec<u32>, Ta
 fn source_in<'w>(operand: Operand<'w>) -> Result<SourceAsked<'w>, Wrong>
     ensures { result_map_both source_view (λ wrong. wrong) result ≡ source_in (operand_view operand.entry) }
 {
-    source_of(operand.word.as_bytes()).ok_or(Wrong::BadSource)
+    source_of(operand.word.as_bytes())
 }
 
 /// The lines of source files that operands name.

@@ -1,12 +1,14 @@
 //! Which lines of which source files a word asks for.
 
-ghost use Rattle.std.specs.Prelude.{◌≡◌, ◌≤◌, ◌<◌, length, map, position, option_map, IfSome};
+ghost use Rattle.std.specs.Prelude.{◌≡◌, ◌≤◌, ◌<◌, length, map, position, option_copied, option_map, IfSome};
+ghost use Rattle.std.specs.Result.{result_map_both};
 ghost use Rattle.std.specs.Str.{bytes_eq};
 ghost use Rattle.std.specs.List.{list_any};
 ghost use Rattle.pdb_text.specs.Numbers.{long_number_in};
-ghost use Rattle.tool_arguments.specs.SourcesAsked.{asks_for, begins_part, folded as fold_of, folds, has_line, is_dash, is_named, last_colon, lines_at, source_of, stretch_in};
+ghost use Rattle.tool_arguments.specs.SourcesAsked.{asks_for, before_number, begins_part, folded as fold_of, folds, has_line, is_dash, is_in_order, is_named, judged, last_colon, lines_at, source_in, source_of, stretch_in, without_column};
 ghost use Rattle.tool_arguments.specs.SourceViews.{source_view, split_view, stretch_view};
 
+use crate::mistakes::Wrong;
 use bstr::ByteSlice;
 use pdb_text::long_number_in;
 
@@ -80,13 +82,11 @@ fn lines_at(word: &[u8], colon: Option<usize>) -> Option<(usize, Stretch)>
     Some((at, lines))
 }
 
-/// What a word asks for: a source file, perhaps with `:` and a line, or two lines with a dash between them; none where
-/// it names no file.
-#[tactic(auto, unfolding(crate::specs::SourcesAsked::source_of))]
-pub fn source_of(word: &[u8]) -> Option<SourceAsked<'_>>
-    ensures { option_map source_view result ≡ source_of word.now }
+/// A source file, perhaps with `:` and a line, or two lines with a dash between them.
+fn source_in(word: &[u8]) -> SourceAsked<'_>
+    ensures { source_view result ≡ source_in word.now }
 {
-    let asked = match lines_at(word, last_colon(word)) {
+    match lines_at(word, last_colon(word)) {
         Some((at, lines)) => SourceAsked {
             source: &word[..at],
             lines: Some(lines),
@@ -95,12 +95,58 @@ pub fn source_of(word: &[u8]) -> Option<SourceAsked<'_>>
             source: word,
             lines: None,
         },
-    };
-    if asked.source.is_empty() {
-        None
-    } else {
-        Some(asked)
     }
+}
+
+/// What stands before the last colon of a word, where a number stands behind it.
+fn before_number(word: &[u8]) -> Option<&[u8]>
+    ensures { option_copied result ≡ before_number word.now }
+{
+    let at = last_colon(word)?;
+    number_of(&word[at + 1..])?;
+    Some(&word[..at])
+}
+
+/// A word without the column that stands behind a line.
+fn without_column(word: &[u8]) -> &[u8]
+    ensures { result.now ≡ without_column word.now }
+{
+    match before_number(word) {
+        Some(before) if before_number(before).is_some() => before,
+        _ => word,
+    }
+}
+
+/// Whether lines are named from the lower to the higher one.
+fn is_in_order(lines: Option<Stretch>) -> bool
+    ensures { result ≡ is_in_order (option_map stretch_view lines) }
+{
+    match lines {
+        Some(lines) => lines.first <= lines.last,
+        None => true,
+    }
+}
+
+/// What is asked for, where a file is named, and of two lines the lower one first.
+fn judged(asked: SourceAsked<'_>) -> Result<SourceAsked<'_>, Wrong>
+    ensures { result_map_both source_view (λ wrong. wrong) result ≡ judged (source_view asked.entry) }
+{
+    if asked.source.is_empty() {
+        Err(Wrong::BadSource)
+    } else if is_in_order(asked.lines) {
+        Ok(asked)
+    } else {
+        Err(Wrong::BadLines)
+    }
+}
+
+/// What a word asks for: a source file, perhaps with `:` and a line, two lines with a dash between them, or a line and
+/// a column, which is passed over. It fails where no file is named, or of two lines the higher one first.
+#[tactic(auto, unfolding(crate::specs::SourcesAsked::source_of))]
+pub fn source_of(word: &[u8]) -> Result<SourceAsked<'_>, Wrong>
+    ensures { result_map_both source_view (λ wrong. wrong) result ≡ source_of word.now }
+{
+    judged(source_in(without_column(word)))
 }
 
 /// `\` as `/`, and the letters A to Z as a to z.

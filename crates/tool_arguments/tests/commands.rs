@@ -9,7 +9,7 @@ const ROWS: [(Command, &str, &str); 19] = [
     (Command::Resolve, "resolve", "FILE [ADDRESS..]"),
     (Command::Variables, "variables", "FILE [ADDRESS..]"),
     (Command::Find, "find", "FILE NAME.."),
-    (Command::Where, "where", "FILE SOURCE[:LINE[-LINE]].."),
+    (Command::Where, "where", "FILE SOURCE.."),
     (Command::Lines, "lines", "FILE [K..]"),
     (Command::Scopes, "scopes", "FILE [K..]"),
     (Command::Symbols, "symbols", "FILE [K..]"),

@@ -183,12 +183,17 @@ fn a_wrong_operand_is_answered_by_usage(rt: HostRuntime) -> Result<(), Fail> {
         (
             "where a",
             "SOURCE is missing",
-            "usage: pdb_tool where [--symbols=DIR].. [--json] FILE SOURCE[:LINE[-LINE]]..",
+            "usage: pdb_tool where [--symbols=DIR].. [--json] FILE SOURCE..",
         ),
         (
             "where a :7",
             "':7' names no source file: write SOURCE, SOURCE:63 or SOURCE:63-70",
-            "usage: pdb_tool where [--symbols=DIR].. [--json] FILE SOURCE[:LINE[-LINE]]..",
+            "usage: pdb_tool where [--symbols=DIR].. [--json] FILE SOURCE..",
+        ),
+        (
+            "where a x/a.c:9-7",
+            "'x/a.c:9-7' names no lines: write the lower line first, as in SOURCE:63-70",
+            "usage: pdb_tool where [--symbols=DIR].. [--json] FILE SOURCE..",
         ),
         (
             "modules a X",

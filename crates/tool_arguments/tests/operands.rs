@@ -144,6 +144,12 @@ fn operands_are_lines_of_source_files(rt: HostRuntime) -> Result<(), Fail> {
     is(&rt, "the argument", &given, &mistake(5, Wrong::BadSource));
     let given = all_sources(rt.alloc(), &operands[2..]).err();
     is(&rt, "empty", &given, &mistake(6, Wrong::BadSource));
+    let lines = Operand {
+        argument: 4,
+        word: "a.c:9-7",
+    };
+    let given = all_sources(rt.alloc(), &[operands[0], lines]).err();
+    is(&rt, "no lines", &given, &mistake(4, Wrong::BadLines));
     let given = all_sources(rt.alloc(), &operands[..1])
         .ok()
         .expect(&rt, "a source file");

@@ -26,7 +26,7 @@ fn usage_has_the_options_before_the_operands(rt: HostRuntime) -> Result<(), Fail
         ),
         (
             Command::Where,
-            b"pdb_tool where [--symbols=DIR].. [--json] FILE SOURCE[:LINE[-LINE]]..",
+            b"pdb_tool where [--symbols=DIR].. [--json] FILE SOURCE..",
             b" --symbols --json",
         ),
         (

@@ -87,8 +87,8 @@ fn objects_of_requested_lines(rt: HostRuntime) -> Result<(), Fail> {
     let info = module_of(&rt, &bytes, &sizes)?;
     let strings = StringTable::parse(Stream::new(STRINGS).expect(&rt, "a short stream"))?;
     let asked = [
-        source_of(b"a.c:7").expect(&rt, "a source file"),
-        source_of(b"BC.H").expect(&rt, "a source file"),
+        source_of(b"a.c:7").ok().expect(&rt, "a source file"),
+        source_of(b"BC.H").ok().expect(&rt, "a source file"),
     ];
     let ids = ItemFinder::empty(rt.alloc());
     let types = ItemFinder::empty(rt.alloc());
