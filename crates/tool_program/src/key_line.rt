@@ -264,7 +264,8 @@ fn key_of_source<'s, S: Source<'s>>(
     ensures steady { IsErrOf result Stop.Read → (S.state source).steady ≡ false }
     ensures stops { IfErr result (StopsLine ⊤) }
 {
-    if begins_as_image(alloc, &mut source).map_err(stop_of_opening)? {
+    let is_image = begins_as_image(alloc, &mut source).map_err(stop_of_opening)?;
+    if is_image {
         let bytes = whole(alloc, &mut source, size)?;
         return image_key(alloc, bytes.as_slice());
     }
