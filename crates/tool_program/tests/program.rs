@@ -1,6 +1,6 @@
 //! The program over files in memory.
 
-use crate::host::Host;
+use crate::host::{Host, Unstored};
 use crate::messages::report_fault;
 use crate::tasks::{StandardStreams, run};
 use crate::tests::fakes::is;
@@ -99,6 +99,18 @@ impl<'a> Host for Fakes<'a> {
             }
             Some(bytes) => Ok(FileBytes::InParts(Pieces { bytes }, bytes.len() as u64)),
             None => Err(Stop::Unopened(Unopened::Missing)),
+        }
+    }
+
+    fn store(&self, path: &str, bytes: &FileBytes<Pieces<'a>>) -> Result<(), Unstored> {
+        // The first letter of a path says what happens there.
+        match path.as_bytes().first() {
+            Some(b'd') => Err(Unstored::Unwritten(Unopened::Denied)),
+            Some(b'f') => Err(Unstored::Unwritten(Unopened::Other)),
+            Some(b'u') => Err(Unstored::Unread),
+            Some(b'm') => Err(Unstored::OutOfMemory),
+            Some(_) if bytes.size() > 0 => Ok(()),
+            _ => Err(Unstored::Unread),
         }
     }
 
