@@ -72,20 +72,30 @@ frame_line strings f =
 abbrev pub program_member : List ℕ → Members
 program_member program = member (codes "program") (known_value program) no_members
 
-abbrev pub flag_members : FrameData → List ℕ → Members
+abbrev pub last_flag_members : FrameData → List ℕ → Members
+last_flag_members f program =
+    member (codes "start") (boolean f.is_function_start)
+    (member (codes "bp") (boolean f.uses_base_pointer) (program_member program))
+
+unfoldable pub flag_members : FrameData → List ℕ → Members
 flag_members f program =
     member (codes "seh") (boolean f.has_structured_eh)
-    (member (codes "eh") (boolean f.has_cpp_eh)
-    (member (codes "start") (boolean f.is_function_start)
-    (member (codes "bp") (boolean f.uses_base_pointer) (program_member program))))
+    (member (codes "eh") (boolean f.has_cpp_eh) (last_flag_members f program))
 
-abbrev pub size_members : FrameData → List ℕ → Members
-size_members f program =
-    member (codes "locals") (number_value f.locals_size)
-    (member (codes "params") (number_value f.params_size)
-    (member (codes "saved") (number_value f.saved_regs_size)
-    (member (codes "prolog") (number_value f.prolog_size)
-    (member (codes "max") (number_value f.max_stack_size) (flag_members f program)))))
+unfoldable pub max_members : FrameData → List ℕ → Members
+max_members f program = member (codes "max") (number_value f.max_stack_size) (flag_members f program)
+
+unfoldable pub prolog_members : FrameData → List ℕ → Members
+prolog_members f program = member (codes "prolog") (number_value f.prolog_size) (max_members f program)
+
+unfoldable pub saved_members : FrameData → List ℕ → Members
+saved_members f program = member (codes "saved") (number_value f.saved_regs_size) (prolog_members f program)
+
+unfoldable pub param_members : FrameData → List ℕ → Members
+param_members f program = member (codes "params") (number_value f.params_size) (saved_members f program)
+
+unfoldable pub size_members : FrameData → List ℕ → Members
+size_members f program = member (codes "locals") (number_value f.locals_size) (param_members f program)
 
 abbrev pub piece_members : FrameData → List ℕ → Members
 piece_members f program = member (codes "size") (number_value f.code_size) (member (codes "kind") (text_value (kind_word f.frame_type)) (size_members f program))

@@ -4,7 +4,7 @@ ghost use Rattle.std.specs.Prelude.{◌≡◌, ◌∷◌, ◌++◌, codes, optio
 ghost use Rattle.json.specs.Json.{boolean};
 ghost use Rattle.json.specs.Token.{key};
 ghost use Rattle.json.specs.Tree.{json_tokens, members_tokens};
-ghost use Rattle.tool_lists.specs.FrameTexts.{flag_members, frame_value, piece_members, program_member, program_of, size_members};
+ghost use Rattle.tool_lists.specs.FrameTexts.{flag_members, frame_value, last_flag_members, max_members, param_members, piece_members, program_member, program_of, prolog_members, saved_members, size_members};
 ghost use Rattle.tool_output.specs.Objects.{Adds, json_line};
 
 use crate::frame_texts::{kind_word, program_of};
@@ -33,7 +33,22 @@ fn put_program(alloc: Global, writer: &mut Writer, program: &[u8]) -> Result<(),
     writer.end_object()
 }
 
+/// The last things that are so of a frame, and its program.
+fn put_last_flags(
+    alloc: Global,
+    writer: &mut Writer,
+    frame: &FrameData,
+    program: &[u8],
+) -> Result<(), AllocError>
+    ensures { Adds result writer.old writer.new (members_tokens (last_flag_members frame.now program.now)) }
+{
+    put_boolean(writer, "start", frame.is_function_start)?;
+    put_boolean(writer, "bp", frame.uses_base_pointer)?;
+    put_program(alloc, writer, program)
+}
+
 /// What else is so of a frame, and its program.
+#[tactic(auto, unfolding(crate::specs::FrameTexts::flag_members))]
 fn put_flags(
     alloc: Global,
     writer: &mut Writer,
@@ -44,12 +59,67 @@ fn put_flags(
 {
     put_boolean(writer, "seh", frame.has_structured_eh)?;
     put_boolean(writer, "eh", frame.has_cpp_eh)?;
-    put_boolean(writer, "start", frame.is_function_start)?;
-    put_boolean(writer, "bp", frame.uses_base_pointer)?;
-    put_program(alloc, writer, program)
+    put_last_flags(alloc, writer, frame, program)
 }
 
-/// The same behind the sizes of its parts.
+/// The same behind the largest size of the stack.
+#[tactic(auto, unfolding(crate::specs::FrameTexts::max_members))]
+fn put_max(
+    alloc: Global,
+    writer: &mut Writer,
+    frame: &FrameData,
+    program: &[u8],
+) -> Result<(), AllocError>
+    ensures { Adds result writer.old writer.new (members_tokens (max_members frame.now program.now)) }
+{
+    put_number(writer, "max", u64::from(frame.max_stack_size))?;
+    put_flags(alloc, writer, frame, program)
+}
+
+/// The same behind the size of the prolog.
+#[tactic(auto, unfolding(crate::specs::FrameTexts::prolog_members))]
+fn put_prolog(
+    alloc: Global,
+    writer: &mut Writer,
+    frame: &FrameData,
+    program: &[u8],
+) -> Result<(), AllocError>
+    ensures { Adds result writer.old writer.new (members_tokens (prolog_members frame.now program.now)) }
+{
+    put_number(writer, "prolog", u64::from(frame.prolog_size))?;
+    put_max(alloc, writer, frame, program)
+}
+
+/// The same behind the size of the saved registers.
+#[tactic(auto, unfolding(crate::specs::FrameTexts::saved_members))]
+fn put_saved(
+    alloc: Global,
+    writer: &mut Writer,
+    frame: &FrameData,
+    program: &[u8],
+) -> Result<(), AllocError>
+    ensures { Adds result writer.old writer.new (members_tokens (saved_members frame.now program.now)) }
+{
+    put_number(writer, "saved", u64::from(frame.saved_regs_size))?;
+    put_prolog(alloc, writer, frame, program)
+}
+
+/// The same behind the size of the parameters.
+#[tactic(auto, unfolding(crate::specs::FrameTexts::param_members))]
+fn put_params(
+    alloc: Global,
+    writer: &mut Writer,
+    frame: &FrameData,
+    program: &[u8],
+) -> Result<(), AllocError>
+    ensures { Adds result writer.old writer.new (members_tokens (param_members frame.now program.now)) }
+{
+    put_number(writer, "params", u64::from(frame.params_size))?;
+    put_saved(alloc, writer, frame, program)
+}
+
+/// The same behind the size of the locals.
+#[tactic(auto, unfolding(crate::specs::FrameTexts::size_members))]
 fn put_sizes(
     alloc: Global,
     writer: &mut Writer,
@@ -59,11 +129,7 @@ fn put_sizes(
     ensures { Adds result writer.old writer.new (members_tokens (size_members frame.now program.now)) }
 {
     put_number(writer, "locals", frame.locals_size)?;
-    put_number(writer, "params", u64::from(frame.params_size))?;
-    put_number(writer, "saved", u64::from(frame.saved_regs_size))?;
-    put_number(writer, "prolog", u64::from(frame.prolog_size))?;
-    put_number(writer, "max", u64::from(frame.max_stack_size))?;
-    put_flags(alloc, writer, frame, program)
+    put_params(alloc, writer, frame, program)
 }
 
 /// The same behind its size and its kind.

@@ -1,11 +1,12 @@
 //! The bytes of a stream: `stream`.
 
-ghost use Rattle.std.specs.Prelude.{◌≡◌, true, IfOk, IsErrOf};
+ghost use Rattle.std.specs.Prelude.{◌≡◌, ◌≢◌, true, IfErr, IfOk, IsErrOf};
 ghost use Rattle.pdb.specs.Error.{Error};
-ghost use Rattle.pdb.specs.Source.{Continues, Gives, MayFail};
+ghost use Rattle.pdb.specs.Refusal.{Gives};
+ghost use Rattle.pdb.specs.Source.{Continues, MayFail};
 ghost use Rattle.tool_arguments.specs.StreamsAsked.{stream_view};
 ghost use Rattle.tool_lists.specs.StreamBytes.{gap_of, gap_in, numbered_in, stream_asked_in, stream_shown};
-ghost use Rattle.tool_output.specs.Stops.{Halts};
+ghost use Rattle.tool_output.specs.Stops.{Halts, StopsComposing};
 ghost use Rattle.tool_printing.specs.Printing.{Prints};
 
 use pdb::{Error, PDB, Result as Answer, Source, Stream, StreamIndex};
@@ -23,6 +24,7 @@ pub enum StreamGap {
 }
 
 /// The stream of a number, where the file has one. A file names its streams by two bytes, of which the greatest names none.
+#[tactic(auto, unfolding(pdb::specs::Answers::raw_stream_in))]
 fn stream_of_number<'s, S: Source<'s>>(pdb: &mut PDB<'s, S>, number: u64) -> Answer<Stream<'s>>
     ensures continues { Continues pdb.old pdb.new }
     ensures failed { IsErrOf result Error.IoError → MayFail pdb.old pdb.new }
@@ -62,6 +64,18 @@ fn gap_of(e: Error) -> StreamGap
     }
 }
 
+/// What a refusal says of a stream; out of memory, and a source that failed, are passed on.
+fn gap_or_stop(e: Error) -> Result<StreamGap, Stop>
+    ensures gap { IfOk result (λ gap. (e ≢ Error.OutOfMemory) × (e ≢ Error.IoError) × (gap ≡ gap_of e)) }
+    ensures unwritten { IfErr result (StopsComposing (e ≡ Error.IoError)) }
+{
+    match e {
+        Error::OutOfMemory => Err(Stop::Memory),
+        Error::IoError => Err(Stop::Read),
+        e => Ok(gap_of(e)),
+    }
+}
+
 /// Writes the bytes of a stream as they are; where they can't be had whole, it writes nothing, and says why.
 pub fn print_stream<'s, S: Source<'s>, P: Printer>(
     pdb: &mut PDB<'s, S>,
@@ -78,8 +92,6 @@ pub fn print_stream<'s, S: Source<'s>, P: Printer>(
             out.print_bytes(stream.as_slice(), false)?;
             Ok(None)
         }
-        Err(Error::OutOfMemory) => Err(Stop::Memory),
-        Err(Error::IoError) => Err(Stop::Read),
-        Err(e) => Ok(Some(gap_of(e))),
+        Err(e) => Ok(Some(gap_or_stop(e)?)),
     }
 }
