@@ -7,7 +7,6 @@ from program import compare, ran, tell
 
 KEY = "00112233445566778899AABBCCDDEEFF2"
 MAIN = b"main\na.c:1:0\n\n"
-OTHER = b"has the key 00112233445566778899AABBCCDDEEFF3, and 00112233445566778899AABBCCDDEEFF2 is wanted\n"
 COMMANDS = {
     "resolve": ["1:100", "1108"],
     "variables": ["1:100"],
@@ -82,7 +81,7 @@ def found_in_its_place(data, top):
     room = Room(f"{top}/others")
     image = room.put("a.exe", image_of(b"a.pdb"))
     first, second = room.put("a.pdb", other), room.put("sym/a.pdb", other)
-    both = b"".join(b"pdb_tool: " + it.encode() + b": has the key 00112233445566778899AABBCCDDEEFE2, and " + KEY.encode() + b" is wanted\n" for it in (first, second))
+    both = "".join(f"pdb_tool: wrong PDB: {it} has the key 00112233445566778899AABBCCDDEEFE2, {image} needs {KEY}\n" for it in (first, second)).encode()
     words = ["modules", f"--symbols={room.top}/sym", image]
     compare("two other PDBs", (7, b"", both), *words)
     room.put("sym/a.pdb", data)
@@ -154,4 +153,5 @@ def folders(sample, top):
         tell(said == (0, text, b""), f"the lines {words}", said)
     compare("an address below the load address of --image", (0, MAIN, b""), "resolve", f"--image={image}", pdb, "1100")
     compare("an address behind the image", (0, b"??\n??:0:0\n\n", b""), "resolve", image, "3000")
-    compare("another wanted key", (7, b"", b"pdb_tool: " + pdb.encode() + b": " + OTHER.replace(b"F3", b"F2").replace(b"F2 is", b"F3 is")), "resolve", f"--key={KEY[:-1]}3", image, "1100")
+    other = f"pdb_tool: wrong PDB: {pdb} has the key {KEY}, and not {KEY[:-1]}3\n".encode()
+    compare("another wanted key", (7, b"", other), "resolve", f"--key={KEY[:-1]}3", image, "1100")

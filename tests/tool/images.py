@@ -52,11 +52,11 @@ def images(sample, room):
         said = ran("resolve", sample, word, given=b"1:100\n")
         tell(said == (0, text, b""), f"the wanted {word} of lines", said)
     for other in key[:-1] + b"3", key + b"0", key[:-1] + b"02", b"1" + key[1:]:
-        wanted = (7, b"", b"pdb_tool: " + sample.encode() + b": has the key " + key + b", and " + other + b" is wanted\n")
+        wanted = (7, b"", b"pdb_tool: wrong PDB: " + sample.encode() + b" has the key " + key + b", and not " + other + b"\n")
         compare(f"the key {other}", wanted, "resolve", b"--key=" + other, sample, "1:100")
         said = ran("resolve", b"--key=" + other, sample, given=b"1:100\n")
         tell(said == wanted, f"the key {other} of lines", said)
-    wanted = (7, b"", b"pdb_tool: " + sample.encode() + b": has the key " + key + b", and 030201000504070608090A0B0C0D0E0F1 is wanted\n")
+    wanted = (7, b"", b"pdb_tool: wrong PDB: " + sample.encode() + b" has the key " + key + b", " + file.encode() + b" needs 030201000504070608090A0B0C0D0E0F1\n")
     compare("an image of another PDB", wanted, "resolve", f"--image={file}", sample, "1:100")
     named = bytearray(image)
     named[328:348] = bytes.fromhex("33221100554477668899aabbccddeeff02000000")

@@ -59,7 +59,7 @@ def names_with_line_ends(sample, room):
     compare("a key behind a line end", (0, b"00112233445566778899AABBCCDDEEFF2 " + shown + b"\n", b""), "key", file)
     compare("a check behind a line end", (1, found_in_sample(shown), b""), "check", file)
     tell(json.loads(ran("key", "--json", file)[1])["file"] == file, "the object of a name with a line end")
-    other = shown + b": has the key 00112233445566778899AABBCCDDEEFF2, and 00000000000000000000000000000000A is wanted\n"
+    other = b"wrong PDB: " + shown + b" has the key 00112233445566778899AABBCCDDEEFF2, and not 00000000000000000000000000000000A\n"
     compare("another key behind a line end", (7, b"", b"pdb_tool: " + other), "resolve", f"--key={31 * '0'}0A", file, "1:0")
     os.remove(file)
     compare("no file behind a line end", (3, b"", b"pdb_tool: " + shown + b": cannot read file: no such file\n"), "lines", file)

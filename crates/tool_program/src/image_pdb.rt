@@ -3,7 +3,7 @@
 use crate::host::Host;
 use crate::key_line::pdb_key;
 use crate::messages::{report_compressed, report_no_pdb, report_other_key, report_stop};
-use crate::wanted::ImageWants;
+use crate::wanted::{ImageWants, WantedKey};
 use pdb_file::{FileBytes, ReadAt};
 use pdb_paths::{SymbolFolder, pdb_paths, put_compressed, put_within};
 use std::alloc::{AllocError, Global};
@@ -141,8 +141,12 @@ fn not_found<H: Host, E: Write>(
         report_no_pdb(host.alloc(), image, &wants.path, &wants.key, err);
         return Fault::Reported(Stop::Unopened(Unopened::Missing));
     }
+    let wanted = WantedKey {
+        image: Some(image),
+        key: &wants.key,
+    };
     for other in others {
-        report_other_key(host.alloc(), other.path, &other.key, &wants.key, err);
+        report_other_key(host.alloc(), other.path, &other.key, wanted, err);
     }
     Fault::OtherKey
 }

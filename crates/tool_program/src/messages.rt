@@ -1,11 +1,12 @@
 //! What is printed on standard error.
 
-ghost use Rattle.std.specs.Prelude.{◌≡◌, ◌++◌, OnOk};
+ghost use Rattle.std.specs.Prelude.{◌≡◌, ◌++◌, OnOk, option_copied};
 ghost use Rattle.tool_arguments.specs.StreamsAsked.{stream_view};
-ghost use Rattle.tool_program.specs.Messages.{about, no_pdb, no_stream, other_key};
+ghost use Rattle.tool_program.specs.Messages.{about, lacking, named, needed, no_pdb, no_stream, other_key, wrong_pdb};
 
 use crate::file_kind::{FileKind, file_kind, put_kind};
 use crate::host::Host;
+use crate::wanted::WantedKey;
 use pdb_paths::file_name;
 use pdb_text::{put_decimal, put_one_line, write_out};
 use std::alloc::{AllocError, Global};
@@ -34,14 +35,22 @@ fn reason_of(why: Unopened) -> &'static str {
     }
 }
 
+/// Appends a name on one line, between two texts.
+#[tactic(auto, unfolding(crate::specs::Messages::named))]
+fn put_named(out: &mut Vec<u8>, before: &[u8], name: &str, behind: &[u8]) -> Result<(), AllocError>
+    ensures { OnOk result (out.new.items ≡ out.old.items ++ named before.now name.now behind.now) }
+{
+    out.extend_from_slice(before)?;
+    put_one_line(out, name.as_bytes())?;
+    out.extend_from_slice(behind)
+}
+
 /// Appends a line on a file.
 #[tactic(auto, unfolding(crate::specs::Messages::about))]
 fn put_about(out: &mut Vec<u8>, name: &str, text: &[u8]) -> Result<(), AllocError>
     ensures { OnOk result (out.new.items ≡ out.old.items ++ about name.now text.now) }
 {
-    out.extend_from_slice(b"pdb_tool: ")?;
-    put_one_line(out, name.as_bytes())?;
-    out.extend_from_slice(b": ")?;
+    put_named(out, b"pdb_tool: ", name, b": ")?;
     out.extend_from_slice(text)?;
     out.extend_from_slice(b"\n")
 }
@@ -118,18 +127,42 @@ fn put_fault<H: Host>(
     }
 }
 
-/// Appends that a file has a key, and another is wanted.
-#[tactic(auto, unfolding(crate::specs::Messages::other_key))]
-fn put_other_key(out: &mut Vec<u8>, name: &str, key: &[u8], wanted: &[u8]) -> Result<(), AllocError>
-    ensures { OnOk result (out.new.items ≡ out.old.items ++ other_key name.now key.now wanted.now) }
+/// Appends the key that a file should have, and which image needs it.
+#[tactic(auto, unfolding(crate::specs::Messages::needed))]
+fn put_needed(out: &mut Vec<u8>, image: Option<&str>, key: &[u8]) -> Result<(), AllocError>
+    ensures { OnOk result (out.new.items ≡ out.old.items ++ needed (option_copied image.entry) key.now) }
 {
-    let mut text = Vec::new(*out.allocator());
-    text.extend_from_slice(b"has the key ")?;
-    text.extend_from_slice(key)?;
-    text.extend_from_slice(b", and ")?;
-    text.extend_from_slice(wanted)?;
-    text.extend_from_slice(b" is wanted")?;
-    put_about(out, name, &text)
+    match image {
+        Some(image) => {
+            put_named(out, b", ", image, b" needs ")?;
+        }
+        None => out.extend_from_slice(b", and not ")?,
+    }
+    out.extend_from_slice(key)
+}
+
+/// Appends that a file of this name isn't the wanted PDB, up to the key that it has.
+#[tactic(auto, unfolding(crate::specs::Messages::wrong_pdb))]
+fn put_wrong_pdb(out: &mut Vec<u8>, name: &str) -> Result<(), AllocError>
+    ensures { OnOk result (out.new.items ≡ out.old.items ++ wrong_pdb name.now) }
+{
+    put_named(out, b"pdb_tool: wrong PDB: ", name, b" has the key ")
+}
+
+/// Appends that a file of this name and this key isn't the wanted PDB, and which key it should have.
+#[tactic(auto, unfolding(crate::specs::Messages::other_key))]
+fn put_other_key(
+    out: &mut Vec<u8>,
+    name: &str,
+    key: &[u8],
+    wanted: WantedKey<'_>,
+) -> Result<(), AllocError>
+    ensures { OnOk result (out.new.items ≡ out.old.items ++ other_key name.now key.now (option_copied wanted.entry.image) wanted.entry.key.now) }
+{
+    put_wrong_pdb(out, name)?;
+    out.extend_from_slice(key)?;
+    put_needed(out, wanted.image, wanted.key)?;
+    out.extend_from_slice(b"\n")
 }
 
 /// Writes a message that was composed; if there was no memory for it, that. If standard error fails too, nobody
@@ -148,12 +181,12 @@ pub fn report_stop<H: Host, E: Write>(host: &H, stop: Stop, name: &str, err: &mu
     report(composed, &text, err);
 }
 
-/// Writes that a file has this key, and another is wanted.
+/// Writes that a file of this name and this key isn't the wanted PDB.
 pub fn report_other_key<E: Write>(
     alloc: Global,
     name: &str,
     key: &[u8],
-    wanted: &[u8],
+    wanted: WantedKey<'_>,
     err: &mut E,
 ) {
     let mut text = Vec::new(alloc);
@@ -220,23 +253,26 @@ pub fn report_unnamed<E: Write>(alloc: Global, name: &str, err: &mut E) {
     report(composed, &text, err);
 }
 
+/// Appends which stream a file lacks.
+fn put_lacking(out: &mut Vec<u8>, asked: StreamAsked<'_>) -> Result<(), AllocError>
+    ensures { OnOk result (out.new.items ≡ out.old.items ++ lacking (stream_view asked.entry)) }
+{
+    match asked {
+        StreamAsked::Number(number) => put_decimal(out, number),
+        StreamAsked::Name(name) => {
+            out.extend_from_slice(b"called ")?;
+            put_one_line(out, name)
+        }
+    }
+}
+
 /// Appends that a file lacks a stream, and where to look.
 #[tactic(auto, unfolding(crate::specs::Messages::no_stream))]
 fn put_no_stream(out: &mut Vec<u8>, name: &str, asked: StreamAsked<'_>) -> Result<(), AllocError>
     ensures { OnOk result (out.new.items ≡ out.old.items ++ no_stream name.now (stream_view asked.entry)) }
 {
-    out.extend_from_slice(b"pdb_tool: ")?;
-    put_one_line(out, name.as_bytes())?;
-    match asked {
-        StreamAsked::Number(number) => {
-            out.extend_from_slice(b" has no stream ")?;
-            put_decimal(out, number)?;
-        }
-        StreamAsked::Name(called) => {
-            out.extend_from_slice(b" has no stream called ")?;
-            put_one_line(out, called)?;
-        }
-    }
+    put_named(out, b"pdb_tool: ", name, b" has no stream ")?;
+    put_lacking(out, asked)?;
     out.extend_from_slice(b": pdb_tool streams FILE lists them\n")
 }
 

@@ -11,7 +11,7 @@ use crate::messages::{report_damage, report_gap, report_other_key, report_readin
 use crate::one_pdb::{OnePdb, one_pdb};
 use crate::several_files::{Checks, Keys};
 use crate::store::store_files;
-use crate::wanted::wanted_key;
+use crate::wanted::{WantedKey, wanted_key};
 use pdb_text::{CountedWrite, write_out};
 use std::alloc::Global;
 use std::io::{BufRead, Write};
@@ -43,11 +43,24 @@ pub struct StandardStreams<'a, I: BufRead, W: CountedWrite, E: Write> {
     pub err: &'a mut E,
 }
 
-/// The key that is wanted, if one is; and the options, with the load address of an image if no other is given.
+/// The key that is wanted, if one is, and the image that needs it; and the options, with the load address of an image if no
+/// other is given.
 #[derive(Drop)]
-struct Wants {
+struct Wants<'w> {
     key: Option<Vec<u8>>,
+    image: Option<&'w str>,
     options: Options,
+}
+
+impl Wants<'_> {
+    /// The key that is wanted, and who needs it.
+    fn wanted(&self) -> Option<WantedKey<'_>> {
+        let key = self.key.as_deref()?;
+        Some(WantedKey {
+            image: self.image,
+            key,
+        })
+    }
 }
 
 /// Whether finding nothing is an answer that the exit status tells.
@@ -58,12 +71,12 @@ fn looks_up(task: &FileTask<'_>) -> bool
 }
 
 /// What the image wants that the value of an option names.
-fn wants_of_image<H: Host>(
+fn wants_of_image<'w, H: Host>(
     host: &H,
     options: Options,
-    words: &[String],
+    words: &'w [String],
     value: ValueAt,
-) -> Result<Wants, Stop> {
+) -> Result<Wants<'w>, Stop> {
     let name = Operand {
         argument: value.argument,
         word: value_in(words, value),
@@ -72,18 +85,28 @@ fn wants_of_image<H: Host>(
     let wants = image_wants(host.alloc(), &image, image.size())?;
     Ok(Wants {
         key: Some(wants.key),
+        image: Some(name.word),
         options: options.with_base_of(wants.base, wants.size),
     })
 }
 
 /// What the options want.
-fn wants_of<H: Host>(host: &H, options: Options, words: &[String]) -> Result<Wants, Fault> {
+fn wants_of<'w, H: Host>(
+    host: &H,
+    options: Options,
+    words: &'w [String],
+) -> Result<Wants<'w>, Fault> {
     match options.wanted {
-        None => Ok(Wants { key: None, options }),
+        None => Ok(Wants {
+            key: None,
+            image: None,
+            options,
+        }),
         Some(Wanted::Key(value)) => {
             let key = wanted_key(host.alloc(), value_in(words, value)).map_err(Stop::from)?;
             Ok(Wants {
                 key: Some(key),
+                image: None,
                 options,
             })
         }
@@ -118,7 +141,7 @@ fn printed_or_other<H: Host, E: Write>(
     is_damaged: bool,
     own_path: Option<&str>,
     name: Operand<'_>,
-    wanted: Option<&[u8]>,
+    wanted: Option<WantedKey<'_>>,
     err: &mut E,
 ) -> IsWell {
     let path = own_path.unwrap_or(name.word);
@@ -128,10 +151,20 @@ fn printed_or_other<H: Host, E: Write>(
     match printed {
         Ok(None) => Ok(true),
         Ok(Some(key)) => {
-            report_other_key(host.alloc(), path, &key, wanted.unwrap_or(&[]), err);
+            if let Some(wanted) = wanted {
+                report_other_key(host.alloc(), path, &key, wanted, err);
+            }
             Err(Fault::OtherKey)
         }
         Err(stop) => Err(fault_over(host, stop, own_path, name, err)),
+    }
+}
+
+/// The key that is wanted, if one is.
+fn key_of(wanted: Option<WantedKey<'_>>) -> Option<&[u8]> {
+    match wanted {
+        Some(wanted) => Some(wanted.key),
+        None => None,
     }
 }
 
@@ -140,7 +173,7 @@ fn print_of<H: Host, I: BufRead, W: CountedWrite, E: Write>(
     host: &H,
     file: &OnePdb<H::File>,
     name: Operand<'_>,
-    wanted: Option<&[u8]>,
+    wanted: Option<WantedKey<'_>>,
     task: &FileTask<'_>,
     streams: &mut StandardStreams<'_, I, W, E>,
 ) -> IsWell {
@@ -149,7 +182,7 @@ fn print_of<H: Host, I: BufRead, W: CountedWrite, E: Write>(
         host.alloc(),
         &file.bytes,
         file.bytes.size(),
-        wanted,
+        key_of(wanted),
         task,
         &mut out,
     );
@@ -194,7 +227,7 @@ fn print_code<H: Host, I: BufRead, W: CountedWrite, E: Write>(
     let options = file.options(wants.options);
     all_based(options, &addresses).map_err(Fault::Mistaken)?;
     let task = FileTask::Code(options, addresses);
-    print_of(host, &file, name, wants.key.as_deref(), &task, streams)
+    print_of(host, &file, name, wants.wanted(), &task, streams)
 }
 
 /// Prints the code at the addresses that the lines of standard input are.
@@ -215,20 +248,28 @@ fn answer_input<H: Host, I: BufRead, W: CountedWrite, E: Write>(
     if host.is_asked_by_hand() {
         report_reading(streams.err);
     }
-    let key = wants.key.as_deref();
+    let wanted = wants.wanted();
     let mut out = Printout::new(streams.out);
     let printed = answer_file(
         alloc,
         &file.bytes,
         file.bytes.size(),
-        key,
+        key_of(wanted),
         file.options(wants.options),
         streams.input,
         &mut out,
     );
     let is_damaged = out.is_damaged();
     let own_path = file.own_path();
-    printed_or_other(host, printed, is_damaged, own_path, name, key, streams.err)
+    printed_or_other(
+        host,
+        printed,
+        is_damaged,
+        own_path,
+        name,
+        wanted,
+        streams.err,
+    )
 }
 
 /// That each argument but the one that names a file is UTF-8.

@@ -27,6 +27,15 @@ pub struct ImageWants {
     pub size: u32,
 }
 
+/// The key that a PDB has to have, and who needs it.
+#[derive(Clone, Copy, Debug)]
+pub struct WantedKey<'k> {
+    /// The name of the image whose PDB it is; none where an argument has the key.
+    pub image: Option<&'k str>,
+    /// The key, as the line of a PDB has it.
+    pub key: &'k [u8],
+}
+
 /// The key that a value of `--key` spells: its hex digits, the letters as upper ones.
 pub fn wanted_key(alloc: Global, value: &str) -> Result<Vec<u8>, AllocError>
     ensures { IfOk result (λ v. v.items ≡ wanted_key value.now) }

@@ -101,7 +101,7 @@ fn what_is_found_in_its_place(rt: HostRuntime) -> Result<(), Fail> {
     ];
     let wanted: &[u8] = b"pdb_tool: a.pdb: this is no PDB file of the format MSF 7.00\n\
         pdb_tool: denied/a.pdb: cannot read file: permission denied\n\
-        pdb_tool: s/a.pdb: has the key 030201000504070608090A0B0C0D0E0F2, and 030201000504070608090A0B0C0D0E0F1 is wanted\n";
+        pdb_tool: wrong PDB: s/a.pdb has the key 030201000504070608090A0B0C0D0E0F2, a.exe needs 030201000504070608090A0B0C0D0E0F1\n";
     let given = said(&one(rt.alloc(), &files, true), &words, b"")?;
     is(&rt, "err", &given.err.as_slice(), &wanted);
     is(&rt, "result", &given.result, &Err(Fault::OtherKey));

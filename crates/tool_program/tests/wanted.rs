@@ -237,7 +237,7 @@ fn nothing_is_told_of_another_file(rt: HostRuntime) -> Result<(), Fail> {
             2,
             "--key=030201000504070608090A0B0C0D0E0F1",
             Some(
-                "pdb_tool: a.pdb: has the key 030201000504070608090A0B0C0D0E0F2, and 030201000504070608090A0B0C0D0E0F1 is wanted\n",
+                "pdb_tool: wrong PDB: a.pdb has the key 030201000504070608090A0B0C0D0E0F2, and not 030201000504070608090A0B0C0D0E0F1\n",
             ),
             b"",
         ),
@@ -245,7 +245,7 @@ fn nothing_is_told_of_another_file(rt: HostRuntime) -> Result<(), Fail> {
             17,
             "--key={03020100-0504-0706-0809-0a0b0c0d0e0f}1",
             Some(
-                "pdb_tool: a.pdb: has the key 030201000504070608090A0B0C0D0E0F11, and 030201000504070608090A0B0C0D0E0F1 is wanted\n",
+                "pdb_tool: wrong PDB: a.pdb has the key 030201000504070608090A0B0C0D0E0F11, and not 030201000504070608090A0B0C0D0E0F1\n",
             ),
             b"",
         ),
@@ -305,6 +305,9 @@ fn an_image_names_the_file_and_its_base(rt: HostRuntime) -> Result<(), Fail> {
     is(&rt, "lines", &given.out.as_slice(), &wanted);
     let given = said(&host, &["resolve", "--image=a.exe", "b.pdb", "17"], b"")?;
     is(&rt, "another", &given.result, &Err(Fault::OtherKey));
+    let wanted: &[u8] =
+        b"pdb_tool: wrong PDB: b.pdb has the key 030201000504070608090A0B0C0D0E0F2, a.exe needs 030201000504070608090A0B0C0D0E0F1\n";
+    is(&rt, "whose key", &given.err.as_slice(), &wanted);
     let given = said(&host, &["resolve", "--image=none", "b.pdb", "17"], b"")?;
     let value = ValueAt {
         argument: 1,
