@@ -1,6 +1,6 @@
 -- Calls over a file that pass on how another one ended.
 use Rattle.std.proofs.Common.{◌≡◌, ◌≢◌, ℕ, Bool, true, inl, inr, List, Option, Some, None, length, Result, Ok, Err, refl, sym, ◌∙◌}
-use Rattle.std.specs.Prelude.{IfErr, IfOk, IfSome, IsErrAnd, IsErrOf, Vec}
+use Rattle.std.specs.Prelude.{IfErr, IfOk, IfSome, IsErrAnd, IsErrOf, OnOk, Vec}
 use Rattle.pdb.specs.Container.{opens}
 use Rattle.pdb.specs.Error.{Error}
 use Rattle.pdb_file.specs.FileBytes.{size_by}
@@ -109,3 +109,8 @@ if_some_on P Q (Some x) f h = f x h
 pub if_some_there : {A : Type 0} (P : A → Type 0) (o : Option A) → ((x : A) → P x) → IfSome o P
 if_some_there P None f = tt
 if_some_there P (Some x) f = f x
+
+-- what holds anyhow holds where a call succeeds
+pub on_ok : {X E : Type 0} (r : Result X E) (P : Type 0) → P → OnOk r P
+on_ok (Ok x) P h = h
+on_ok (Err e) P h = tt

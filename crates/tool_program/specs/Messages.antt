@@ -28,12 +28,15 @@ unfoldable pub other_key : List ℕ → List ℕ → Option (List ℕ) → List 
 other_key name key image wanted = wrong_pdb name ++ key ++ needed image wanted ++ codes "\n"
 
 -- that it lacks a stream
-abbrev pub lacking : StreamOf → List ℕ
+unfoldable pub lacking : StreamOf → List ℕ
 lacking (numbered n) = decimal n
 lacking (called name) = codes "called " ++ one_line name
 
-unfoldable pub no_stream : List ℕ → StreamOf → List ℕ
-no_stream name asked = named (codes "pdb_tool: ") name (codes " has no stream ") ++ lacking asked ++ codes ": pdb_tool streams FILE lists them\n"
+abbrev pub lacks_stream : List ℕ → StreamOf → List ℕ
+lacks_stream name asked = named (codes "pdb_tool: ") name (codes " has no stream ") ++ lacking asked
+
+abbrev pub no_stream : List ℕ → StreamOf → List ℕ
+no_stream name asked = lacks_stream name asked ++ codes ": pdb_tool streams FILE lists them\n"
 
 -- that the PDB of an image, which has this path and this key, isn't found
 unfoldable pub no_pdb : List ℕ → List ℕ → List ℕ → List ℕ

@@ -254,6 +254,7 @@ fn image_key(alloc: Global, bytes: &[u8]) -> Result<Vec<u8>, Stop>
 }
 
 /// The key under which a store has a source's file of this size: of an image, which is viewed whole, its own.
+#[tactic(auto, unfolding(crate::specs::KeyLines::file_key))]
 fn key_of_source<'s, S: Source<'s>>(
     alloc: Global,
     mut source: S,

@@ -2,7 +2,7 @@
 
 ghost use Rattle.std.specs.Prelude.{◌≡◌, ◌++◌, OnOk, option_copied};
 ghost use Rattle.tool_arguments.specs.StreamsAsked.{stream_view};
-ghost use Rattle.tool_program.specs.Messages.{about, lacking, named, needed, no_pdb, no_stream, other_key, wrong_pdb};
+ghost use Rattle.tool_program.specs.Messages.{about, lacking, lacks_stream, named, needed, no_pdb, no_stream, other_key, wrong_pdb};
 
 use crate::file_kind::{FileKind, file_kind, put_kind};
 use crate::host::Host;
@@ -254,6 +254,7 @@ pub fn report_unnamed<E: Write>(alloc: Global, name: &str, err: &mut E) {
 }
 
 /// Appends which stream a file lacks.
+#[tactic(auto, unfolding(crate::specs::Messages::lacking))]
 fn put_lacking(out: &mut Vec<u8>, asked: StreamAsked<'_>) -> Result<(), AllocError>
     ensures { OnOk result (out.new.items ≡ out.old.items ++ lacking (stream_view asked.entry)) }
 {
@@ -266,13 +267,20 @@ fn put_lacking(out: &mut Vec<u8>, asked: StreamAsked<'_>) -> Result<(), AllocErr
     }
 }
 
-/// Appends that a file lacks a stream, and where to look.
-#[tactic(auto, unfolding(crate::specs::Messages::no_stream))]
-fn put_no_stream(out: &mut Vec<u8>, name: &str, asked: StreamAsked<'_>) -> Result<(), AllocError>
-    ensures { OnOk result (out.new.items ≡ out.old.items ++ no_stream name.now (stream_view asked.entry)) }
+/// Appends that a file lacks a stream.
+fn put_lacks_stream(out: &mut Vec<u8>, name: &str, asked: StreamAsked<'_>) -> Result<(), AllocError>
+    ensures { OnOk result (out.new.items ≡ out.old.items ++ lacks_stream name.now (stream_view asked.entry)) }
 {
     put_named(out, b"pdb_tool: ", name, b" has no stream ")?;
     put_lacking(out, asked)?;
+    Ok(())
+}
+
+/// Appends that a file lacks a stream, and where to look.
+fn put_no_stream(out: &mut Vec<u8>, name: &str, asked: StreamAsked<'_>) -> Result<(), AllocError>
+    ensures { OnOk result (out.new.items ≡ out.old.items ++ no_stream name.now (stream_view asked.entry)) }
+{
+    put_lacks_stream(out, name, asked)?;
     out.extend_from_slice(b": pdb_tool streams FILE lists them\n")
 }
 

@@ -41,13 +41,28 @@ fn fill<R: ReadAt>(bytes: &R, buffer: &mut [u8], at: u64) -> Result<bool, Stop> 
         if done >= buffer.len() {
             return Ok(true);
         }
-        match bytes.read_bytes_at(&mut buffer[done..], at + done as u64) {
+        match bytes.read_bytes_at(&mut buffer[done..], at.saturating_add(done as u64)) {
             Ok(0) => return Ok(false),
             Ok(count) => done += count,
             Err(_) => return Err(Stop::Read),
         }
     }
     Ok(done >= buffer.len())
+}
+
+/// Whether two files of this size have the same bytes from there on, as many as both buffers hold.
+fn are_same_there<R: ReadAt, T: ReadAt>(
+    one: &R,
+    other: &T,
+    size: u64,
+    at: u64,
+    here: &mut [u8],
+    there: &mut [u8],
+) -> Result<bool, Stop> {
+    let most = here.len().min(there.len());
+    let count = size.saturating_sub(at).min(most as u64) as usize;
+    let (here, there) = (&mut here[..count], &mut there[..count]);
+    Ok(fill(one, here, at)? && fill(other, there, at)? && *here == *there)
 }
 
 /// Whether two files of this size have the same bytes.
@@ -61,14 +76,12 @@ fn are_same<R: ReadAt, T: ReadAt>(
     bytes.resize(BLOCK, 0)?;
     let mut other_bytes = Vec::new(alloc);
     other_bytes.resize(BLOCK, 0)?;
-    for block in 0..size.div_ceil(BLOCK as u64) {
-        let at = block * BLOCK as u64;
-        let count = (size - at).min(BLOCK as u64) as usize;
-        let here = &mut bytes[..count];
-        let there = &mut other_bytes[..count];
-        if !fill(one, here, at)? || !fill(other, there, at)? || *here != *there {
+    let mut at = 0;
+    for _ in 0..size.div_ceil(BLOCK as u64) {
+        if !are_same_there(one, other, size, at, &mut bytes, &mut other_bytes)? {
             return Ok(false);
         }
+        at = at.saturating_add(BLOCK as u64);
     }
     Ok(true)
 }
