@@ -1,5 +1,7 @@
 //! What the program reads from.
 
+ghost use Rattle.std.specs.Prelude.{◌≡◌};
+
 use pdb_file::{FileBytes, ReadAt};
 use std::alloc::{AllocError, Global};
 use tool_arguments::operands::Operand;
