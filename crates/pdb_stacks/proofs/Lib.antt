@@ -1,0 +1,9 @@
+pub mod DecimalWords
+pub mod Finds
+pub mod HexWords
+pub mod MarkSteps
+pub mod NamePairs
+pub mod NameSteps
+pub mod RangeLists
+pub mod RunSteps
+pub mod WordSteps

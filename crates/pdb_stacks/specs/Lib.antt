@@ -1,0 +1,16 @@
+pub mod Courses
+pub mod DecimalTexts
+pub mod FaultLines
+pub mod FrameNumbers
+pub mod HexTexts
+pub mod LineBytes
+pub mod LineHeadings
+pub mod LineReferences
+pub mod LineTexts
+pub mod ModuleForms
+pub mod ModuleLists
+pub mod ModuleNames
+pub mod ModuleRanges
+pub mod ProcessAddresses
+pub mod RelativeAddresses
+pub mod SymbolMarks
