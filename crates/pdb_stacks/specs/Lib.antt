@@ -4,6 +4,7 @@ pub mod FaultLines
 pub mod FrameNumbers
 pub mod HexTexts
 pub mod LineBytes
+pub mod LineCode
 pub mod LineHeadings
 pub mod LineReferences
 pub mod LineTexts

@@ -39,14 +39,20 @@ fn put_reference(out: &mut Vec<u8>, line: &[u8], reference: &Reference) -> Resul
     Ok(out.push(b';')?)
 }
 
+/// Appends references.
+pub fn put_all(out: &mut Vec<u8>, line: &[u8], references: &[Reference]) -> Result<(), AllocError> {
+    for reference in references {
+        put_reference(out, line, reference)?;
+    }
+    Ok(())
+}
+
 /// The references of a line, as text.
 pub fn references_of(alloc: Global, line: &[u8]) -> Result<Vec<u8>, AllocError> {
     let mut references = Vec::new(alloc);
     put_references(&mut references, line)?;
     let mut out = Vec::new(alloc);
-    for reference in references.iter() {
-        put_reference(&mut out, line, reference)?;
-    }
+    put_all(&mut out, line, &references)?;
     Ok(out)
 }
 

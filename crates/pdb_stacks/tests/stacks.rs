@@ -1,9 +1,9 @@
 //! Whole texts of crashes, read line by line as a program reads them.
 
-use super::fakes::{is, put_hex, references_of};
+use super::fakes::{is, put_all, put_hex};
 use crate::{
-    Course, Heading, ListedModule, ModuleRange, ReturnAddresses, add_range, fault_offset,
-    faulting_module, frame_number, heading_of, process_address, range_of,
+    Course, Heading, LineCode, ListedModule, ModuleRange, ReturnAddresses, add_range,
+    faulting_module, frame_number, heading_of, put_line_code, range_of,
 };
 use std::alloc::{AllocError, Global};
 use std::test::Fail;
@@ -49,33 +49,34 @@ fn put_pair(out: &mut Vec<u8>, name: &[u8], number: u64) -> Result<(), AllocErro
     Ok(out.push(b';')?)
 }
 
+/// Appends the address of a module that an address of the process is, and returns whether it is one.
+fn put_address(it: &mut Reading<'_>, address: u64) -> Result<bool, AllocError> {
+    let Some(range) = range_of(&it.ranges, address) else {
+        return Ok(false);
+    };
+    put_pair(&mut it.out, it.names[range.module], address - range.start)?;
+    Ok(true)
+}
+
 /// Appends the references of a line that is no heading, and returns whether it has some.
 fn put_other<'t>(it: &mut Reading<'t>, line: &'t [u8]) -> Result<bool, AllocError> {
     if let Some(name) = faulting_module(line) {
         it.failed = Some(name.of(line));
     }
-    if let (Some(offset), Some(name)) = (fault_offset(line), it.failed) {
-        it.failed = None;
-        put_pair(&mut it.out, name, offset.number)?;
-        return Ok(false);
+    let mut references = Vec::new(*it.out.allocator());
+    match put_line_code(&mut references, line, it.failed.is_some())? {
+        LineCode::Fault(offset) => {
+            put_pair(&mut it.out, it.failed.unwrap_or(b"?"), offset.number)?;
+            it.failed = None;
+            Ok(!references.is_empty())
+        }
+        LineCode::References => {
+            put_all(&mut it.out, line, &references)?;
+            Ok(true)
+        }
+        LineCode::Address(address) => put_address(it, address.number),
+        LineCode::Nothing => Ok(!references.is_empty()),
     }
-    let references = references_of(*it.out.allocator(), line)?;
-    if !references.is_empty() {
-        it.out.extend_from_slice(&references)?;
-        return Ok(true);
-    }
-    let Some(address) = process_address(line) else {
-        return Ok(false);
-    };
-    let Some(range) = range_of(&it.ranges, address.number) else {
-        return Ok(false);
-    };
-    put_pair(
-        &mut it.out,
-        it.names[range.module],
-        address.number - range.start,
-    )?;
-    Ok(true)
 }
 
 /// Reads a line.
