@@ -22,9 +22,11 @@ fn count(references: &mut Vec<Reference>, line: &[u8]) -> Result<usize, AllocErr
 
 #[test]
 fn long_lines(rt: HostRuntime) -> Result<(), Fail> {
-    let rows: [(&[u8], usize, usize); 5] = [
+    let rows: [(&[u8], usize, usize); 7] = [
         (b"app!", 262_144, 0),
         (b"operator!", 116_508, 0),
+        (b"app            0x", 50_000, 0),
+        (b"+0x1111111111111111111111", 40_000, 0),
         (b"app+0x1108 ", 10_000, 10_000),
         (b"app+0x1108 app+0x10c6 ", 5_000, 10_000),
         (b"app!nested+0x108 app!mainCRTStartup+0x145 ", 5_000, 10_000),

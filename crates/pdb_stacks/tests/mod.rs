@@ -11,4 +11,5 @@ mod module_names;
 mod ranges;
 mod references;
 mod relative;
+mod spans;
 mod stacks;
