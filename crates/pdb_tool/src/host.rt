@@ -88,13 +88,17 @@ fn new_part(
 fn copy_to(alloc: Global, bytes: &FileBytes<File>, mut file: File) -> Result<(), Unstored> {
     let mut block = Vec::new(alloc);
     block.resize(BLOCK, 0)?;
-    let mut at = 0;
-    while at < bytes.size() {
+    let mut at = 0u64;
+    // Each turn copies a byte or more.
+    for _ in 0..bytes.size() {
+        if at >= bytes.size() {
+            break;
+        }
         match bytes.read_bytes_at(&mut block, at) {
             Ok(0) | Err(_) => return Err(Unstored::Unread),
             Ok(count) => {
                 file.write_all(&block[..count]).map_err(|e| unwritten(&e))?;
-                at += count as u64;
+                at = at.saturating_add(count as u64);
             }
         }
     }
