@@ -32,8 +32,12 @@ SYSTEM = {
     "isatty": "i32 (i32)",
     "rattle_arg": "i64 (i64, ptr, i64)",
     "rattle_env": "i64 (ptr, ptr, i64)",
-    # No program needs these, which start threads or list the environment: what clang makes of a module doesn't call them. If
-    # it did, they would be missing at the end.
+    # No program needs these, which change open files, start threads or list the environment: what clang makes of a module
+    # doesn't call them. If it did, they would be missing at the end.
+    "ftruncate": "i32 (i32, i64)",
+    "fchmod": "i32 (i32, i32)",
+    "fdatasync": "i32 (i32)",
+    "flock": "i32 (i32, i32)",
     "rattle_env_at": "i64 (i64, ptr, i64)",
     "malloc": "ptr (i64)",
     "free": "void (ptr)",
