@@ -1,12 +1,15 @@
 -- The frames of a line's references.
-use Rattle.std.specs.Prelude.{ℕ, ◌-◌, List, [], ◌∷◌, ◌++◌, map, ◌==◌, ◌||◌, ◌&&◌, not, Bool, false, if◌then◌else◌, Option, Some, None}
-use Rattle.tool_stacks.specs.Answers.{Answers}
+use Rattle.std.specs.Prelude.{◌≡◌, ℕ, OnOk, Result, ◌-◌, List, [], ◌∷◌, ◌++◌, map, ◌==◌, ◌||◌, ◌&&◌, not, Bool, false, if◌then◌else◌, Option, Some, None}
+use Rattle.pdb_stacks.specs.declared.line_code.LineCode.{LineCode}
+use Rattle.pdb_stacks.specs.declared.references.Reference.{Reference}
+use Rattle.tool_stacks.specs.Answers.{Answers, Asked, Tells}
 use Rattle.tool_stacks.specs.LineAddresses.{relative_by}
-use Rattle.tool_stacks.specs.LineUses.{Use}
+use Rattle.tool_stacks.specs.LineUses.{Heard, Use, code_of, heard_of, listed_of, naming, returns_by, uses_by}
 use Rattle.tool_stacks.specs.Missing.{Missing, counted, missing_of}
 use Rattle.tool_stacks.specs.declared.address.LineAddress.{LineAddress}
 use Rattle.tool_stacks.specs.declared.asking.PdbAddress.{PdbAddress}
 use Rattle.tool_stacks.specs.declared.asking.Shown.{Shown}
+use Rattle.tool_stacks.specs.declared.line.Known.{Known}
 use Rattle.tool_stacks.specs.declared.symbols.FoundPdb.{FoundPdb}
 
 -- the frames so far, the last address that has some, and the modules without a PDB
@@ -58,3 +61,22 @@ asked a is_return u s = asked_by a is_return u (a.pdb_of u.name) s
 abbrev pub asked_all : Answers → Bool → List Use → Showing → Showing
 asked_all a is_return [] s = s
 asked_all a is_return (u ∷ us) s = asked_all a is_return us (asked a is_return u s)
+
+-- ---- of a line that is no heading
+
+abbrev pub code_shown : Answers → Bool → List ℕ → List Reference → Heard → LineCode → Showing → Showing
+code_shown a is_return line rs k c s = asked_all a (returns_by is_return c) (uses_by line rs k c) s
+
+abbrev pub known_shown : Answers → Bool → List ℕ → Known → LineCode → Showing → Showing
+known_shown a is_return line k c s = code_shown a is_return line k.references.items (heard_of k) c s
+
+abbrev pub shown_named : Answers → Bool → List ℕ → Heard → Showing → Showing
+shown_named a is_return line k s = code_shown a is_return line (listed_of line k) k (code_of line k) s
+
+abbrev pub line_shown : Answers → Bool → List ℕ → Heard → Showing → Showing
+line_shown a is_return line k s = shown_named a is_return line (naming line k) s
+
+-- ---- a call leaves the frames of these answers
+
+abbrev pub Shows : {X E : Type 0} → Asked → Asked → Result X E → Shown → Shown → (Answers → Showing → Showing) → Type 0
+Shows asked behind result old new showing = Tells asked behind (λ a. OnOk result (shown_of new ≡ showing a (shown_of old)))

@@ -82,6 +82,9 @@ range_use m n r = option_map (λ name. use_of name (InRange (n - r.start))) (sli
 abbrev pub address_use : Listed → ℕ → Option Use
 address_use m n = option_and_then (range_use m n) (range_of m.ranges n)
 
+abbrev pub address_uses : Listed → ℕ → List Use
+address_uses m n = option_to_list (address_use m n)
+
 -- what is known of modules by the lines so far
 pub record Heard : Type 0 where
   pub modules : Listed
@@ -95,7 +98,7 @@ heard_of k = record { modules = modules_of k.modules; failed = name_items k.fail
 abbrev pub uses_by : List ℕ → List Reference → Heard → LineCode → List Use
 uses_by line rs k (Fault n) = fault_uses line k.failed n
 uses_by line rs k References = map (reference_use line) rs
-uses_by line rs k (Address n) = option_to_list (address_use k.modules n.number)
+uses_by line rs k (Address n) = address_uses k.modules n.number
 uses_by line rs k Nothing = []
 
 abbrev pub kind_if : Option Use → LineUse
@@ -136,11 +139,14 @@ code_of line k = code_in line (is_some k.failed)
 abbrev pub listed_of : List ℕ → Heard → List Reference
 listed_of line k = listed_by line (fault_of line (is_some k.failed))
 
-abbrev pub line_uses : List ℕ → Heard → List Use
-line_uses line k = uses_by line (listed_of line k) k (code_of line k)
+abbrev pub kind_named : List ℕ → Heard → LineUse
+kind_named line k = kind_by k (code_of line k)
+
+abbrev pub heard_named : List ℕ → Heard → Heard
+heard_named line k = heard_by k (code_of line k)
 
 abbrev pub line_kind : List ℕ → Heard → LineUse
-line_kind line k = kind_by k (code_of line k)
+line_kind line k = kind_named line (naming line k)
 
 abbrev pub line_heard : List ℕ → Heard → Heard
-line_heard line k = heard_by k (code_of line k)
+line_heard line k = heard_named line (naming line k)

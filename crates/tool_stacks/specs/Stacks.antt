@@ -11,8 +11,8 @@ use Rattle.pdb_stacks.specs.declared.headings.Heading.TheVariants.{Unloaded, Mod
 use Rattle.pdb_stacks.specs.declared.module_lists.ListedModule.{ListedModule}
 use Rattle.tool_stacks.specs.Answers.{Answers}
 use Rattle.tool_stacks.specs.Beginnings.{blanked, has_mark}
-use Rattle.tool_stacks.specs.Frames.{Showing, asked_all}
-use Rattle.tool_stacks.specs.LineUses.{Heard, code_of, heard_of, line_heard, line_kind, line_uses, naming, returns_by, with_module}
+use Rattle.tool_stacks.specs.Frames.{Showing, line_shown}
+use Rattle.tool_stacks.specs.LineUses.{Heard, heard_of, line_heard, line_kind, with_module}
 use Rattle.tool_stacks.specs.Missing.{Missing, missing_of}
 use Rattle.tool_stacks.specs.declared.line.LineUse.{LineUse}
 use Rattle.tool_stacks.specs.declared.line.LineUse.TheVariants.{Nothing, Fault, References}
@@ -24,7 +24,7 @@ abbrev pub kind_under : Heading → List ℕ → Heard → LineUse
 kind_under Unloaded line k = Nothing
 kind_under (Module m) line k = Nothing
 kind_under Inline line k = Nothing
-kind_under Other line k = line_kind line (naming line k)
+kind_under Other line k = line_kind line k
 
 -- a listed module counts, unless the list of unloaded ones runs
 abbrev pub listing : Bool → List ℕ → ListedModule → Heard → Heard
@@ -34,16 +34,13 @@ abbrev pub heard_under : Heading → Bool → List ℕ → Heard → Heard
 heard_under Unloaded runs line k = k
 heard_under (Module m) runs line k = listing runs line m k
 heard_under Inline runs line k = k
-heard_under Other runs line k = line_heard line (naming line k)
-
-abbrev pub line_shown : Answers → Bool → List ℕ → Heard → Showing → Showing
-line_shown a is_return line k s = asked_all a (returns_by is_return (code_of line k)) (line_uses line k) s
+heard_under Other runs line k = line_heard line k
 
 abbrev pub shown_under : Heading → Answers → Bool → List ℕ → Heard → Showing → Showing
 shown_under Unloaded a is_return line k s = s
 shown_under (Module m) a is_return line k s = s
 shown_under Inline a is_return line k s = s
-shown_under Other a is_return line k s = line_shown a is_return line (naming line k) s
+shown_under Other a is_return line k s = line_shown a is_return line k s
 
 -- ---- line by line
 
@@ -126,8 +123,9 @@ read_line a r line = read_after a r (searched r line)
 abbrev pub frames_in : Answers → Reading → List ℕ → List ℕ
 frames_in a r line = (shown_in a r (searched r line)).frames
 
-abbrev pub put_text : Answers → Reading → List ℕ → Bool → List ℕ
-put_text a r line ended = line_text line ended (frames_in a r line)
+-- those of the line that was read last
+abbrev pub last_frames : StackText → List ℕ
+last_frames t = t.shown.frames.items
 
 -- before the first line
 abbrev pub begun : ReturnAddresses → Reading

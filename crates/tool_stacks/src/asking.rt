@@ -1,8 +1,8 @@
 //! The frames of a line's references.
 
-ghost use Rattle.std.specs.Prelude.{◌≡◌, IfOk, OnOk, map};
+ghost use Rattle.std.specs.Prelude.{◌≡◌, IfOk, map};
 ghost use Rattle.tool_stacks.specs.Answers.{Continues, Tells};
-ghost use Rattle.tool_stacks.specs.Frames.{asked, asked_all, asked_found, call_of, is_last, shown_at, shown_of};
+ghost use Rattle.tool_stacks.specs.Frames.{Shows, asked, asked_all, asked_found, call_of, is_last, shown_at};
 ghost use Rattle.tool_stacks.specs.LineUses.{address_of, reference_use, use_of};
 
 use crate::address::{LineAddress, relative_by};
@@ -61,7 +61,7 @@ fn is_last(last: Option<PdbAddress>, at: PdbAddress) -> bool
 /// Appends the frames of an address, if it has some, and isn't the last one.
 fn show<S: Symbols>(shown: &mut Shown, symbols: &mut S, at: PdbAddress) -> Result<(), AllocError>
     ensures continues { Continues (S.state symbols.old) (S.state symbols.new) }
-    ensures shows { Tells (S.state symbols.old) (S.state symbols.new) (λ a. OnOk result (shown_of shown.new ≡ shown_at a at (shown_of shown.old))) }
+    ensures shows { Shows (S.state symbols.old) (S.state symbols.new) result shown.old shown.new (λ a. shown_at a at) }
 {
     if is_last(shown.last, at) {
         return Ok(());
@@ -81,7 +81,7 @@ fn ask_found<S: Symbols>(
     is_return: bool,
 ) -> Result<(), AllocError>
     ensures continues { Continues (S.state symbols.old) (S.state symbols.new) }
-    ensures shows { Tells (S.state symbols.old) (S.state symbols.new) (λ a. OnOk result (shown_of shown.new ≡ asked_found a is_return address found (shown_of shown.old))) }
+    ensures shows { Shows (S.state symbols.old) (S.state symbols.new) result shown.old shown.new (λ a. asked_found a is_return address found) }
 {
     let Some(address) = relative_by(found.module, address) else {
         return Ok(());
@@ -103,7 +103,7 @@ pub(crate) fn ask<S: Symbols>(
     is_return: bool,
 ) -> Result<(), AllocError>
     ensures continues { Continues (S.state symbols.old) (S.state symbols.new) }
-    ensures shows { Tells (S.state symbols.old) (S.state symbols.new) (λ a. OnOk result (shown_of shown.new ≡ asked a is_return (use_of name.now address) (shown_of shown.old))) }
+    ensures shows { Shows (S.state symbols.old) (S.state symbols.new) result shown.old shown.new (λ a. asked a is_return (use_of name.now address)) }
 {
     match symbols.pdb_of(name)? {
         Some(found) => ask_found(shown, symbols, found, address, is_return),
@@ -133,7 +133,7 @@ pub(crate) fn ask_all<S: Symbols>(
     is_return: bool,
 ) -> Result<(), AllocError>
     ensures continues { Continues (S.state symbols.old) (S.state symbols.new) }
-    ensures shows { Tells (S.state symbols.old) (S.state symbols.new) (λ a. OnOk result (shown_of shown.new ≡ asked_all a is_return (map (reference_use line.now) references.now) (shown_of shown.old))) }
+    ensures shows { Shows (S.state symbols.old) (S.state symbols.new) result shown.old shown.new (λ a. asked_all a is_return (map (reference_use line.now) references.now)) }
 {
     for reference in references {
         let address = address_of(*reference);

@@ -1,10 +1,9 @@
 //! What lines say of the lines behind them, and the frames of a line.
 
-ghost use Rattle.std.specs.Prelude.{◌≡◌, IfOk, OnOk, None, false, option_to_list};
-ghost use Rattle.tool_stacks.specs.Answers.{Continues, Tells};
-ghost use Rattle.tool_stacks.specs.Frames.{asked_all, shown_of};
-ghost use Rattle.tool_stacks.specs.Stacks.{line_shown};
-ghost use Rattle.tool_stacks.specs.LineUses.{address_use, failed_after, fault_address, fault_uses, heard_by, heard_of, is_closed_at, kind_by, kind_if, line_heard, line_kind, modules_of, name_items, naming, uses_by, returns_by, with_module};
+ghost use Rattle.std.specs.Prelude.{◌≡◌, IfOk, OnOk, None, false};
+ghost use Rattle.tool_stacks.specs.Answers.{Continues};
+ghost use Rattle.tool_stacks.specs.Frames.{Shows, asked_all, known_shown, line_shown};
+ghost use Rattle.tool_stacks.specs.LineUses.{address_use, address_uses, failed_after, fault_address, fault_uses, heard_by, heard_of, is_closed_at, kind_by, kind_if, line_heard, line_kind, modules_of, name_items, with_module};
 
 use crate::address::LineAddress;
 use crate::asking::{Shown, ask, ask_all};
@@ -112,7 +111,7 @@ fn ask_fault<S: Symbols>(
 ) -> Result<(), AllocError>
     ensures continues { Continues (S.state symbols.old) (S.state symbols.new) }
     ensures used { OnOk result (failed.new ≡ None) }
-    ensures shows { Tells (S.state symbols.old) (S.state symbols.new) (λ a. OnOk result (shown_of shown.new ≡ asked_all a false (fault_uses line.now (name_items failed.old) offset) (shown_of shown.old))) }
+    ensures shows { Shows (S.state symbols.old) (S.state symbols.new) result shown.old shown.new (λ a. asked_all a false (fault_uses line.now (name_items failed.old) offset)) }
 {
     match failed.take() {
         Some(name) => ask(shown, symbols, &name, fault_address(line, offset), false),
@@ -130,7 +129,7 @@ fn ask_address<S: Symbols>(
 ) -> Result<LineUse, AllocError>
     ensures continues { Continues (S.state symbols.old) (S.state symbols.new) }
     ensures kind { IfOk result (λ kind. kind ≡ kind_if (address_use (modules_of modules.now) number)) }
-    ensures shows { Tells (S.state symbols.old) (S.state symbols.new) (λ a. OnOk result (shown_of shown.new ≡ asked_all a is_return (option_to_list (address_use (modules_of modules.now) number)) (shown_of shown.old))) }
+    ensures shows { Shows (S.state symbols.old) (S.state symbols.new) result shown.old shown.new (λ a. asked_all a is_return (address_uses (modules_of modules.now) number)) }
 {
     let Some(range) = range_of(&modules.ranges, number) else {
         return Ok(LineUse::Nothing);
@@ -155,7 +154,7 @@ fn ask_code<S: Symbols>(
     ensures continues { Continues (S.state symbols.old) (S.state symbols.new) }
     ensures kind { IfOk result (λ kind. kind ≡ kind_by (heard_of known.old) code) }
     ensures heard { OnOk result (heard_of known.new ≡ heard_by (heard_of known.old) code) }
-    ensures shows { Tells (S.state symbols.old) (S.state symbols.new) (λ a. OnOk result (shown_of shown.new ≡ asked_all a (returns_by is_return code) (uses_by line.now known.old.references.items (heard_of known.old) code) (shown_of shown.old))) }
+    ensures shows { Shows (S.state symbols.old) (S.state symbols.new) result shown.old shown.new (λ a. known_shown a is_return line.now known.old code) }
 {
     match code {
         LineCode::Fault(offset) => {
@@ -182,9 +181,9 @@ pub(crate) fn ask_line<S: Symbols>(
     is_return: bool,
 ) -> Result<LineUse, AllocError>
     ensures continues { Continues (S.state symbols.old) (S.state symbols.new) }
-    ensures kind { IfOk result (λ kind. kind ≡ line_kind line.now (naming line.now (heard_of known.old))) }
-    ensures heard { OnOk result (heard_of known.new ≡ line_heard line.now (naming line.now (heard_of known.old))) }
-    ensures shows { Tells (S.state symbols.old) (S.state symbols.new) (λ a. OnOk result (shown_of shown.new ≡ line_shown a is_return line.now (naming line.now (heard_of known.old)) (shown_of shown.old))) }
+    ensures kind { IfOk result (λ kind. kind ≡ line_kind line.now (heard_of known.old)) }
+    ensures heard { OnOk result (heard_of known.new ≡ line_heard line.now (heard_of known.old)) }
+    ensures shows { Shows (S.state symbols.old) (S.state symbols.new) result shown.old shown.new (λ a. line_shown a is_return line.now (heard_of known.old)) }
 {
     note_failed(*shown.frames.allocator(), &mut known.failed, line)?;
     let code = put_line_code(&mut known.references, line, known.failed.is_some())?;

@@ -1,12 +1,11 @@
 //! A crash text that is read line by line.
 
-ghost use Rattle.std.specs.Prelude.{◌≡◌, ◌++◌, ◌||◌, not, false, [], IfOk, OnOk, None};
-ghost use Rattle.std.specs.Prelude.{map};
+ghost use Rattle.std.specs.Prelude.{◌≡◌, ◌++◌, ◌||◌, IfOk, OnOk, map, not};
 ghost use Rattle.tool_stacks.specs.Answers.{Continues, Tells};
-ghost use Rattle.tool_stacks.specs.Frames.{shown_of};
+ghost use Rattle.tool_stacks.specs.Frames.{Shows, shown_of};
 ghost use Rattle.tool_stacks.specs.LineUses.{heard_of};
 ghost use Rattle.tool_stacks.specs.Missing.{missing_of};
-ghost use Rattle.tool_stacks.specs.Stacks.{begun, frames_in, fresh, has_references, heard_under, is_some_use, kind_under, line_text, listing, put_text, read_after, read_line, reading_of, shown_in, shown_under, with_range_of};
+ghost use Rattle.tool_stacks.specs.Stacks.{begun, frames_in, fresh, has_references, heard_under, is_some_use, kind_under, last_frames, line_text, listing, read_after, read_line, reading_of, shown_in, shown_under, with_range_of};
 
 use crate::asking::Shown;
 use crate::begin::{blanked, has_mark};
@@ -92,7 +91,8 @@ impl StackText {
         is_ended: bool,
     ) -> Result<(), AllocError>
         ensures continues { Continues (S.state symbols.old) (S.state symbols.new) }
-        ensures text { Tells (S.state symbols.old) (S.state symbols.new) (λ a. OnOk result (out.new.items ≡ out.old.items ++ put_text a (reading_of self.old) line.now is_ended)) }
+        ensures line { OnOk result (out.new.items ≡ out.old.items ++ line_text line.now is_ended (last_frames self.new)) }
+        ensures frames { Tells (S.state symbols.old) (S.state symbols.new) (λ a. OnOk result (last_frames self.new ≡ frames_in a (reading_of self.old) line.now)) }
         ensures reading { Tells (S.state symbols.old) (S.state symbols.new) (λ a. OnOk result (reading_of self.new ≡ read_line a (reading_of self.old) line.now)) }
     {
         read_first(self, symbols, line)?;
@@ -118,7 +118,7 @@ fn read_first<S: Symbols>(
     line: &[u8],
 ) -> Result<(), AllocError>
     ensures continues { Continues (S.state symbols.old) (S.state symbols.new) }
-    ensures frames { Tells (S.state symbols.old) (S.state symbols.new) (λ a. OnOk result (text.new.shown.frames.items ≡ frames_in a (reading_of text.old) line.now)) }
+    ensures frames { Tells (S.state symbols.old) (S.state symbols.new) (λ a. OnOk result (last_frames text.new ≡ frames_in a (reading_of text.old) line.now)) }
     ensures reading { Tells (S.state symbols.old) (S.state symbols.new) (λ a. OnOk result (reading_of text.new ≡ read_line a (reading_of text.old) line.now)) }
 {
     if text.is_begun || !has_mark(line) {
@@ -163,7 +163,7 @@ fn read_line<S: Symbols>(
     line: &[u8],
 ) -> Result<(), AllocError>
     ensures continues { Continues (S.state symbols.old) (S.state symbols.new) }
-    ensures frames { Tells (S.state symbols.old) (S.state symbols.new) (λ a. OnOk result (text.new.shown.frames.items ≡ (shown_in a (reading_of text.old) line.now).frames)) }
+    ensures frames { Tells (S.state symbols.old) (S.state symbols.new) (λ a. OnOk result (last_frames text.new ≡ (shown_in a (reading_of text.old) line.now).frames)) }
     ensures reading { Tells (S.state symbols.old) (S.state symbols.new) (λ a. OnOk result (reading_of text.new ≡ read_after a (reading_of text.old) line.now)) }
 {
     forget(&mut text.shown);
@@ -201,7 +201,7 @@ fn read_heading<S: Symbols>(
     ensures continues { Continues (S.state symbols.old) (S.state symbols.new) }
     ensures kind { IfOk result (λ kind. kind ≡ kind_under heading line.now (heard_of known.old)) }
     ensures heard { OnOk result (heard_of known.new ≡ heard_under heading lists_unloaded line.now (heard_of known.old)) }
-    ensures shows { Tells (S.state symbols.old) (S.state symbols.new) (λ a. OnOk result (shown_of shown.new ≡ shown_under heading a is_return line.now (heard_of known.old) (shown_of shown.old))) }
+    ensures shows { Shows (S.state symbols.old) (S.state symbols.new) result shown.old shown.new (λ a. shown_under heading a is_return line.now (heard_of known.old)) }
 {
     match heading {
         Heading::Unloaded | Heading::Inline => Ok(LineUse::Nothing),
