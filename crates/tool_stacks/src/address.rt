@@ -1,7 +1,7 @@
 //! The relative addresses that lines give.
 
 ghost use Rattle.std.specs.Prelude.{◌≡◌};
-ghost use Rattle.tool_stacks.specs.LineAddresses.{in_range, relative_by, relative_to};
+ghost use Rattle.tool_stacks.specs.LineAddresses.{relative_by, relative_to};
 
 use pdb_stacks::{relative_in_image, relative_of_pdb};
 

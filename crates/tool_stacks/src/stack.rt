@@ -82,7 +82,7 @@ impl StackText {
     }
 
     /// Appends a line as it stands, and the frames of its references. The line is without its end; `is_ended` says whether
-    /// it has one.
+    /// it has one, and a last line without an end gets one if frames follow. Where memory runs out the text isn't read on.
     pub fn put_line<S: Symbols>(
         &mut self,
         out: &mut Vec<u8>,

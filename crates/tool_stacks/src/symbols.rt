@@ -12,11 +12,11 @@ pub struct FoundPdb {
     pub module: KnownModule,
 }
 
-/// What the program knows of modules and of their PDBs. An answer that was given stays. An implementation whose read fails is
-/// told no more.
+/// What the program knows of modules and of their PDBs. An answer that was given stays. It is told as long as contracts know
+/// all that it answered: one whose read of a file fails is told no more, keeps the reason, and its owner stops.
 pub trait Symbols {
     ghost use Rattle.std.specs.Prelude.{◌≡◌, [], ◌++◌, IfOk, OnOk, is_some, unwrap_or};
-    ghost use Rattle.tool_stacks.specs.Answers.{Answers, Asked, Continues, Tells};
+    ghost use Rattle.tool_stacks.specs.Answers.{Asked, Continues, Tells};
 
     // What it answers, and whether it is told: else contracts say nothing.
     ghost state: { Self → Asked };

@@ -2,5 +2,6 @@
 
 mod addresses;
 mod fakes;
+mod hostile;
 mod missing;
 mod stacks;

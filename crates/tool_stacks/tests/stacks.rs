@@ -10,6 +10,9 @@ const CLAMP: &[u8] =
 
 const NESTED: &[u8] = b"    nested /tour/main.cpp:63:20\n";
 
+const UNROLL: &[u8] =
+    b"    unroll<3>::run /tour/main.cpp:48:0 (inlined)\n    unroll<4>::run /tour/main.cpp:48:0 (inlined)\n    nested /tour/main.cpp:62:13\n";
+
 /// A program that has one PDB.
 fn program<'a>(name: &'a [u8], frames: &'a [(u32, &'a [u8])]) -> Fake<'a> {
     Fake {
@@ -52,10 +55,10 @@ Faulting module name: cpp-lld.exe, version: 1.0.0.0, time stamp: 0x65a50521\n\
 Fault offset: 0x0000000000001108\n    \
 tour::clamp /tour/./tour.h:12:0 (inlined)\n    nested /tour/main.cpp:63:23\n\
 cpp-lld          0x00007ff61c2a0000 + 10c6 \n    \
-nested /tour/main.cpp:63:20\n";
+unroll<3>::run /tour/main.cpp:48:0 (inlined)\n    unroll<4>::run /tour/main.cpp:48:0 (inlined)\n    nested /tour/main.cpp:62:13\n";
     let frames: &[(u32, &[u8])] = &[
         (0x1108, CLAMP),
-        (0x10c6, NESTED),
+        (0x10c6, UNROLL),
         (0x10c5, NESTED),
         (0x10c4, NESTED),
     ];
@@ -98,13 +101,13 @@ eax=00e51080 ebx=00000000\n";
 
 #[test]
 fn last_lines_get_an_end(rt: HostRuntime) -> Result<(), Fail> {
-    let frames: &[(u32, &[u8])] = &[(0x1108, CLAMP), (0x10c6, NESTED)];
+    let frames: &[(u32, &[u8])] = &[(0x1108, CLAMP), (0x10c6, UNROLL)];
     let fake = program(b"app", frames);
     let text = b"\xef\xbb\xbf app+0x1108 app+0x1108 app+0x10c6 app+0x1 app+0x10c6";
     let out = written(rt.alloc(), text, ReturnAddresses::Never, fake)?;
     let wanted: &[u8] = b"\xef\xbb\xbf app+0x1108 app+0x1108 app+0x10c6 app+0x1 app+0x10c6\n    \
 tour::clamp /tour/./tour.h:12:0 (inlined)\n    nested /tour/main.cpp:63:23\n    \
-nested /tour/main.cpp:63:20\n";
+unroll<3>::run /tour/main.cpp:48:0 (inlined)\n    unroll<4>::run /tour/main.cpp:48:0 (inlined)\n    nested /tour/main.cpp:62:13\n";
     is(&rt, "text", &out.as_slice(), &wanted);
     Ok(())
 }
